@@ -1,0 +1,5 @@
+pub mod Digits
+pub mod Numbers
+pub mod Tokens
+pub mod Words
+pub mod Reading

@@ -1,0 +1,8 @@
+use Rattle.std.proofs.Common.{◌≡◌, ◌+◌, drop}
+use Rattle.std.specs.List.{position_or_len}
+use Rattle.text_scan.specs.Tokens.{is_blank}
+use Rattle.text_scan.proofs.runs.token_end.Given as goal
+
+-- the run from the start goes on as from here
+abbrev pub invariant-loop-i : goal.invariant-loop-i
+invariant-loop-i l = l.at + position_or_len is_blank (drop l.at l.bytes) ≡ l.i + position_or_len is_blank (drop l.i l.bytes)

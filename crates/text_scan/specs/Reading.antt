@@ -1,0 +1,59 @@
+-- How far a text has been read.
+use Rattle.std.specs.Prelude.{ℕ, Bool, ◌+◌, ◌==◌, List, length, drop, if◌then◌else◌, Option, None, Some, slice_get, false, ℤ, Result}
+use Rattle.std.specs.List.{prefix_len}
+use Rattle.text_scan.specs.Tokens.{is_blank, Token, tokens_from, first_end}
+use Rattle.text_scan.specs.Numbers.{number_front, is_number, front_number}
+use Rattle.text_scan.specs.declared.number_fault.NumberFault.{NumberFault}
+
+-- it is there, and it is b
+abbrev pub is_some_of : ℕ → Option ℕ → Bool
+is_some_of b None = false
+is_some_of b (Some x) = x == b
+
+-- a text, and the place of its next byte to read
+pub record Reading : Type 0 where
+  pub text : List ℕ
+  pub place : ℕ
+
+-- the bytes that are left
+abbrev pub left : Reading → List ℕ
+left r = drop r.place r.text
+
+-- the tokens that are left
+abbrev pub tokens_left : Reading → List Token
+tokens_left r = tokens_from r.place (left r)
+
+-- after n more bytes
+abbrev pub past : ℕ → Reading → Reading
+past n r = record { text = r.text; place = r.place + n }
+
+-- after the blanks that come next
+abbrev pub past_blanks : Reading → Reading
+past_blanks r = past (prefix_len is_blank (left r)) r
+
+-- the first byte that is left and is no blank
+abbrev pub next_byte : Reading → Option ℕ
+next_byte r = slice_get (left (past_blanks r)) 0
+
+-- that byte is b
+abbrev pub is_next : ℕ → Reading → Bool
+is_next b r = is_some_of b (next_byte r)
+
+-- after the first token; at the end of the text where none is left
+abbrev pub past_token : Reading → Reading
+past_token r = record { text = r.text; place = first_end (length r.text) (tokens_left r) }
+
+-- the number that comes next after blanks, or why none does
+abbrev pub next_number : ℤ → ℤ → Reading → Result ℤ NumberFault
+next_number lo hi r = front_number lo hi (length r.text) (past_blanks r).place (left (past_blanks r))
+
+-- after the blanks, and after the number that is next; after the blanks alone where none is next
+abbrev pub past_number : Reading → Reading
+past_number r =
+    let next = past_blanks r in
+    let front = number_front (left next) in
+    if is_number front then past (length front) next else next
+
+-- after the blanks, and after the byte b where it is next
+abbrev pub past_byte : ℕ → Reading → Reading
+past_byte b r = if is_next b r then past 1 (past_blanks r) else past_blanks r
