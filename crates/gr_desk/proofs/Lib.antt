@@ -1,0 +1,4 @@
+pub mod Runs
+pub mod Silent
+pub mod Marks
+pub mod Quiet

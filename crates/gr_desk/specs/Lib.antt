@@ -1,0 +1,10 @@
+pub mod Ports
+pub mod Causes
+pub mod Told
+pub mod Calls
+pub mod Runs
+pub mod Untold
+pub mod Files
+pub mod Slot
+pub mod Memory
+pub mod NeverFails

@@ -1,0 +1,302 @@
+// A desk in memory.
+ghost use Rattle.std.specs.Prelude.{◌≡◌, ◌≢◌, ◌≤◌, ◌<◌, ◌+◌, ◌-◌, ◌^◌, ◌↔◌, ◌||◌, not, min, length, replicate, true, false, IsTrue, is_none, is_err, IsErr, OnOk, IfOk, IfSome, string_bytes, option_map, find, ◌==◌, if◌then◌else◌};
+ghost use Rattle.gr_desk.specs.Ports.{number};
+ghost use Rattle.std.specs.Io.{ReadsAtMost, WritesAtMost};
+ghost use Rattle.gr_desk.specs.Calls.{Opens, Creates, Reads, Writes, IsOrderlyOpen, IsOrderlyCreate, IsOrderlyRead, IsOrderlyWrite};
+ghost use Rattle.gr_desk.specs.Causes.{Rose};
+ghost use Rattle.gr_desk.specs.Files.{position_of, bytes_under};
+ghost use Rattle.gr_desk.specs.Memory.{told_of, is_listed, expected_of, untouched, Counts, starved_after};
+
+use crate::desk::Desk;
+use crate::fail::{CallKind, Fail};
+use crate::failed::Failed;
+use crate::port::Port;
+use crate::reading::find_file;
+use crate::slot::Slot;
+use crate::state::State;
+use std::alloc::Global;
+
+/// The calls of one kind at one port are counted up to this number, which no `Fail` names.
+const CALLS_COUNTED: u64 = 1 << 32;
+
+/// A desk over named bytes in memory, which tells all that it does.
+///
+/// Its calls fail where they are listed, where an `open` names no file, and where a `create` or a `write` finds no
+/// memory; no other call does.
+#[derive(Drop)]
+pub struct MemDesk {
+    alloc: Global,
+    files: Vec<(String, Vec<u8>)>,
+    failing: Vec<Fail>,
+    names: Vec<(Port, String)>,
+    slots: [Slot; 7],
+    calls: [u64; 28],
+    strayed: bool,
+    in_faults: u64,
+    out_faults: u64,
+    starved: u64,
+}
+
+impl MemDesk {
+    /// A desk over these files, of which the listed calls fail. It expects no name.
+    pub fn new(alloc: Global, files: Vec<(String, Vec<u8>)>, failing: Vec<Fail>) -> MemDesk
+        ensures files { (told_of result).files ≡ bytes_under files.items }
+        ensures ports { (p : Port) → (told_of result).ports p ≡ untouched None }
+        ensures strayed { (told_of result).strayed ≡ Some false }
+        ensures in_faults { (told_of result).in_faults ≡ 0 }
+        ensures out_faults { (told_of result).out_faults ≡ 0 }
+        ensures failing { result.failing ≡ failing }
+        ensures calls { result.calls ≡ replicate 28 0 }
+        ensures starved { result.starved ≡ 0 }
+    {
+        MemDesk::expecting(alloc, files, failing, Vec::new(alloc))
+    }
+
+    /// The same desk, which expects at each port the name in the first pair for it.
+    pub fn expecting(
+        alloc: Global,
+        files: Vec<(String, Vec<u8>)>,
+        failing: Vec<Fail>,
+        names: Vec<(Port, String)>,
+    ) -> MemDesk
+        ensures files { (told_of result).files ≡ bytes_under files.items }
+        ensures ports { (p : Port) → (told_of result).ports p ≡ untouched (expected_of names.items p) }
+        ensures strayed { (told_of result).strayed ≡ Some false }
+        ensures in_faults { (told_of result).in_faults ≡ 0 }
+        ensures out_faults { (told_of result).out_faults ≡ 0 }
+        ensures failing { result.failing ≡ failing }
+        ensures calls { result.calls ≡ replicate 28 0 }
+        ensures starved { result.starved ≡ 0 }
+    {
+        MemDesk {
+            alloc,
+            files,
+            failing,
+            names,
+            slots: [
+                Slot::fresh(alloc),
+                Slot::fresh(alloc),
+                Slot::fresh(alloc),
+                Slot::fresh(alloc),
+                Slot::fresh(alloc),
+                Slot::fresh(alloc),
+                Slot::fresh(alloc),
+            ],
+            calls: [0; 28],
+            strayed: false,
+            in_faults: 0,
+            out_faults: 0,
+            starved: 0,
+        }
+    }
+
+    /// The bytes written at a port since its last `create`.
+    pub fn written(&self, port: Port) -> &[u8]
+        ensures { ((told_of self.now).ports port).written ≡ Some result.now }
+    {
+        self.slots[port.number()].written.as_slice()
+    }
+
+    /// How many calls failed for want of memory.
+    pub fn starved(&self) -> u64
+        ensures { result ≡ self.now.starved }
+    {
+        self.starved
+    }
+
+    /// Whether some call came out of order.
+    pub fn strayed(&self) -> bool
+        ensures { (told_of self.now).strayed ≡ Some result }
+    {
+        self.strayed
+    }
+
+    // Counts a call; whether it is listed as failing.
+    fn count(&mut self, port: Port, kind: CallKind) -> bool
+        ensures listed { result ≡ is_listed self.old port kind }
+        ensures counted { self.new ≡ record self.old { calls = self.new.calls } }
+        ensures calls { Counts self.old self.new port kind }
+    {
+        let listed = self.is_listed(port, kind);
+        let place = port.number() * 4 + kind.number();
+        self.calls[place] = self.calls[place].saturating_add(1).min(CALLS_COUNTED);
+        listed
+    }
+
+    fn is_listed(&self, port: Port, kind: CallKind) -> bool
+        ensures { result ≡ is_listed self.now port kind }
+    {
+        let nth = self.calls[port.number() * 4 + kind.number()];
+        self.failing.iter().any(|f| {
+            f.port.number() == port.number()
+                && f.call.number() == kind.number()
+                && f.nth as u64 == nth
+        })
+    }
+
+    fn pair_for(&self, port: Port) -> Option<&(Port, String)>
+        ensures { option_map (λ p. p.now) result ≡ find (λ n. number n.0 == number port) self.now.names.items }
+    {
+        self.names.iter().find(|n| n.0.number() == port.number())
+    }
+
+    fn expects(&self, port: Port, name: &str) -> bool
+        ensures { IsTrue result ↔ (expected_of self.now.names.items port ≡ Some name.now) }
+    {
+        match self.pair_for(port) {
+            None => false,
+            Some(n) => n.1.as_str() == name,
+        }
+    }
+
+    fn is_in(&self, port: Port, state: State) -> bool
+        ensures { IsTrue result ↔ (((told_of self.now).ports port).state ≡ Some state) }
+    {
+        self.slots[port.number()].state == state
+    }
+
+    fn opens_in_order(&self, port: Port, name: &str) -> bool
+        ensures { IsTrue result ↔ IsOrderlyOpen (told_of self.now) port name.now }
+    {
+        port.is_input() && self.is_in(port, State::Fresh) && self.expects(port, name)
+    }
+
+    fn creates_in_order(&self, port: Port, name: &str) -> bool
+        ensures { IsTrue result ↔ IsOrderlyCreate (told_of self.now) port name.now }
+    {
+        port.is_output() && self.is_in(port, State::Fresh) && self.expects(port, name)
+    }
+
+    fn reads_in_order(&self, port: Port) -> bool
+        ensures { IsTrue result ↔ IsOrderlyRead (told_of self.now) port }
+    {
+        port.is_input() && self.is_in(port, State::Ready)
+    }
+
+    fn writes_in_order(&self, port: Port) -> bool
+        ensures { IsTrue result ↔ IsOrderlyWrite (told_of self.now) port }
+    {
+        matches!(port, Port::Report) || (port.is_output() && self.is_in(port, State::Ready))
+    }
+
+    fn mark(&mut self, orderly: bool)
+        ensures { self.new ≡ record self.old { strayed = self.old.strayed || not orderly } }
+    {
+        self.strayed = self.strayed || !orderly;
+    }
+
+    // The file of that name, where the call is not listed as failing.
+    fn file_unless(&self, listed: bool, name: &str) -> Option<usize>
+        ensures { result ≡ (if listed then None else position_of self.now.files.items name.now) }
+    {
+        if listed {
+            return None;
+        }
+        find_file(&self.files, name)
+    }
+
+    // A copy of the name, where the call is not listed as failing and there is memory.
+    fn copy_unless(&self, listed: bool, name: &str) -> Option<String>
+        ensures copy { IfSome result (λ n. string_bytes n ≡ name.now) }
+        ensures listed { IsTrue listed → result ≡ None }
+    {
+        if listed {
+            return None;
+        }
+        String::from_str(self.alloc, name).ok()
+    }
+
+    fn in_fault(&mut self) -> Failed
+        ensures kept { self.new ≡ record self.old { in_faults = self.new.in_faults } }
+        ensures later { self.old.in_faults ≤ self.new.in_faults }
+        ensures rose { Rose self.old.in_faults self.new.in_faults }
+    {
+        self.in_faults = self.in_faults.saturating_add(1);
+        Failed
+    }
+
+    // A create or a write failed, and for want of memory where it starves.
+    fn out_fault(&mut self, starves: bool) -> Failed
+        ensures kept { self.new ≡ record self.old { out_faults = self.new.out_faults; starved = self.new.starved } }
+        ensures later { self.old.out_faults ≤ self.new.out_faults }
+        ensures rose { Rose self.old.out_faults self.new.out_faults }
+        ensures starved { self.new.starved ≡ (if starves then min (self.old.starved + 1) (2 ^ 64 - 1) else self.old.starved) }
+    {
+        self.out_faults = self.out_faults.saturating_add(1);
+        if starves {
+            self.starved = self.starved.saturating_add(1);
+        }
+        Failed
+    }
+}
+
+impl Desk for MemDesk {
+    ghost told = { told_of };
+
+    fn open(&mut self, port: Port, name: &str) -> Result<(), Failed>
+        ensures does { Opens (told_of self.old) (told_of self.new) port name.now result }
+        ensures exact { is_err result ≡ (is_listed self.old port CallKind.Open || is_none (bytes_under self.old.files.items name.now)) }
+        ensures counted { Counts self.old self.new port CallKind.Open }
+        ensures starved { self.new.starved ≡ self.old.starved }
+    {
+        let orderly = self.opens_in_order(port, name);
+        self.mark(orderly);
+        let listed = self.count(port, CallKind::Open);
+        let file = self.file_unless(listed, name);
+        if self.slots[port.number()].open(file) {
+            return Ok(());
+        }
+        Err(self.in_fault())
+    }
+
+    fn create(&mut self, port: Port, name: &str) -> Result<(), Failed>
+        ensures does { Creates (told_of self.old) (told_of self.new) port name.now result }
+        ensures listed { IsTrue (is_listed self.old port CallKind.Create) → IsErr result }
+        ensures counted { Counts self.old self.new port CallKind.Create }
+        ensures starved { self.new.starved ≡ starved_after self.old port CallKind.Create (is_err result) }
+    {
+        let orderly = self.creates_in_order(port, name);
+        self.mark(orderly);
+        let listed = self.count(port, CallKind::Create);
+        let target = self.copy_unless(listed, name);
+        if self.slots[port.number()].create(target) {
+            return Ok(());
+        }
+        Err(self.out_fault(!listed))
+    }
+
+    fn read(&mut self, port: Port, buf: &mut [u8]) -> Result<usize, Failed>
+        ensures bound { ReadsAtMost result buf.new }
+        ensures does { Reads (told_of self.old) (told_of self.new) port result buf.new }
+        ensures exact { is_err result ≡ is_listed self.old port CallKind.Read }
+        ensures counted { Counts self.old self.new port CallKind.Read }
+        ensures starved { self.new.starved ≡ self.old.starved }
+    {
+        let orderly = self.reads_in_order(port);
+        self.mark(orderly);
+        if self.count(port, CallKind::Read) {
+            return Err(self.in_fault());
+        }
+        Ok(self.slots[port.number()].read(&self.files, buf))
+    }
+
+    fn write(&mut self, port: Port, bytes: &[u8]) -> Result<usize, Failed>
+        ensures bound { WritesAtMost result bytes.now }
+        ensures some { 0 < length bytes.now → OnOk result (result ≢ Ok 0) }
+        ensures does { Writes (told_of self.old) (told_of self.new) port result bytes.now }
+        ensures whole { IfOk result (λ n. n ≡ length bytes.now) }
+        ensures listed { IsTrue (is_listed self.old port CallKind.Write) → IsErr result }
+        ensures counted { Counts self.old self.new port CallKind.Write }
+        ensures starved { self.new.starved ≡ starved_after self.old port CallKind.Write (is_err result) }
+    {
+        let orderly = self.writes_in_order(port);
+        self.mark(orderly);
+        if self.count(port, CallKind::Write) {
+            return Err(self.out_fault(false));
+        }
+        if self.slots[port.number()].write(bytes) {
+            return Ok(bytes.len());
+        }
+        Err(self.out_fault(true))
+    }
+}

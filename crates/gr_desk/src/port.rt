@@ -1,0 +1,47 @@
+// The ports that bytes come from and go to.
+ghost use Rattle.std.specs.Prelude.{◌≡◌, ◌<◌};
+ghost use Rattle.gr_desk.specs.Ports.{is_input, is_output, number};
+
+/// One port of the program: what it reads, what it writes, and its report.
+#[derive(Clone, Copy, Debug, PartialEq, Eq)]
+pub enum Port {
+    In,
+    RoutesIn,
+    CertIn,
+    RoutesOut,
+    CertOut,
+    DesignOut,
+    Report,
+}
+
+impl Port {
+    /// Whether the program reads from this port.
+    pub fn is_input(self) -> bool
+        ensures { result ≡ is_input self }
+    {
+        matches!(self, Port::In | Port::RoutesIn | Port::CertIn)
+    }
+
+    /// Whether the program writes a file at this port. `Report` is neither input nor output.
+    pub fn is_output(self) -> bool
+        ensures { result ≡ is_output self }
+    {
+        matches!(self, Port::RoutesOut | Port::CertOut | Port::DesignOut)
+    }
+
+    /// The place of this port among the seven.
+    pub(crate) fn number(self) -> usize
+        ensures number { result ≡ number self }
+        ensures bound { result < 7 }
+    {
+        match self {
+            Port::In => 0,
+            Port::RoutesIn => 1,
+            Port::CertIn => 2,
+            Port::RoutesOut => 3,
+            Port::CertOut => 4,
+            Port::DesignOut => 5,
+            Port::Report => 6,
+        }
+    }
+}
