@@ -1,0 +1,113 @@
+-- Grounds by labels.
+use Rattle.std.proofs.Common.{◌≡◌, ℕ, zero, suc, ◌<◌, ◌⊎◌, List, [], ◌∷◌, ◌++◌, length, get_or, refl, sym, ◌∙◌, ap, subst, inl, inr, ⊎_elim, arith}
+use Rattle.std.proofs.lemmas.Option.{same_Some, slice_get_within, slice_get_read, slice_get-get_or, slice_get_cases, get_or_from_slice_get}
+use Rattle.grid_base.specs.declared.piece.Piece.{Piece}
+use Rattle.grid_base.specs.declared.piece.Piece.TheVariants.{Edge, Via}
+use Rattle.grid_base.specs.declared.size.Size.{Size}
+use Rattle.grid_base.specs.declared.vertex.Vertex.{Vertex}
+use Rattle.grid_base.specs.Numbers.{IsVertex}
+use Rattle.grid_base.specs.Walks.{Joins, InVertices}
+use Rattle.grid_base.proofs.Walks.{WalkBetween-superset}
+use Rattle.grid_graph.specs.declared.grid.Grid.{Grid}
+use Rattle.grid_graph.specs.declared.ground.Ground.{Ground}
+use Rattle.grid_graph.specs.declared.ground.Ground.TheVariants.{Open, WithChoked}
+use Rattle.grid_graph.specs.declared.ground_error.GroundError.{GroundError}
+use Rattle.grid_graph.specs.declared.ground_error.GroundError.TheVariants.{Unreachable, NoMemory}
+use Rattle.grid_graph.specs.declared.net_spec.NetSpec.{NetSpec}
+use Rattle.grid_graph.specs.Apart.{AreAlike, IsApart}
+use Rattle.grid_graph.specs.Grids.{Allows}
+use Rattle.grid_graph.specs.Grounds.{JoinsTerminals, IsGround, IsCutOff, IsCause, IsFirstCause}
+use Rattle.grid_graph.specs.Labels.{AreLabels}
+use Rattle.grid_graph.specs.Lists.{At}
+
+-- a member of a list stands at some place
+place_of_member : (terminals : List Vertex) (a : ℕ) → InVertices terminals a → (k : ℕ) × (k < length terminals) × At terminals k (record { 0 = a })
+place_of_member terminals a member = (member.0, member.1, slice_get_read terminals (length terminals) member.0 (record { 0 = a }) refl member.1 (sym member.2))
+
+member_from_place : (terminals : List Vertex) (k : ℕ) (v : Vertex) → At terminals k v → InVertices terminals v.0
+member_from_place terminals k v at = (k, slice_get_within terminals k v at, get_or_from_slice_get terminals k v v at)
+
+-- terminals of one label are joined
+pub joins_alike : (s : Size) (F : Piece → Type 0) (labels : List ℕ) (terminals : List Vertex) → AreLabels s F labels → ((i : ℕ) (v : Vertex) → At terminals i v → IsVertex s v.0) → AreAlike labels terminals (length terminals) → Joins s F (InVertices terminals)
+joins_alike s F labels terminals right vertex alike a b a_in b_in =
+    let at_a = place_of_member terminals a a_in in
+    let at_b = place_of_member terminals b b_in in
+    let some : 0 < length terminals = omega (arith, at_a.1) in
+    let first = get_or terminals 0 (record { 0 = a }) in
+    let at_first : At terminals 0 first = slice_get-get_or terminals 0 (record { 0 = a }) some in
+    right.joined a b (vertex at_a.0 (record { 0 = a }) at_a.2) (vertex at_b.0 (record { 0 = b }) at_b.2)
+    (alike at_a.0 first (record { 0 = a }) at_a.1 at_first at_a.2 ∙ sym (alike at_b.0 first (record { 0 = b }) at_b.1 at_first at_b.2))
+
+-- terminals of two labels are not
+pub apart_not_joined : (s : Size) (F : Piece → Type 0) (labels : List ℕ) (terminals : List Vertex) (place : ℕ) → AreLabels s F labels → IsApart labels terminals place → ¬ Joins s F (InVertices terminals)
+apart_not_joined s F labels terminals place right apart joins =
+    let any : Vertex = record { 0 = 0 } in
+    let some : 0 < length terminals = omega (arith, apart.exists) in
+    let first = get_or terminals 0 any in
+    let last = get_or terminals place any in
+    let at_first : At terminals 0 first = slice_get-get_or terminals 0 any some in
+    let at_last : At terminals place last = slice_get-get_or terminals place any apart.exists in
+    apart.differs first last at_first at_last
+    (right.apart last.0 first.0 (joins last.0 first.0 (member_from_place terminals place last at_last) (member_from_place terminals 0 first at_first)))
+
+pub cut_off_apart : (g : Grid) (n : NetSpec) (labels : List ℕ) (place : ℕ) → AreLabels g.size (Allows g WithChoked) labels → ((i : ℕ) (v : Vertex) → At n.terminals i v → IsVertex g.size v.0) → IsApart labels n.terminals place → IsCutOff g n n.id place
+cut_off_apart g n labels place right vertex apart = record {
+  named = refl;
+  apart = apart_not_joined g.size (Allows g WithChoked) labels n.terminals place right apart;
+  exists = apart.exists;
+  unjoined = λ first v at_first at_v walk. apart.differs first v at_first at_v (sym (right.apart first.0 v.0 walk));
+  joined = λ i first v below at_first at_v. right.joined first.0 v.0 (vertex 0 first at_first) (vertex i v at_v) (sym (apart.alike i first v below at_first at_v));
+}
+
+-- what is allowed on open ground is allowed with choked edges too
+pub Allows-choked : (g : Grid) (p : Piece) → Allows g Open p → Allows g WithChoked p
+Allows-choked g (Edge e) allowed = λ wall. cc
+Allows-choked g (Via v) piece = piece
+
+-- a net that has a ground is joined with choked edges
+pub joins_with_choked : (g : Grid) (terminals : List Vertex) (found : Ground) → IsGround g terminals found → JoinsTerminals g WithChoked terminals
+joins_with_choked g terminals Open is = λ a b a_in b_in. WalkBetween-superset g.size (Allows g Open) (Allows g WithChoked) (Allows-choked g) a b (is a b a_in b_in)
+joins_with_choked g terminals WithChoked is = is.1
+
+-- the first net without a ground is the cause
+pub first_cause : (g : Grid) (nets : List NetSpec) (place : ℕ) (n : NetSpec) (e : GroundError) → At nets place n → IsCause g n e → ((j : ℕ) (m : NetSpec) → j < place → At nets j m → JoinsTerminals g WithChoked m.terminals) → IsFirstCause g nets e
+first_cause g nets place n (Unreachable id terminal) at cause earlier =
+    record { place = place; net = n; stands = at; cut_off = cause; earlier = earlier }
+first_cause g nets place n NoMemory at cause earlier = tt
+
+-- what stands in a list where one more was pushed
+pub At-push_cases : {X : Type 0} (xs : List X) (x y : X) (k : ℕ) → At (xs ++ x ∷ []) k y → At xs k y ⊎ ((k ≡ length xs) × (y ≡ x))
+At-push_cases [] x y zero at = inr (refl, sym (same_Some _ _ at))
+At-push_cases [] x y (suc k) at = cc
+At-push_cases (z ∷ xs) x y zero at = inl at
+At-push_cases (z ∷ xs) x y (suc k) at = ⊎_elim (λ old. inl old) (λ last. inr (ap suc last.0, last.1)) (At-push_cases xs x y k at)
+
+-- a net that was read from the list
+pub net_read : (nets list : List NetSpec) (place : ℕ) (spec n : NetSpec) → list ≡ nets → place < length nets → spec ≡ get_or list place spec → At nets place n → spec ≡ n
+net_read nets list place spec n same within read at =
+    same_Some spec n (sym (slice_get_read nets (length nets) place spec refl within (read ∙ ap (λ (xs : List NetSpec). get_or xs place spec) same)) ∙ at)
+
+pub net_stands : (nets list : List NetSpec) (place : ℕ) (spec : NetSpec) → list ≡ nets → place < length nets → spec ≡ get_or list place spec → At nets place spec
+net_stands nets list place spec same within read =
+    slice_get_read nets (length nets) place spec refl within (read ∙ ap (λ (xs : List NetSpec). get_or xs place spec) same)
+
+-- something stands at each place of a list
+pub at_place : {X : Type 0} (xs : List X) (i : ℕ) → i < length xs → (x : X) × At xs i x
+at_place xs i within =
+    ⊎_elim (λ found. (found.0, found.2)) (λ past. absurd (omega (arith, within, past.0))) (slice_get_cases xs i).1
+
+-- these are the grounds of the first nets
+abbrev pub AreGroundsSoFar : Grid → List NetSpec → List Ground → Type 0
+AreGroundsSoFar g nets grounds = (k : ℕ) (n : NetSpec) (found : Ground) → At nets k n → At grounds k found → IsGround g n.terminals found
+
+pub joined_so_far : (g : Grid) (nets : List NetSpec) (grounds : List Ground) → AreGroundsSoFar g nets grounds → (j : ℕ) (m : NetSpec) → j < length grounds → At nets j m → JoinsTerminals g WithChoked m.terminals
+joined_so_far g nets grounds right j m below at =
+    let found = at_place grounds j below in
+    joins_with_choked g m.terminals found.0 (right j m found.0 at found.1)
+
+pub AreGroundsSoFar-push : (g : Grid) (nets : List NetSpec) (grounds : List Ground) (found : Ground) → AreGroundsSoFar g nets grounds → ((n : NetSpec) → At nets (length grounds) n → IsGround g n.terminals found) → AreGroundsSoFar g nets (grounds ++ found ∷ [])
+AreGroundsSoFar-push g nets grounds found right new k n also at stands =
+    ⊎_elim
+    (λ old. right k n also at old)
+    (λ last. subst (IsGround g n.terminals) (sym last.1) (new n (subst (λ (x : ℕ). At nets x n) last.0 at)))
+    (At-push_cases grounds found also k stands)

@@ -1,0 +1,33 @@
+use Rattle.std.proofs.Common.{ℕ, ◌<◌, List, length, arith, subst}
+use Rattle.std.proofs.lemmas.Grind.{common_steps}
+use Rattle.std.proofs.lemmas.Result.{err_from_is_err_and}
+use Rattle.grid_graph.specs.declared.net_spec.NetSpec.{NetSpec}
+use Rattle.grid_graph.specs.Lists.{At}
+use Rattle.grid_graph.proofs.Grounds.{first_cause, at_place, joined_so_far, AreGroundsSoFar-push}
+use Rattle.grid_graph.proofs.design.Design.grounds.Goals as goal
+
+pub ground_by-requires-clause-by_open : goal.ground_by-requires-clause-by_open
+ground_by-requires-clause-by_open c = rw c.as_slice.ensures.value c.in_ok-by_open.ensures
+
+pub ground_by-requires-clause-by_choked : goal.ground_by-requires-clause-by_choked
+ground_by-requires-clause-by_choked c = rw c.as_slice-in-loop-net.ensures.value c.in_ok-by_choked.ensures
+
+pub returns-in_err-ground_by-clause-cause : goal.returns-in_err-ground_by-clause-cause
+returns-in_err-ground_by-clause-cause c =
+    let d = c.args.self.now in
+    let exit = err_from_is_err_and c.from_residual-in_err-ground_by.result c.from_residual-in_err-ground_by.ensures.1 in
+    let within : c.loop-net.net < length d.nets = subst (λ (xs : List NetSpec). c.loop-net.net < length xs) c.list-net-end.ensures.nets c.loop-net-test.true in
+    let found = at_place d.nets c.loop-net.net within in
+    rw (exit.1, exit.2)
+    (first_cause d.grid d.nets c.loop-net.net found.0 c.in_err-ground_by.field-0.0 found.1 (c.in_err-ground_by.ensures.cause found.0 found.1)
+    (λ j m below at. joined_so_far d.grid d.nets c.loop-net.grounds.items c.loop-net.invariant.right j m (rw c.loop-net.invariant.long below) at))
+
+pub loop-net-preserved : goal.loop-net-preserved
+loop-net-preserved c =
+    let d = c.args.self.now in
+    let grounds = c.loop-net.grounds.items in
+    rw c.in_ok-push.ensures.items (record {
+      long = grind (arith, common_steps, c.loop-net.invariant.long);
+      right = AreGroundsSoFar-push d.grid d.nets grounds c.in_ok-ground_by.field-0 c.loop-net.invariant.right
+          (λ n at. c.in_ok-ground_by.ensures.found n (subst (λ (x : ℕ). At d.nets x n) c.loop-net.invariant.long at));
+    })

@@ -1,0 +1,14 @@
+pub use Rattle.grid_base.specs.Numbers
+pub use Rattle.grid_base.specs.Walks
+pub mod Apart
+pub mod Capacities
+pub mod GridLimits
+pub mod Grids
+pub mod Grounds
+pub mod Labels
+pub mod Lists
+pub mod Neighbours
+pub mod Nets
+pub mod Standing
+pub mod Tiles
+pub mod Weighed

@@ -1,0 +1,48 @@
+-- The neighbours of a vertex, in order.
+use Rattle.std.specs.Prelude.{ℕ, ◌+◌, ◌-◌, ◌*◌, Bool, List, [], ◌∷◌, Option, Some, None, cond, ltb}
+use Rattle.grid_base.specs.declared.piece.Piece.{Piece}
+use Rattle.grid_base.specs.declared.size.Size.{Size}
+use Rattle.grid_base.specs.declared.vertex.Vertex.{Vertex}
+use Rattle.grid_base.specs.Numbers.{col_of, row_of, layer_of, to_next_col, to_next_row, to_next_layer}
+
+-- a step to the vertex w by the piece p, where it stays inside the grid
+abbrev pub step : Bool → ℕ → Piece → Option (Vertex × Piece)
+step inside w p = cond inside (Some (record { 0 = w }, p)) None
+
+-- to the column before
+abbrev pub west : Size → ℕ → Option (Vertex × Piece)
+west s v = step (ltb 0 (col_of s v)) (v - 1) (to_next_col (v - 1))
+
+-- to the next column
+abbrev pub east : Size → ℕ → Option (Vertex × Piece)
+east s v = step (ltb (col_of s v + 1) s.cols) (v + 1) (to_next_col v)
+
+-- to the row before
+abbrev pub south : Size → ℕ → Option (Vertex × Piece)
+south s v = step (ltb 0 (row_of s v)) (v - s.cols) (to_next_row (v - s.cols))
+
+-- to the next row
+abbrev pub north : Size → ℕ → Option (Vertex × Piece)
+north s v = step (ltb (row_of s v + 1) s.rows) (v + s.cols) (to_next_row v)
+
+-- to the layer before
+abbrev pub down : Size → ℕ → Option (Vertex × Piece)
+down s v = step (ltb 0 (layer_of s v)) (v - s.cols * s.rows) (to_next_layer (v - s.cols * s.rows))
+
+-- to the next layer
+abbrev pub up : Size → ℕ → Option (Vertex × Piece)
+up s v = step (ltb (layer_of s v + 1) s.layers) (v + s.cols * s.rows) (to_next_layer v)
+
+-- the six steps, in order
+abbrev pub steps : Size → ℕ → List (Option (Vertex × Piece))
+steps s v = west s v ∷ east s v ∷ south s v ∷ north s v ∷ down s v ∷ up s v ∷ []
+
+-- those that are there
+abbrev pub present : {X : Type 0} → List (Option X) → List X
+present [] = []
+present (None ∷ xs) = present xs
+present (Some x ∷ xs) = x ∷ present xs
+
+-- the neighbours of a vertex with the pieces that lead there: west, east, south, north, down, up
+abbrev pub neighbours : Size → ℕ → List (Vertex × Piece)
+neighbours s v = present (steps s v)

@@ -1,0 +1,83 @@
+//! A design.
+
+ghost use Rattle.grid_graph.specs.Nets.{IsDesign};
+
+use crate::first_apart::first_apart;
+use crate::grid::Grid;
+use crate::ground::Ground;
+use crate::ground_error::GroundError;
+use crate::labels::labels_of;
+use crate::nets::Nets;
+
+/// A grid and the nets to be routed on it.
+#[derive(Drop)]
+pub struct Design {
+    /// The routing grid.
+    pub grid: Grid,
+    /// The nets, in file order.
+    pub nets: Nets,
+    pub ghost limits: { IsDesign grid nets },
+}
+
+impl Design {
+    ghost use Rattle.std.specs.Prelude.{ℕ, ◌≡◌, ◌<◌, length, IfOk, IfErr};
+    ghost use Rattle.grid_graph.specs.declared.net_spec.NetSpec.{NetSpec};
+    ghost use Rattle.grid_graph.specs.Grids.{Allows};
+    ghost use Rattle.grid_graph.specs.Grounds.{IsGround, IsCause, IsFirstCause, AreGrounds};
+    ghost use Rattle.grid_graph.specs.Labels.{AreLabels};
+    ghost use Rattle.grid_graph.specs.Lists.{At};
+
+    /// The ground of the net at this place of the list. `Unreachable` is a net that no ground joins.
+    pub fn ground(&self, net: usize) -> Result<Ground, GroundError>
+        requires { net < length self.now.nets }
+        ensures found { (n : NetSpec) → At self.now.nets net n → IfOk result (λ found. IsGround self.now.grid n.terminals found) }
+        ensures cause { (n : NetSpec) → At self.now.nets net n → IfErr result (λ e. IsCause self.now.grid n e) }
+    {
+        let by_open = labels_of(self.grid.allocator(), &self.grid, Ground::Open)?;
+        let by_choked = labels_of(self.grid.allocator(), &self.grid, Ground::WithChoked)?;
+        self.ground_by(by_open.as_slice(), by_choked.as_slice(), net)
+    }
+
+    /// The grounds of all nets, in file order. `Unreachable` is the first net that no ground joins.
+    ///
+    /// Takes time linear in the vertices and the terminals: the vertices are labelled once for each ground.
+    pub fn grounds(&self) -> Result<Vec<Ground>, GroundError>
+        ensures grounds { IfOk result (λ grounds. AreGrounds self.now.grid self.now.nets grounds.items) }
+        ensures cause { IfErr result (λ e. IsFirstCause self.now.grid self.now.nets e) }
+    {
+        let by_open = labels_of(self.grid.allocator(), &self.grid, Ground::Open)?;
+        let by_choked = labels_of(self.grid.allocator(), &self.grid, Ground::WithChoked)?;
+        let mut grounds = Vec::new(self.grid.allocator());
+        for net in 0..self.nets.list().len() {
+            grounds.push(self.ground_by(by_open.as_slice(), by_choked.as_slice(), net)?)?;
+        }
+        Ok(grounds)
+    }
+
+    /// The ground of a net, by the labels of the vertices.
+    fn ground_by(
+        &self,
+        by_open: &[u32],
+        by_choked: &[u32],
+        net: usize,
+    ) -> Result<Ground, GroundError>
+        requires net { net < length self.now.nets }
+        requires by_open { AreLabels self.now.grid.size (Allows self.now.grid Ground.Open) by_open.now }
+        requires by_choked { AreLabels self.now.grid.size (Allows self.now.grid Ground.WithChoked) by_choked.now }
+        ensures found { (n : NetSpec) → At self.now.nets net n → IfOk result (λ found. IsGround self.now.grid n.terminals found) }
+        ensures cause { (n : NetSpec) → At self.now.nets net n → IfErr result (λ e. IsCause self.now.grid n e) }
+    {
+        let spec = &self.nets.list()[net];
+        let terminals = spec.terminals.list();
+        let Some(_) = first_apart(by_open, terminals) else {
+            return Ok(Ground::Open);
+        };
+        match first_apart(by_choked, terminals) {
+            None => Ok(Ground::WithChoked),
+            Some(terminal) => Err(GroundError::Unreachable {
+                id: spec.id,
+                terminal: terminal as u32,
+            }),
+        }
+    }
+}

@@ -1,0 +1,106 @@
+//! The steps from a vertex to its neighbours.
+
+ghost use Rattle.std.specs.Prelude.{◌≡◌, slice_get};
+ghost use Rattle.grid_base.specs.Numbers.{IsVertex, place_at, vertex_number};
+ghost use Rattle.grid_graph.specs.Neighbours as near;
+ghost use Rattle.grid_graph.specs.Standing.{StandsAt};
+
+use grid_base::{Edge, Piece, Place, Size, Vertex, Via};
+
+/// The steps west, east, south, north, down and up, those that stay inside the grid.
+pub fn steps(size: Size, v: Vertex) -> [Option<(Vertex, Piece)>; 6]
+    requires { IsVertex size v.0 }
+    ensures { result ≡ near.steps size v.0 }
+{
+    let place = size.place_of(v);
+    [
+        west(size, place, v),
+        east(size, place, v),
+        south(size, place, v),
+        north(size, place, v),
+        down(size, place, v),
+        up(size, place, v),
+    ]
+}
+
+fn west(size: Size, place: Place, v: Vertex) -> Option<(Vertex, Piece)>
+    requires { StandsAt size place v.0 }
+    ensures { result ≡ near.west size v.0 }
+{
+    if place.col == 0 {
+        return None;
+    }
+    let to = v.0 - 1;
+    Some((Vertex(to), Piece::Edge(Edge(2 * to))))
+}
+
+fn east(size: Size, place: Place, v: Vertex) -> Option<(Vertex, Piece)>
+    requires { StandsAt size place v.0 }
+    ensures { result ≡ near.east size v.0 }
+{
+    if place.col + 1 >= size.cols() {
+        return None;
+    }
+    Some((Vertex(v.0 + 1), Piece::Edge(Edge(2 * v.0))))
+}
+
+fn south(size: Size, place: Place, v: Vertex) -> Option<(Vertex, Piece)>
+    requires { StandsAt size place v.0 }
+    ensures { result ≡ near.south size v.0 }
+{
+    if place.row == 0 {
+        return None;
+    }
+    let to = v.0 - size.cols();
+    Some((Vertex(to), Piece::Edge(Edge(2 * to + 1))))
+}
+
+fn north(size: Size, place: Place, v: Vertex) -> Option<(Vertex, Piece)>
+    requires { StandsAt size place v.0 }
+    ensures { result ≡ near.north size v.0 }
+{
+    if place.row + 1 >= size.rows() {
+        return None;
+    }
+    Some((Vertex(v.0 + size.cols()), Piece::Edge(Edge(2 * v.0 + 1))))
+}
+
+fn down(size: Size, place: Place, v: Vertex) -> Option<(Vertex, Piece)>
+    requires { StandsAt size place v.0 }
+    ensures { result ≡ near.down size v.0 }
+{
+    if place.layer == 0 {
+        return None;
+    }
+    let to = v.0 - size.cols() * size.rows();
+    Some((Vertex(to), Piece::Via(Via(to))))
+}
+
+fn up(size: Size, place: Place, v: Vertex) -> Option<(Vertex, Piece)>
+    requires { StandsAt size place v.0 }
+    ensures { result ≡ near.up size v.0 }
+{
+    if place.layer + 1 >= size.layers() {
+        return None;
+    }
+    Some((
+        Vertex(v.0 + size.cols() * size.rows()),
+        Piece::Via(Via(v.0)),
+    ))
+}
+
+/// The i-th of those that are there.
+pub fn nth_present(steps: &[Option<(Vertex, Piece)>], i: u32) -> Option<(Vertex, Piece)>
+    ensures { result ≡ slice_get (near.present steps.now) i }
+{
+    let mut left = i;
+    for step in steps {
+        if let Some(found) = *step {
+            if left == 0 {
+                return Some(found);
+            }
+            left -= 1;
+        }
+    }
+    None
+}
