@@ -1,0 +1,131 @@
+-- Adjusting a grid step by step.
+use Rattle.std.proofs.Common.{◌≡◌, ◌≢◌, ℕ, suc, ◌+◌, ◌-◌, ◌<◌, ◌≤◌, ◌^◌, Bool, true, false, cond, ◌==◌, List, [], ◌∷◌, ◌++◌, length, Option, Some, None, Result, Ok, Err, refl, sym, ap, ◌∙◌, ⊎_elim, arith, eq-eqb, ne_eqb}
+use Rattle.std.specs.Option.{option_map, unwrap_or}
+use Rattle.std.proofs.lemmas.Bool.{cases_eq}
+use Rattle.std.proofs.lemmas.List.{length_push}
+use Rattle.text_scan.specs.Tokens.{Token}
+use Rattle.grid_graph.specs.declared.grid.Grid.{Grid}
+use Rattle.grid_graph.specs.Grids.{capacity, SameButCapacities}
+use Rattle.ispd_reader.specs.declared.input_error.InputError.{InputError}
+use Rattle.ispd_reader.specs.declared.input_error.InputError.TheVariants as errors
+use Rattle.ispd_reader.specs.Parsing.{Rest, Read, ◌>>=◌, Refuses, parts_at}
+use Rattle.ispd_reader.specs.Numbers.{count_at}
+use Rattle.ispd_reader.specs.Header.{Extent}
+use Rattle.ispd_reader.specs.Adjustments.{Adjustment, or_else, level_where, last_level, adjustment_at, more_adjustments_at, counted_adjustments_at, adjustments_at}
+use Rattle.ispd_reader.specs.Views.{extent_of_size}
+use Rattle.ispd_reader.specs.Adjusted.{IsAdjusted, IsAdjustedBy}
+use Rattle.ispd_reader.proofs.InTurn.{goes_on, ends, is_done}
+
+-- no token is left
+pub no_adjustments : (e : Extent) (rest : Rest) → rest.tokens ≡ [] → adjustments_at e rest ≡ Ok ([], rest)
+unfolding adjustments_at
+no_adjustments e rest h = ap (λ ts. counted_adjustments_at e ts rest) h
+
+counted : (e : Extent) (ts : List Token) (rest : Rest) → (ts ≡ [] → ⊥) → counted_adjustments_at e ts rest ≡ (count_at (2 ^ 23) rest >>= λ count. more_adjustments_at e count.0 count.1)
+counted e [] rest h = absurd (h refl)
+counted e (t ∷ ts) rest h = refl
+
+-- a token is left
+pub some_adjustments : (e : Extent) (rest : Rest) → (rest.tokens ≡ [] → ⊥) → adjustments_at e rest ≡ (count_at (2 ^ 23) rest >>= λ count. more_adjustments_at e count.0 count.1)
+unfolding adjustments_at
+some_adjustments e rest h = counted e rest.tokens rest h
+
+or_else_none : (x : Option ℕ) → or_else None x ≡ or_else x None
+or_else_none None = refl
+or_else_none (Some x) = refl
+
+or_else_assoc : (x y z : Option ℕ) → or_else (or_else x y) z ≡ or_else x (or_else y z)
+or_else_assoc None y z = refl
+or_else_assoc (Some x) y z = refl
+
+unwrap_or_else : (x y : Option ℕ) (d : ℕ) → unwrap_or (or_else x y) d ≡ unwrap_or x (unwrap_or y d)
+unwrap_or_else None y d = refl
+unwrap_or_else (Some x) y d = refl
+
+last_level-push : (e : ℕ) (done : List Adjustment) (a : Adjustment) → last_level e (done ++ a ∷ []) ≡ or_else (level_where e a.edge a.level) (last_level e done)
+last_level-push e [] a = or_else_none (level_where e a.edge a.level)
+last_level-push e (b ∷ bs) a = ap (λ x. or_else x (level_where e b.edge b.level)) (last_level-push e bs a) ∙ or_else_assoc (level_where e a.edge a.level) (last_level e bs) (level_where e b.edge b.level)
+
+-- nothing changes
+pub SameButCapacities-refl : (g : Grid) → SameButCapacities g g
+SameButCapacities-refl g = record { size = refl; vertical = refl; horizontal = refl; widths = refl; spacings = refl; origin = refl; tile = refl }
+
+pub SameButCapacities-trans : (f g h : Grid) → SameButCapacities f g → SameButCapacities g h → SameButCapacities f h
+SameButCapacities-trans f g h p q = record {
+  size = q.size ∙ p.size;
+  vertical = q.vertical ∙ p.vertical;
+  horizontal = q.horizontal ∙ p.horizontal;
+  widths = q.widths ∙ p.widths;
+  spacings = q.spacings ∙ p.spacings;
+  origin = q.origin ∙ p.origin;
+  tile = q.tile ∙ p.tile;
+}
+
+pub IsAdjusted-none : (g : Grid) → IsAdjusted g g []
+IsAdjusted-none g = record { levels = λ e. refl; kept = SameButCapacities-refl g }
+
+-- one more adjustment
+IsAdjusted-push : (old now new : Grid) (done : List Adjustment) (a : Adjustment) → IsAdjusted old now done → IsAdjustedBy now new a → IsAdjusted old new (done ++ a ∷ [])
+IsAdjusted-push old now new done a so_far step = record {
+  levels = λ e. step.levels e ∙ ap (λ d. unwrap_or (level_where e a.edge a.level) d) (so_far.levels e)
+      ∙ sym (ap (λ x. unwrap_or x (capacity old e)) (last_level-push e done a) ∙ unwrap_or_else (level_where e a.edge a.level) (last_level e done) (capacity old e));
+  kept = SameButCapacities-trans old now new so_far.kept step.kept;
+}
+
+-- the adjustments that were made so far, in a grid of this size
+pub record AreAdjustments (old now : Grid) (e : Extent) (first rest : Rest) (count i : ℕ) : Type 0 where
+  pub done : List Adjustment
+  pub long : length done ≡ i
+  pub reading : parts_at (λ before. adjustment_at e (length before)) done (count - i) rest ≡ adjustments_at e first
+  pub adjusted : IsAdjusted old now done
+
+-- before the first
+pub no_adjustment_yet : (g : Grid) (e : Extent) (first rest : Rest) (count : ℕ) → (first.tokens ≡ [] → ⊥) → count_at (2 ^ 23) first ≡ Ok (count, rest) → AreAdjustments g g e first rest count 0
+unfolding more_adjustments_at
+no_adjustment_yet g e first rest count some read =
+    let n : count - 0 ≡ count = omega arith in
+    record {
+      done = [];
+      long = refl;
+      reading = rw n (sym (some_adjustments e first some ∙ ap (λ (r : Read ℕ). r >>= λ count. more_adjustments_at e count.0 count.1) read));
+      adjusted = IsAdjusted-none g;
+    }
+
+-- with one more
+pub one_more_adjustment : (old now new : Grid) (e : Extent) (first rest after : Rest) (count i : ℕ) (a : Adjustment) → i < count → AreAdjustments old now e first rest count i → adjustment_at e i rest ≡ Ok (a, after) → IsAdjustedBy now new a →
+    AreAdjustments old new e first after count (i + 1)
+one_more_adjustment old now new e first rest after count i a lt so_far read step =
+    let part = λ (before : List Adjustment). adjustment_at e (length before) in
+    let one : part so_far.done rest ≡ Ok (a, after) = rw so_far.long read in
+    record {
+      done = so_far.done ++ a ∷ [];
+      long = omega (arith, so_far.long, length_push so_far.done a);
+      reading = goes_on part so_far.done count i rest a after (adjustments_at e first) lt one so_far.reading;
+      adjusted = IsAdjusted-push old now new so_far.done a so_far.adjusted step;
+    }
+
+-- the next one is refused
+pub adjustment_refused : (old now : Grid) (e : Extent) (first rest : Rest) (count i : ℕ) (error : InputError) → i < count → AreAdjustments old now e first rest count i → Refuses error (adjustment_at e i rest) → Refuses error (adjustments_at e first)
+adjustment_refused old now e first rest count i error lt so_far refused =
+    let part = λ (before : List Adjustment). adjustment_at e (length before) in
+    let one : Refuses error (part so_far.done rest) = rw so_far.long refused in
+    ends part error so_far.done count i rest (adjustments_at e first) lt one so_far.reading
+
+-- all are made
+pub all_adjusted : (old now : Grid) (e : Extent) (first rest : Rest) (count i : ℕ) → count ≤ i → AreAdjustments old now e first rest count i → (adjustments : List Adjustment) × (adjustments_at e first ≡ Ok (adjustments, rest)) × IsAdjusted old now adjustments
+all_adjusted old now e first rest count i le so_far =
+    let part = λ (before : List Adjustment). adjustment_at e (length before) in
+    (so_far.done, is_done part so_far.done count i rest (adjustments_at e first) le so_far.reading, so_far.adjusted)
+
+-- an adjustment of one edge
+pub one_edge : (old new : Grid) (x level : ℕ) → capacity new x ≡ level → ((e : ℕ) → e ≢ x → capacity new e ≡ capacity old e) → (e : ℕ) → capacity new e ≡ unwrap_or (level_where e (Some x) level) (capacity old e)
+one_edge old new x level here others e = ⊎_elim
+    (λ (h : x ≡ e). let t : (x == e) ≡ true = eq-eqb x e h in rw t (ap (capacity new) (sym h) ∙ here))
+    (λ (h : x ≢ e). let t : (x == e) ≡ false = ne_eqb x e h in rw t (others e (λ q. h (sym q))))
+    (cases_eq x e)
+
+-- the count is refused
+pub count_refused : (e : Extent) (first : Rest) (error : InputError) → (first.tokens ≡ [] → ⊥) → Refuses error (count_at (2 ^ 23) first) → Refuses error (adjustments_at e first)
+count_refused e first errors.NoMemory some refused = tt
+count_refused e first (errors.Input fault) some refused =
+    some_adjustments e first some ∙ ap (λ (r : Read ℕ). r >>= λ count. more_adjustments_at e count.0 count.1) refused

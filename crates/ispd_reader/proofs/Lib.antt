@@ -1,0 +1,14 @@
+pub mod AdjustSteps
+pub mod Distinct
+pub mod Entries
+pub mod FirstForms
+pub mod InTurn
+pub mod Limits
+pub mod NetSteps
+pub mod NumberLists
+pub mod Numerals
+pub mod Parts
+pub mod Places
+pub mod Ranges
+pub mod Sizes
+pub mod Whole

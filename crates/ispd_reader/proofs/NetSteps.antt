@@ -1,0 +1,142 @@
+-- Reading nets one after another, and what the nets so far keep.
+use Rattle.std.proofs.Common.{◌≡◌, ◌≢◌, ℕ, suc, ◌+◌, ◌-◌, ◌<◌, ◌≤◌, max, Bool, true, false, cond, ◌||◌, ◌==◌, List, [], ◌∷◌, ◌++◌, length, map, get_or, fold, Some, Result, Ok, Err, refl, sym, ap, ◌∙◌, ⊎_elim, ◌⊎◌, le_refl, arith, eq-eqb, ne_eqb, not, subst, zero}
+use mathlib.Core.Path.{fun_ext}
+use Rattle.std.specs.List.{list_any, sum_by, All, filter, slice_get}
+use Rattle.std.specs.Option.{option_map}
+use Rattle.std.proofs.lemmas.Bool.{cases_Bool, cases_eq, false≢true}
+use Rattle.std.proofs.lemmas.List.{map_push, length_push, length-map}
+use Rattle.std.proofs.lemmas.List.Elements.{All-nil, All-cons, All-head, All-tail, All-filter, All-get_or}
+use Rattle.std.proofs.lemmas.List.Folds.{list_any-append}
+use Rattle.std.proofs.lemmas.List.Sums.{sum_by_push}
+use Rattle.std.proofs.lemmas.Option.{slice_get-map, slice_get_within, get_or_from_slice_get}
+use Rattle.grid_base.specs.declared.vertex.Vertex.{Vertex}
+use Rattle.grid_graph.specs.declared.grid.Grid.{Grid}
+use Rattle.grid_graph.specs.declared.net_spec.NetSpec.{NetSpec}
+use Rattle.grid_graph.specs.declared.limits.TheConstants.{MAX_NETS, MAX_PINS}
+use Rattle.grid_graph.specs.Lists.{At}
+use Rattle.grid_graph.specs.Nets.{IdsDiffer, IsNet, IsDesign}
+use Rattle.ispd_reader.specs.declared.input_error.InputError.{InputError}
+use Rattle.ispd_reader.specs.declared.input_error.InputError.TheVariants as errors
+use Rattle.ispd_reader.specs.Parsing.{Rest, Read, ◌>>=◌, Refuses}
+use Rattle.ispd_reader.specs.Header.{Layout}
+use Rattle.ispd_reader.specs.Nets.{Net, greatest, without_repeats, has_id, net_at, more_nets_at}
+use Rattle.ispd_reader.specs.Views.{numbers, net_of, nets_of}
+use Rattle.ispd_reader.proofs.Distinct.{at_push, not_at}
+
+-- one more net was read
+pub net_goes_on : (layout : Layout) (before : List Net) (pins : ℕ) (taken : ℕ → Bool) (count i : ℕ) (rest : Rest) (net : Net) (more : ℕ) (after : Rest) (total : Read (List Net)) →
+    i < count → ((q : ℕ) → taken q ≡ has_id before q) → net_at layout taken pins rest ≡ Ok ((net, more), after) → more_nets_at layout before pins (count - i) rest ≡ total →
+    more_nets_at layout (before ++ net ∷ []) more (count - (i + 1)) after ≡ total
+unfolding more_nets_at
+net_goes_on layout before pins taken count i rest net more after total lt same h so_far =
+    let k : count - i ≡ suc (count - (i + 1)) = omega arith in
+    let ids : taken ≡ has_id before = fun_ext same in
+    let read : net_at layout (has_id before) pins rest ≡ Ok ((net, more), after) = ap (λ (t : ℕ → Bool). net_at layout t pins rest) (sym ids) ∙ h in
+    let one : more_nets_at layout before pins (count - i) rest ≡ more_nets_at layout (before ++ net ∷ []) more (count - (i + 1)) after = rw (k, read) refl in
+    sym one ∙ so_far
+
+-- the next net was refused
+pub net_ends : (e : InputError) (layout : Layout) (before : List Net) (pins : ℕ) (taken : ℕ → Bool) (count i : ℕ) (rest : Rest) (total : Read (List Net)) →
+    i < count → ((q : ℕ) → taken q ≡ has_id before q) → Refuses e (net_at layout taken pins rest) → more_nets_at layout before pins (count - i) rest ≡ total → Refuses e total
+unfolding more_nets_at
+net_ends errors.NoMemory layout before pins taken count i rest total lt same h so_far = tt
+net_ends (errors.Input fault) layout before pins taken count i rest total lt same h so_far =
+    let k : count - i ≡ suc (count - (i + 1)) = omega arith in
+    let ids : taken ≡ has_id before = fun_ext same in
+    let read : net_at layout (has_id before) pins rest ≡ Err fault = ap (λ (t : ℕ → Bool). net_at layout t pins rest) (sym ids) ∙ h in
+    let one : more_nets_at layout before pins (count - i) rest ≡ Err fault = rw (k, read) refl in
+    sym so_far ∙ one
+
+-- all nets were read
+pub nets_done : (layout : Layout) (before : List Net) (pins count i : ℕ) (rest : Rest) (total : Read (List Net)) → count ≤ i → more_nets_at layout before pins (count - i) rest ≡ total → total ≡ Ok (before, rest)
+unfolding more_nets_at
+nets_done layout before pins count i rest total le so_far =
+    let k : count - i ≡ 0 = omega arith in
+    let one : more_nets_at layout before pins (count - i) rest ≡ Ok (before, rest) = rw k refl in
+    sym so_far ∙ one
+
+le_fold : (xs : List ℕ) (a : ℕ) → a ≤ fold max a xs
+le_fold [] a = le_refl a
+le_fold (x ∷ xs) a = omega (arith, le_fold xs (max a x))
+
+get_or_le_fold : (xs : List ℕ) (a i : ℕ) → get_or xs i 0 ≤ fold max a xs
+get_or_le_fold [] a i = omega arith
+get_or_le_fold (x ∷ xs) a zero = omega (arith, le_fold xs (max a x))
+get_or_le_fold (x ∷ xs) a (suc i) = get_or_le_fold xs (max a x) i
+
+-- no spacing is above the greatest
+pub spacing_le_greatest : (spacings : List ℕ) (l : ℕ) → get_or spacings l 0 ≤ greatest spacings
+spacing_le_greatest spacings l = get_or_le_fold spacings 0 l
+
+length_filter_le : (p : ℕ → Bool) (xs : List ℕ) → length (filter p xs) ≤ length xs
+length_filter_le p [] = le_refl 0
+length_filter_le p (x ∷ xs) = ⊎_elim
+    (λ (e : p x ≡ true). rw e (omega (arith, length_filter_le p xs)))
+    (λ (e : p x ≡ false). rw e (omega (arith, length_filter_le p xs)))
+    (cases_Bool (p x))
+
+-- there are no more terminals than pins
+pub length-without_repeats : (xs : List ℕ) → length (without_repeats xs) ≤ length xs
+length-without_repeats [] = le_refl 0
+length-without_repeats (x ∷ xs) = omega (arith, length-without_repeats xs, length_filter_le (λ w. not (w == x)) (without_repeats xs))
+
+-- and each is at a pin
+pub All-without_repeats : (P : ℕ → Type 0) (xs : List ℕ) → All P xs → All P (without_repeats xs)
+All-without_repeats P [] h = All-nil P
+All-without_repeats P (x ∷ xs) h = All-cons P x _ (All-head P x xs h) (All-filter (λ w. not (w == x)) P (without_repeats xs) (All-without_repeats P xs (All-tail P x xs h)))
+
+-- what holds of each number holds of the vertex at each place
+pub All-at : (P : ℕ → Type 0) (vertices : List Vertex) → All P (numbers vertices) → (i : ℕ) (v : Vertex) → At vertices i v → P v.0
+All-at P vertices h i v at_i =
+    let found : slice_get (numbers vertices) i ≡ Some v.0 = slice_get-map (λ (u : Vertex). u.0) vertices i ∙ ap (option_map (λ (u : Vertex). u.0)) at_i in
+    let here : get_or (numbers vertices) i v.0 ≡ v.0 = get_or_from_slice_get (numbers vertices) i v.0 v.0 found in
+    subst P here (All-get_or P (numbers vertices) i v.0 (slice_get_within (numbers vertices) i v.0 found) h)
+
+-- the nets that were read so far
+pub record AreNets (g : Grid) (nets : List NetSpec) (taken : ℕ → Bool) (pins count : ℕ) : Type 0 where
+  pub taken_ids : (q : ℕ) → taken q ≡ has_id (nets_of nets) q
+  pub ids : IdsDiffer nets
+  pub each : (k : ℕ) (n : NetSpec) → At nets k n → IsNet g n
+  pub pins_within : sum_by (λ n. length n.terminals) nets ≤ pins
+  pub pins_limit : pins ≤ MAX_PINS
+  pub long : length nets ≡ count
+
+taken_more : (q id : ℕ) (has : Bool) → (q == id || has) ≡ (has || (id == q || false))
+taken_more q id has = ⊎_elim
+    (λ (h : q ≡ id). let a : (q == id) ≡ true = eq-eqb q id h in let b : (id == q) ≡ true = eq-eqb id q (sym h) in rw (a, b) (elim has as (λ v. true ≡ (v || true)) [ true ↦ refl | false ↦ refl ]))
+    (λ (h : q ≢ id). let a : (q == id) ≡ false = ne_eqb q id h in let b : (id == q) ≡ false = ne_eqb id q (λ e. h (sym e)) in rw (a, b) (elim has as (λ v. v ≡ (v || false)) [ true ↦ refl | false ↦ refl ]))
+    (cases_eq q id)
+
+-- a net that is there has another id than one whose id is free
+other_id : (nets : List NetSpec) (taken : ℕ → Bool) (n : NetSpec) (i : ℕ) (m : NetSpec) → ((q : ℕ) → taken q ≡ has_id (nets_of nets) q) → taken n.id ≡ false → At nets i m → m.id ≡ n.id → ⊥
+other_id nets taken n i m ids free at_i same =
+    let found : At (nets_of nets) i (net_of m) = slice_get-map net_of nets i ∙ ap (option_map net_of) at_i in
+    let nowhere : list_any (λ net. net.id == n.id) (nets_of nets) ≡ false = sym (ids n.id) ∙ free in
+    false≢true (sym (not_at (λ net. net.id == n.id) (nets_of nets) nowhere i (net_of m) found) ∙ eq-eqb m.id n.id same)
+
+-- with one more net
+pub net_added : (g : Grid) (nets : List NetSpec) (old new : ℕ → Bool) (pins count : ℕ) (n : NetSpec) (more : ℕ) → AreNets g nets old pins count →
+    old n.id ≡ false → ((q : ℕ) → new q ≡ (q == n.id || old q)) → IsNet g n → pins + length n.terminals ≤ more → more ≤ MAX_PINS → AreNets g (nets ++ n ∷ []) new more (count + 1)
+net_added g nets old new pins count n more so_far free taken fits enough limit =
+    let next : nets_of (nets ++ n ∷ []) ≡ nets_of nets ++ net_of n ∷ [] = map_push net_of nets n in
+    record {
+      taken_ids = λ q. taken q ∙ taken_more q n.id (old q) ∙ ap (λ b. b || (n.id == q || false)) (so_far.taken_ids q)
+          ∙ sym (ap (list_any (λ net. net.id == q)) next ∙ list_any-append (λ net. net.id == q) (nets_of nets) (net_of n ∷ []));
+      ids = λ i j m o at_i at_j same. ⊎_elim
+          (λ (p : At nets i m). ⊎_elim
+          (λ (q : At nets j o). so_far.ids i j m o p q same)
+          (λ (q : (j ≡ length nets) × (o ≡ n)). absurd (other_id nets old n i m so_far.taken_ids free p (same ∙ ap (λ (x : NetSpec). x.id) q.1)))
+          (at_push nets n j o at_j))
+          (λ (p : (i ≡ length nets) × (m ≡ n)). ⊎_elim
+          (λ (q : At nets j o). absurd (other_id nets old n j o so_far.taken_ids free q (sym same ∙ ap (λ (x : NetSpec). x.id) p.1)))
+          (λ (q : (j ≡ length nets) × (o ≡ n)). p.0 ∙ sym q.0)
+          (at_push nets n j o at_j))
+          (at_push nets n i m at_i);
+      each = λ k o at_k. ⊎_elim
+          (λ (p : At nets k o). so_far.each k o p)
+          (λ (p : (k ≡ length nets) × (o ≡ n)). let P : NetSpec → Type 0 = λ x. IsNet g x in subst P (sym p.1) fits)
+          (at_push nets n k o at_k);
+      pins_within = omega (arith, so_far.pins_within, sum_by_push (λ (x : NetSpec). length x.terminals) nets n);
+      pins_limit = limit;
+      long = omega (arith, so_far.long, length_push nets n);
+    }

@@ -1,0 +1,118 @@
+-- Numbers within their limits.
+use Rattle.std.proofs.Common.{◌≡◌, ℕ, ◌*◌, ◌^◌, ◌≤◌, ◌<◌, Bool, true, false, cond, ◌&&◌, ◌↔◌, List, [], ◌∷◌, Option, Some, None, IsSome, IfSome, Result, Ok, Err, ℤ, pos, negsuc, neg_ℤ, refl, sym, ap, ◌∙◌, ⊎_elim, arith, nat_abs, ◌-ℤ◌, ◌≤ℤ◌, int_lt, ltb, eqb}
+use Rattle.std.specs.Option.{option_map}
+use Rattle.std.proofs.lemmas.Bool.{cases_Bool}
+use Rattle.std.proofs.lemmas.Bool.Decides.{nat_tests}
+use Rattle.std.proofs.lemmas.Int.{ints}
+use Rattle.std.proofs.lemmas.Option.{none-some, cond_some}
+use Rattle.std.proofs.lemmas.Nat.{div_below}
+use Rattle.grid_graph.specs.Tiles.{tile_index}
+use Rattle.text_scan.specs.declared.number_fault.NumberFault.{NumberFault}
+use Rattle.text_scan.specs.Tokens.{Token}
+use Rattle.text_scan.specs.Numbers.{is_number, is_within, value_of, number_of, first_number}
+use Rattle.grid_base.specs.declared.size.Size.{Size}
+use Rattle.grid_base.specs.Limits.{IsGridSize}
+use Rattle.grid_graph.specs.GridLimits.{IsPosition}
+use Rattle.ispd_reader.specs.Within.{within}
+use Rattle.ispd_reader.specs.Header.{Extent, is_size, natural, extent_of}
+use Rattle.ispd_reader.specs.Views.{extent_of_size}
+
+-- a number within its limits
+pub within_bounds : (lo hi : ℕ) (z : ℤ) (n : ℕ) → within lo hi z ≡ Some n → (z ≡ pos n) × (lo ≤ n) × (n ≤ hi)
+within_bounds lo hi (pos m) n h = let p = cond_some _ m n h in (ap pos p.1, grind (arith, nat_tests), grind (arith, nat_tests))
+within_bounds lo hi (negsuc m) n h = absurd (none-some n h)
+
+-- a number beyond them
+pub within_none : (hi : ℕ) (z : ℤ) → within 1 hi z ≡ None → 1 ≤ natural z → natural z ≤ hi → ⊥
+within_none hi (pos m) h low high = let t : within 1 hi (pos m) ≡ Some m = grind (arith, nat_tests) in none-some m (sym h ∙ t)
+within_none hi (negsuc m) h low high = omega arith
+
+-- the test of a size
+pub size_from_test : (e : Extent) → is_size e ≡ true → IsGridSize e.cols e.rows e.layers
+size_from_test e h = record {
+  has_col = grind (arith, nat_tests);
+  has_row = grind (arith, nat_tests);
+  has_layer = grind (arith, nat_tests);
+  layer_limit = grind (arith, nat_tests);
+  vertex_limit = grind (arith, nat_tests);
+}
+
+pub test_of_size : (e : Extent) → IsGridSize e.cols e.rows e.layers → is_size e ≡ true
+test_of_size e h =
+    let a = h.has_col in
+    let b = h.has_row in
+    let c = h.has_layer in
+    let d = h.layer_limit in
+    let f = h.vertex_limit in
+    grind (arith, nat_tests)
+
+first_factor : (a b c n : ℕ) → 1 ≤ b → 1 ≤ c → a * b * c ≤ n → a ≤ n
+first_factor a b c n hb hc h = grind arith
+
+middle_factor : (a b c n : ℕ) → 1 ≤ a → 1 ≤ c → a * b * c ≤ n → b ≤ n
+middle_factor a b c n ha hc h = grind arith
+
+-- no part of a grid is larger than the whole
+pub cols_within : (cols rows layers : ℕ) → IsGridSize cols rows layers → cols ≤ 2 ^ 23
+cols_within cols rows layers s = first_factor cols rows layers (2 ^ 23) s.has_row s.has_layer s.vertex_limit
+
+pub rows_within : (cols rows layers : ℕ) → IsGridSize cols rows layers → rows ≤ 2 ^ 23
+rows_within cols rows layers s = middle_factor cols rows layers (2 ^ 23) s.has_col s.has_layer s.vertex_limit
+
+-- numbers that make no size
+pub no_extent : (c r l : ℤ) → (IsGridSize (natural c) (natural r) (natural l) → ⊥) → extent_of c r l ≡ None
+unfolding extent_of
+no_extent c r l none =
+    let e : Extent = record { cols = natural c; rows = natural r; layers = natural l } in
+    ⊎_elim (λ (h : is_size e ≡ true). absurd (none (size_from_test e h))) (λ (h : is_size e ≡ false). rw h refl) (cases_Bool (is_size e))
+
+-- and numbers that make one
+pub extent_made : (n m k : ℕ) → IsGridSize n m k → extent_of (pos n) (pos m) (pos k) ≡ Some (record { cols = n; rows = m; layers = k })
+unfolding extent_of
+extent_made n m k s = let h : is_size (record { cols = n; rows = m; layers = k }) ≡ true = test_of_size (record { cols = n; rows = m; layers = k }) s in rw h refl
+
+-- the size that three numbers make, if any
+pub size_is : (n m k : ℕ) (result : Option Size) → (IsSome result ↔ IsGridSize n m k) → IfSome result (λ s. s.cols ≡ n) → IfSome result (λ s. s.rows ≡ m) → IfSome result (λ s. s.layers ≡ k) →
+    option_map extent_of_size result ≡ extent_of (pos n) (pos m) (pos k)
+size_is n m k None limits cols rows layers = sym (no_extent (pos n) (pos m) (pos k) (λ s. absurd (let some = limits.1 s in cc)))
+size_is n m k (Some s) limits cols rows layers =
+    let same : extent_of_size s ≡ record { cols = n; rows = m; layers = k } = rw (cols, rows, layers) refl in
+    ap (λ e. Some e) same ∙ sym (extent_made n m k (limits.0 refl))
+
+-- a number that is read is a position
+position_from_test : (z : ℤ) → is_within (neg_ℤ (pos (2 ^ 40))) (pos (2 ^ 40)) z ≡ true → IsPosition z
+position_from_test z h = record { low = grind (arith, ints); high = grind (arith, ints) }
+
+pub position_read : (end : ℕ) (ts : List Token) (value : ℤ) → Ok value ≡ first_number (neg_ℤ (pos (2 ^ 40))) (pos (2 ^ 40)) end ts → IsPosition value
+position_read end [] value h = absurd (cc)
+position_read end (t ∷ ts) value h = ⊎_elim
+    (λ (e : is_number t.bytes ≡ true). ⊎_elim
+    (λ (f : is_within (neg_ℤ (pos (2 ^ 40))) (pos (2 ^ 40)) (value_of t.bytes) ≡ true).
+    let same = rw (e, f) at h in
+    let v : value ≡ value_of t.bytes = cc in
+    position_from_test value (rw v f))
+    (λ (f : is_within (neg_ℤ (pos (2 ^ 40))) (pos (2 ^ 40)) (value_of t.bytes) ≡ false). absurd (let bad = rw (e, f) at h in cc))
+    (cases_Bool (is_within (neg_ℤ (pos (2 ^ 40))) (pos (2 ^ 40)) (value_of t.bytes))))
+    (λ (e : is_number t.bytes ≡ false). absurd (let bad = rw e at h in cc))
+    (cases_Bool (is_number t.bytes))
+
+abs_positive : (t : ℤ) → pos 1 ≤ℤ t → 0 < nat_abs t
+abs_positive (pos n) h = omega (arith, ints)
+abs_positive (negsuc n) h = absurd (omega (arith, ints))
+
+-- a tile is one of them
+pub tile_below : (origin tile : ℤ) (count : ℕ) (x : ℤ) → pos 1 ≤ℤ tile → 1 ≤ count → IfSome (tile_index origin tile count x) (λ i. i < count)
+tile_below origin tile count x wide some =
+    let d = nat_abs (x -ℤ origin) in
+    let w = nat_abs tile in
+    let positive : 0 < w = abs_positive tile wide in
+    ⊎_elim
+    (λ (e : int_lt x origin ≡ true). rw e tt)
+    (λ (e : int_lt x origin ≡ false). ⊎_elim
+    (λ (f : ltb d (count * w) ≡ true). let lt : d < count * w = grind (arith, nat_tests) in rw (e, f) (div_below d w count positive lt))
+    (λ (f : ltb d (count * w) ≡ false). ⊎_elim
+    (λ (g : eqb d (count * w) ≡ true). rw (e, f, g) (omega arith))
+    (λ (g : eqb d (count * w) ≡ false). rw (e, f, g) tt)
+    (cases_Bool (eqb d (count * w))))
+    (cases_Bool (ltb d (count * w))))
+    (cases_Bool (int_lt x origin))

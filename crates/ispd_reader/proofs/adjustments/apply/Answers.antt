@@ -1,0 +1,7 @@
+use Rattle.std.proofs.Common.{◌≡◌, refl, ◌∙◌, ap, sym}
+use Rattle.ispd_reader.specs.Adjusted.{IsAdjustedBy}
+use Rattle.ispd_reader.proofs.AdjustSteps.{one_edge, SameButCapacities-refl}
+use Rattle.ispd_reader.proofs.adjustments.apply.Goals as goal
+
+pub returns-in-Some : goal.returns-in-Some
+returns-in-Some c = rw c.in-Some.is (record { levels = one_edge c.args.grid.now c.adjust.new.self c.in-Some.edge.0 c.args.adjustment.level c.adjust.ensures.level c.adjust.ensures.others; kept = c.adjust.ensures.rest })

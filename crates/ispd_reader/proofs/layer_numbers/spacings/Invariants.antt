@@ -1,0 +1,8 @@
+use Rattle.std.proofs.Common.{◌≡◌, ◌-◌, length, slice_index}
+use Rattle.ispd_reader.specs.Parsing.{parts_at}
+use Rattle.ispd_reader.specs.Numbers.{spacing_at}
+use Rattle.ispd_reader.specs.Header.{spacings_at}
+use Rattle.ispd_reader.proofs.layer_numbers.spacings.Given as goal
+
+abbrev pub invariant-loop-width : goal.invariant-loop-width
+invariant-loop-width l = (length l.spacings.items ≡ l.width-index) × (parts_at (λ before. spacing_at (slice_index l.widths (length before))) l.spacings.items (length l.widths - l.width-index) l.tokens ≡ spacings_at l.widths l.fn.tokens)

@@ -1,0 +1,27 @@
+use Rattle.std.proofs.Common.{◌≡◌, ℕ, ◌<◌, ◌≤◌, ◌+◌, take, length, max, slice_index, arith, ap, sym, ◌∙◌}
+use Rattle.std.proofs.lemmas.List.{take_all}
+use Rattle.std.proofs.lemmas.List.Sums.{fold_more}
+use Rattle.std.specs.Ordering.{nat_cmp, ord_max}
+use Rattle.ispd_reader.specs.Nets.{greatest}
+use Rattle.ispd_reader.proofs.nets.greatest_spacing.Goals as goal
+
+max_is : (a b r : ℕ) → r ≡ ord_max nat_cmp a b → r ≡ max a b
+max_is a b r e = grind arith
+
+pub loop-layer-preserved : goal.loop-layer-preserved
+loop-layer-preserved c =
+    let items = c.args.grid.now.spacings.items in
+    let long = c.args.grid.now.layout.spaced.long in
+    let here = c.args.grid.now.layout.spaced.within c.loop-layer.layer in
+    let same : c.size.result.layers ≡ c.args.grid.now.size.layers = ap (λ s. s.layers) c.size.ensures in
+    let lt : c.loop-layer.layer < length items = omega arith in
+    let more : greatest (take (c.loop-layer.layer + 1) items) ≡ max (greatest (take c.loop-layer.layer items)) (slice_index items c.loop-layer.layer) = fold_more max 0 items c.loop-layer.layer 0 lt in
+    let top : c.max-spacing.result ≡ max c.loop-layer.spacing c.spacing.result = max_is c.loop-layer.spacing c.spacing.result c.max-spacing.result c.max-spacing.ensures in
+    (top ∙ rw (c.spacing.ensures, c.loop-layer.invariant.0) (sym more), omega arith)
+
+pub returns-clause-value : goal.returns-clause-value
+returns-clause-value c =
+    let items = c.args.grid.now.spacings.items in
+    let long = c.args.grid.now.layout.spaced.long in
+    let same : c.size.result.layers ≡ c.args.grid.now.size.layers = ap (λ s. s.layers) c.size.ensures in
+    c.loop-layer.invariant.0 ∙ ap greatest (take_all c.loop-layer.layer items (omega arith))

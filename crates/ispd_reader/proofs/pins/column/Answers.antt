@@ -1,0 +1,14 @@
+use Rattle.std.proofs.Common.{◌≡◌, IfSome, ◌<◌, ap, sym, arith, rules}
+use Rattle.std.proofs.lemmas.Grind.{common_steps}
+use Rattle.grid_graph.specs.Tiles.{tile_index}
+use Rattle.ispd_reader.proofs.Ranges.{cols_within, tile_below}
+use Rattle.ispd_reader.proofs.pins.column.Goals as goal
+
+pub tile_index-requires-clause-many : goal.tile_index-requires-clause-many
+tile_index-requires-clause-many c = rw (c.cols.ensures, c.size.ensures) (cols_within _ _ _ c.args.grid.now.size.within)
+
+pub returns-clause-below : goal.returns-clause-below
+returns-clause-below c =
+    let grid = c.args.grid.now in
+    let e : c.tile_index.result ≡ tile_index grid.origin.0 grid.tile.0 grid.size.cols c.args.x.value = search rules in
+    rw e (tile_below grid.origin.0 grid.tile.0 grid.size.cols c.args.x.value grid.layout.tile_width.low grid.size.within.has_col)

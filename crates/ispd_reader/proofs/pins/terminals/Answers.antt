@@ -1,0 +1,27 @@
+use Rattle.std.proofs.Common.{◌≡◌, ◌++◌, ◌∷◌, [], List, Bool, true, false, not, cond, ◌<◌, get_or, length, take, refl, sym, ap, ◌∙◌, arith}
+use Rattle.std.proofs.lemmas.List.{take_all}
+use Rattle.std.proofs.lemmas.Bool.{not-false}
+use Rattle.std.specs.BTreeSet.{contains}
+use Rattle.std.specs.Ordering.{nat_cmp}
+use Rattle.ispd_reader.specs.Nets.{without_repeats}
+use Rattle.ispd_reader.specs.Views.{numbers}
+use Rattle.ispd_reader.proofs.Distinct.{terminal_added, terminal_known}
+use Rattle.ispd_reader.proofs.pins.terminals.Goals as goal
+use Rattle.ispd_reader.proofs.pins.terminals.Goals.{then-branch+in_ok-push, else-branch}
+
+was_absent : (found added : Bool) → added ≡ not found → added ≡ true → found ≡ false
+was_absent true added e t = sym t ∙ e
+was_absent false added e t = refl
+
+was_present : (found added : Bool) → added ≡ not found → added ≡ false → found ≡ true
+was_present true added e t = refl
+was_present false added e t = sym t ∙ e
+
+pub loop-pin-preserved : goal.loop-pin-preserved
+loop-pin-preserved c = elim c.if-branch.branch [
+  | then-branch+in_ok-push w ↦ rw (w.vertices-is, w.in_ok-push.ensures.items) (terminal_added c.args.pins.now c.loop-pin.pin-index (contains nat_cmp c.loop-pin.seen) (contains nat_cmp c.insert.new.self) c.loop-pin.vertices.items (get_or c.args.pins.now c.loop-pin.pin-index (record { 0 = 0 })) c.loop-pin-test.true refl c.loop-pin.invariant (was_absent _ _ c.in_ok-insert.ensures.added w.if-branch.true) c.in_ok-insert.ensures.updates.0)
+  | else-branch w ↦ rw w.vertices-is (terminal_known c.args.pins.now c.loop-pin.pin-index (contains nat_cmp c.loop-pin.seen) (contains nat_cmp c.insert.new.self) c.loop-pin.vertices.items (get_or c.args.pins.now c.loop-pin.pin-index (record { 0 = 0 })) c.loop-pin-test.true refl c.loop-pin.invariant (was_present _ _ c.in_ok-insert.ensures.added w.if-branch.false) c.in_ok-insert.ensures.updates.0)
+]
+
+pub of-requires : goal.of-requires
+of-requires c = c.loop-pin.invariant.distinct

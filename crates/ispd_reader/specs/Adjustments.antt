@@ -1,0 +1,88 @@
+-- The adjustments of single edges.
+use Rattle.std.specs.Prelude.{ℕ, Bool, ◌+◌, ◌-◌, ◌*◌, ◌^◌, ◌==◌, min, List, [], ◌∷◌, length, if◌then◌else◌, ℤ, Option, None, Some, Result, Ok, Err}
+use Rattle.text_scan.specs.Tokens.{Token}
+use Rattle.grid_base.specs.declared.place.Place.{Place}
+use Rattle.grid_base.specs.Numbers.{distance}
+use Rattle.ispd_reader.specs.declared.input_fault.InputFault.{InputFault}
+use Rattle.ispd_reader.specs.declared.input_fault.InputFault.TheVariants.{AdjustmentPlace}
+use Rattle.ispd_reader.specs.Parsing.{Rest, Read, ◌>>=◌, or_refuse, parts_at}
+use Rattle.ispd_reader.specs.Numbers.{number_at, capacity_at, count_at}
+use Rattle.ispd_reader.specs.Within.{within}
+use Rattle.ispd_reader.specs.Header.{Extent, Layout}
+use Rattle.ispd_reader.specs.Nets.{vertex_at}
+
+-- an adjustment: the number of the edge between its two tiles, none where they lie one above the other, and the new capacity
+pub record Adjustment : Type 0 where
+  pub edge : Option ℕ
+  pub level : ℕ
+
+-- a column, a row and a layer, where all three are there; layers count from 1 in the text
+abbrev pub place_of : Option ℕ → Option ℕ → Option ℕ → Option Place
+place_of None row layer = None
+place_of (Some col) None layer = None
+place_of (Some col) (Some row) None = None
+place_of (Some col) (Some row) (Some layer) = Some (record { col = col; row = row; layer = layer - 1 })
+
+-- the tile at these numbers, where it is inside the grid
+unfoldable pub place_in : Extent → ℤ → ℤ → ℤ → Option Place
+place_in e col row layer = place_of (within 0 (e.cols - 1) col) (within 0 (e.rows - 1) row) (within 1 e.layers layer)
+
+-- the number of the edge between two neighbouring tiles, none between two layers
+unfoldable pub edge_between : Extent → Place → Place → Option ℕ
+edge_between e a b =
+    if a.layer == b.layer then
+    (if a.row == b.row then Some (2 * vertex_at e (min a.col b.col) a.row a.layer)
+    else Some (2 * vertex_at e a.col (min a.row b.row) a.layer + 1))
+    else None
+
+-- what lies between two tiles, where both are inside the grid and they differ by 1 in one of column, row and layer
+abbrev pub step_between : Extent → Option Place → Option Place → Option (Option ℕ)
+step_between e None b = None
+step_between e (Some a) None = None
+step_between e (Some a) (Some b) = if distance a b == 1 then Some (edge_between e a b) else None
+
+-- a tile of an adjustment: column, row, layer, and the place of the layer's token
+unfoldable pub tile_place_at : Extent → Rest → Read (Option Place × ℕ)
+tile_place_at e rest = do
+  col ← number_at rest
+  row ← number_at col.1
+  layer ← number_at row.1
+  Ok ((place_in e col.0.value row.0.value layer.0.value, layer.0.at), layer.1)
+
+-- an adjustment: two tiles and the level; adjustments count from 0
+unfoldable pub adjustment_at : Extent → ℕ → Rest → Read Adjustment
+adjustment_at e index rest = do
+  from ← tile_place_at e rest
+  to ← tile_place_at e from.1
+  edge ← or_refuse (step_between e from.0.0 to.0.0) (AdjustmentPlace to.0.1 index)
+  level ← capacity_at to.1
+  Ok (record { edge = edge; level = level.0 }, level.1)
+
+-- so many adjustments
+unfoldable pub more_adjustments_at : Extent → ℕ → Rest → Read (List Adjustment)
+more_adjustments_at e count rest = parts_at (λ before. adjustment_at e (length before)) [] count rest
+
+-- how many adjustments, and the adjustments; none where no token is left
+abbrev pub counted_adjustments_at : Extent → List Token → Rest → Read (List Adjustment)
+counted_adjustments_at e [] rest = Ok ([], rest)
+counted_adjustments_at e (token ∷ tokens) rest = do
+  count ← count_at (2 ^ 23) rest
+  more_adjustments_at e count.0 count.1
+
+unfoldable pub adjustments_at : Extent → Rest → Read (List Adjustment)
+adjustments_at e rest = counted_adjustments_at e rest.tokens rest
+
+-- the one, and where there is none the other
+abbrev pub or_else : Option ℕ → Option ℕ → Option ℕ
+or_else None other = other
+or_else (Some x) other = Some x
+
+-- the level of an adjustment, where this is the edge that it names
+abbrev pub level_where : ℕ → Option ℕ → ℕ → Option ℕ
+level_where e None level = None
+level_where e (Some x) level = if x == e then Some level else None
+
+-- the level of the last adjustment that names the edge
+abbrev pub last_level : ℕ → List Adjustment → Option ℕ
+last_level e [] = None
+last_level e (a ∷ later) = or_else (last_level e later) (level_where e a.edge a.level)

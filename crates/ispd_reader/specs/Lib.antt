@@ -1,0 +1,15 @@
+pub mod Tokens
+pub mod FirstForm
+pub mod Reading
+pub mod Words
+pub mod Refusals
+pub mod Rest
+pub mod Parsing
+pub mod Within
+pub mod Numbers
+pub mod Header
+pub mod Nets
+pub mod Adjustments
+pub mod Views
+pub mod Adjusted
+pub mod Designs

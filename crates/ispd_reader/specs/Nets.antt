@@ -1,0 +1,90 @@
+-- The nets and their pins.
+use Rattle.std.specs.Prelude.{ℕ, zero, suc, Bool, not, ◌+◌, ◌-◌, ◌*◌, ◌^◌, ◌==◌, max, List, [], ◌∷◌, ◌++◌, length, map, fold, filter, if◌then◌else◌, ℤ, Option, Result, Ok, Err}
+use Rattle.std.specs.List.{list_any}
+use Rattle.grid_graph.specs.Tiles.{tile_index}
+use Rattle.ispd_reader.specs.declared.input_fault.InputFault.{InputFault}
+use Rattle.ispd_reader.specs.declared.input_fault.InputFault.TheVariants.{Range, WidthLimit, DuplicateId, PinOutside, PinLayer}
+use Rattle.ispd_reader.specs.declared.wanted.Wanted.TheVariants as wanted
+use Rattle.ispd_reader.specs.Parsing.{Rest, Read, ◌>>=◌, or_refuse, parts_at}
+use Rattle.ispd_reader.specs.Numbers.{word_at, name_at, number_at, number_within, count_at}
+use Rattle.ispd_reader.specs.Within.{within}
+use Rattle.ispd_reader.specs.Header.{Extent, Layout}
+
+-- a net; its terminals are vertices by number
+pub record Net : Type 0 where
+  pub id : ℕ
+  pub name : List ℕ
+  pub width : ℕ
+  pub terminals : List ℕ
+
+-- the vertex at this column, row and layer
+abbrev pub vertex_at : Extent → ℕ → ℕ → ℕ → ℕ
+vertex_at e col row layer = (layer * e.rows + row) * e.cols + col
+
+-- the vertices without repeats, in the order in which they come first
+abbrev pub without_repeats : List ℕ → List ℕ
+without_repeats [] = []
+without_repeats (v ∷ vs) = v ∷ filter (λ w. not (w == v)) (without_repeats vs)
+
+-- a net of these has the id
+abbrev pub has_id : List Net → ℕ → Bool
+has_id nets id = list_any (λ net. net.id == id) nets
+
+-- the greatest of the layers' spacings
+abbrev pub greatest : List ℕ → ℕ
+greatest spacings = fold max 0 spacings
+
+-- the id of a net: a number of 32 bits that is not taken
+unfoldable pub id_at : (ℕ → Bool) → Rest → Read ℕ
+id_at taken rest = do
+  number ← number_at rest
+  id ← or_refuse (within 0 4294967295 number.0.value) (Range number.0.at)
+  if taken id then Err (DuplicateId number.0.at id) else Ok (id, number.1)
+
+-- the width of a net: with the greatest spacing it is at most 1023
+abbrev pub net_width_at : Layout → Rest → Read ℕ
+net_width_at layout = number_within 0 (1023 - greatest layout.spacings) WidthLimit
+
+-- the tile of a position along one axis, where it is inside the grid: the upper border belongs to the last tile
+unfoldable pub tile_of : ℤ → ℤ → ℕ → ℤ → Option ℕ
+tile_of origin tile count position = tile_index origin tile count position
+
+-- a pin of a net, as the vertex of its tile: x, y, layer
+unfoldable pub pin_at : Layout → ℕ → ℕ → Rest → Read ℕ
+pin_at layout id pin rest = do
+  x ← number_at rest
+  col ← or_refuse (tile_of layout.origin.0 layout.tile.0 layout.extent.cols x.0.value) (PinOutside x.0.at id pin)
+  y ← number_at x.1
+  row ← or_refuse (tile_of layout.origin.1 layout.tile.1 layout.extent.rows y.0.value) (PinOutside y.0.at id pin)
+  layer ← number_at y.1
+  level ← or_refuse (within 1 layout.extent.layers layer.0.value) (PinLayer layer.0.at id pin)
+  Ok (vertex_at layout.extent col row (level - 1), layer.1)
+
+-- so many pins, which count from 0 within their net
+unfoldable pub pins_at : Layout → ℕ → ℕ → Rest → Read (List ℕ)
+pins_at layout id count rest = parts_at (λ before. pin_at layout id (length before)) [] count rest
+
+-- a net, where these ids are taken and there are so many pins, and how many pins there are with it
+unfoldable pub net_at : Layout → (ℕ → Bool) → ℕ → Rest → Read (Net × ℕ)
+net_at layout taken pins rest = do
+  name ← name_at rest
+  id ← id_at taken name.1
+  count ← count_at (2 ^ 24 - pins) id.1
+  width ← net_width_at layout count.1
+  places ← pins_at layout id.0 count.0 width.1
+  Ok ((record { id = id.0; name = name.0; width = width.0; terminals = without_repeats places.0 }, pins + count.0), places.1)
+
+-- so many nets after these, which have so many pins
+unfoldable pub more_nets_at : Layout → List Net → ℕ → ℕ → Rest → Read (List Net)
+more_nets_at layout earlier pins zero rest = Ok (earlier, rest)
+more_nets_at layout earlier pins (suc n) rest = do
+  net ← net_at layout (has_id earlier) pins rest
+  more_nets_at layout (earlier ++ net.0.0 ∷ []) net.0.1 n net.1
+
+-- `num`, `net`, how many nets, and the nets
+unfoldable pub nets_at : Layout → Rest → Read (List Net)
+nets_at layout rest = do
+  word ← word_at wanted.Num rest
+  word ← word_at wanted.Net word.1
+  count ← count_at (2 ^ 22) word.1
+  more_nets_at layout [] 0 count.0 count.1

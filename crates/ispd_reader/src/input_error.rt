@@ -1,0 +1,54 @@
+//! Why no design was read.
+
+ghost use Rattle.std.specs.Prelude.{◌≡◌};
+ghost use Rattle.ispd_reader.specs.declared.input_error.InputError.TheVariants.{Input, NoMemory};
+
+use crate::input_fault::InputFault;
+use grid_graph::GridRefusal;
+use std::alloc::{AllocError, AllocFailed};
+use thiserror::Error;
+
+/// Why no design was read.
+#[derive(Clone, Copy, Debug, Drop, PartialEq, Eq, Error)]
+pub enum InputError {
+    /// The text is no design.
+    #[error("{0}")]
+    Input(InputFault),
+    /// Want of memory.
+    #[error("out of memory")]
+    NoMemory,
+}
+
+impl From<InputFault> for InputError {
+    ghost from_gives = { λ fault e. e ≡ Input fault };
+
+    fn from(fault: InputFault) -> InputError {
+        InputError::Input(fault)
+    }
+}
+
+impl From<AllocError> for InputError {
+    ghost from_gives = { λ _ e. e ≡ NoMemory };
+
+    fn from(_e: AllocError) -> InputError {
+        InputError::NoMemory
+    }
+}
+
+impl<T: Drop> From<AllocFailed<T>> for InputError {
+    ghost from_gives = { λ _ e. e ≡ NoMemory };
+
+    fn from(_e: AllocFailed<T>) -> InputError {
+        InputError::NoMemory
+    }
+}
+
+impl From<GridRefusal> for InputError {
+    ghost from_gives = { λ _ e. e ≡ NoMemory };
+
+    fn from(refusal: GridRefusal) -> InputError {
+        match refusal {
+            GridRefusal::NoMemory => InputError::NoMemory,
+        }
+    }
+}

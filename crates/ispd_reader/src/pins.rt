@@ -1,0 +1,100 @@
+//! The pins of a net, and its terminals.
+
+ghost use Rattle.std.specs.Prelude.{◌≡◌, ◌<◌, IfOk, IfErr, IfSome, All, length};
+ghost use Rattle.grid_base.specs.Numbers.{IsVertex, vertices};
+ghost use Rattle.grid_graph.specs.GridLimits.{IsPosition};
+ghost use Rattle.grid_graph.specs.Lists.{HasNoRepeats};
+ghost use Rattle.ispd_reader.specs.Parsing.{Reads};
+ghost use Rattle.ispd_reader.specs.Nets.{tile_of, pin_at, pins_at, without_repeats};
+ghost use Rattle.ispd_reader.specs.Views.{layout_of, numbers};
+
+use crate::input_error::InputError;
+use crate::input_fault::InputFault;
+use crate::number::Number;
+use crate::tokens_left::TokensLeft;
+use grid_base::{Place, Vertex};
+use grid_graph::{Grid, Terms, tile_index};
+use std::alloc::Global;
+use std::collections::BTreeSet;
+
+/// The column of a position, where it is inside the grid.
+#[tactic(auto, unfolding(crate::specs::Nets::tile_of))]
+fn column(grid: &Grid, x: Number) -> Option<u32>
+    requires { IsPosition x.value }
+    ensures column { result ≡ tile_of grid.now.origin.0 grid.now.tile.0 grid.now.size.cols x.value }
+    ensures below { IfSome result (λ i. i < grid.now.size.cols) }
+{
+    tile_index(grid.origin().0, grid.tile().0, grid.size().cols(), x.value)
+}
+
+/// The row of a position, where it is inside the grid.
+#[tactic(auto, unfolding(crate::specs::Nets::tile_of))]
+fn row(grid: &Grid, y: Number) -> Option<u32>
+    requires { IsPosition y.value }
+    ensures row { result ≡ tile_of grid.now.origin.1 grid.now.tile.1 grid.now.size.rows y.value }
+    ensures below { IfSome result (λ i. i < grid.now.size.rows) }
+{
+    tile_index(grid.origin().1, grid.tile().1, grid.size().rows(), y.value)
+}
+
+/// The vertex of a pin, which has this number within the net.
+#[tactic(auto, using(crate::proofs::Ranges::within_bounds), unfolding(crate::specs::Nets::pin_at))]
+fn pin(tokens: &mut TokensLeft<'_>, grid: &Grid, id: u32, pin: u32) -> Result<Vertex, InputError>
+    ensures pin { Reads (λ v. v.0) result tokens.new (pin_at (layout_of grid.now) id pin tokens.old) }
+    ensures vertex { IfOk result (λ v. IsVertex grid.now.size v.0) }
+{
+    let x = tokens.number()?;
+    let col = column(grid, x).ok_or(InputFault::PinOutside { at: x.at, id, pin })?;
+    let y = tokens.number()?;
+    let row = row(grid, y).ok_or(InputFault::PinOutside { at: y.at, id, pin })?;
+    let layer = tokens.number()?;
+    let level = layer
+        .within(1, grid.size().layers())
+        .ok_or(InputFault::PinLayer {
+            at: layer.at,
+            id,
+            pin,
+        })?;
+    let place = Place {
+        col,
+        row,
+        layer: level - 1,
+    };
+    Ok(grid.size().vertex_of(place).unwrap())
+}
+
+/// The vertices of so many pins.
+#[tactic(auto, unfolding(crate::specs::Nets::pins_at))]
+pub fn pins(
+    alloc: Global,
+    tokens: &mut TokensLeft<'_>,
+    grid: &Grid,
+    id: u32,
+    count: u32,
+) -> Result<Vec<Vertex>, InputError>
+    ensures pins { Reads (λ v. numbers v.items) result tokens.new (pins_at (layout_of grid.now) id count tokens.old) }
+    ensures count { IfOk result (λ v. length v.items ≡ count) }
+    ensures vertices { IfOk result (λ v. All (λ w. w < vertices grid.now.size) (numbers v.items)) }
+{
+    let mut pins = Vec::new(alloc);
+    for index in 0..count {
+        pins.push(pin(tokens, grid, id, index)?)?;
+    }
+    Ok(pins)
+}
+
+/// The vertices of the pins without repeats, in the order of the first pins.
+pub fn terminals(alloc: Global, pins: &[Vertex]) -> Result<Terms, InputError>
+    ensures terminals { IfOk result (λ t. numbers t ≡ without_repeats (numbers pins.now)) }
+    ensures distinct { IfOk result (λ t. HasNoRepeats t) }
+    ensures memory { IfErr result (λ e. e ≡ InputError.NoMemory) }
+{
+    let mut seen = BTreeSet::new(alloc);
+    let mut vertices = Vec::new(alloc);
+    for pin in pins {
+        if seen.insert(pin.0)? {
+            vertices.push(*pin)?;
+        }
+    }
+    Ok(Terms::of(vertices))
+}

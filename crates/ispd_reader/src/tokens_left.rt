@@ -1,0 +1,121 @@
+//! The tokens of a text that are left to be read.
+
+ghost use Rattle.std.specs.Prelude.{◌≡◌, ◌↔◌, [], IsTrue, IfOk};
+ghost use Rattle.grid_graph.specs.GridLimits.{IsPosition};
+ghost use Rattle.ispd_reader.specs.Parsing.{Reads, rest_of};
+ghost use Rattle.ispd_reader.specs.Numbers.{word_at, name_at, number_at};
+ghost use Rattle.ispd_reader.specs.Refusals.{refusal_of};
+
+use crate::input_error::InputError;
+use crate::input_fault::InputFault;
+use crate::number::Number;
+use crate::wanted::Wanted;
+use std::marker::Model;
+use text_scan::{NumberFault, Scanner};
+
+/// The farthest that a number may be from zero.
+const MAX_NUMBER: i64 = 1 << 40;
+
+/// The tokens of a text that are left to be read, with their places in it.
+#[derive(Drop)]
+pub struct TokensLeft<'a> {
+    bytes: &'a [u8],
+    scanner: Scanner<'a>,
+}
+
+impl<'a> Model for TokensLeft<'a> {
+    ghost use Rattle.std.specs.Prelude.{◌≡◌, length};
+    ghost use Rattle.text_scan.specs.Reading.{tokens_left};
+    ghost use Rattle.ispd_reader.specs.Rest.{Rest};
+
+    ghost Value = { Rest };
+
+    ghost view = { λ s. record { end = length s.bytes.now; tokens = tokens_left s.scanner } };
+
+    ghost invariant = { λ s. s.scanner.text ≡ s.bytes.now };
+}
+
+impl<'a> TokensLeft<'a> {
+    /// All tokens of the text.
+    pub fn of(bytes: &'a [u8]) -> Self
+        ensures { result ≡ rest_of bytes.entry.now }
+    {
+        TokensLeft {
+            bytes,
+            scanner: Scanner::over(bytes),
+        }
+    }
+
+    /// Whether no token is left.
+    pub fn is_empty(&mut self) -> bool
+        ensures none { IsTrue result ↔ (self.old.tokens ≡ []) }
+        ensures kept { self.new ≡ self.old }
+    {
+        self.scanner.peek().is_none()
+    }
+
+    /// The next token, which has to be this word.
+    #[tactic(auto, using(crate::proofs::Places::first_of_tokens), unfolding(crate::specs::Numbers::word_at))]
+    pub fn word(&mut self, wanted: Wanted) -> Result<(), InputError>
+        ensures { Reads (λ _. tt) result self.new (word_at wanted self.old) }
+    {
+        let Some(span) = self.scanner.token() else {
+            return Err(self.missing(wanted));
+        };
+        if &self.bytes[span.start..span.end] != wanted.word().as_bytes() {
+            return Err(InputError::Input(InputFault::Syntax {
+                at: span.start,
+                wanted,
+            }));
+        }
+        Ok(())
+    }
+
+    /// The next token, whatever it is.
+    #[tactic(auto, using(crate::proofs::Places::first_of_tokens), unfolding(crate::specs::Numbers::name_at))]
+    pub fn name(&mut self) -> Result<&'a [u8], InputError>
+        ensures { Reads (λ x. x.now) result self.new (name_at self.old) }
+    {
+        let bytes = self.bytes;
+        let Some(span) = self.scanner.token() else {
+            return Err(self.missing(Wanted::Name));
+        };
+        Ok(&bytes[span.start..span.end])
+    }
+
+    /// The next token, which has to be a number from -2^40 to 2^40.
+    pub fn number(&mut self) -> Result<Number, InputError>
+        ensures number { Reads (λ x. x) result self.new (number_at self.old) }
+        ensures range { IfOk result (λ x. IsPosition x.value) }
+    {
+        self.scanner.peek();
+        let at = self.scanner.place();
+        match self.scanner.number(-MAX_NUMBER, MAX_NUMBER) {
+            Ok(value) => Ok(Number { value, at }),
+            Err(fault) => Err(InputError::Input(refusal(fault))),
+        }
+    }
+
+    // The refusal where the text ends too early.
+    fn missing(&self, wanted: Wanted) -> InputError
+        ensures { result ≡ InputError.Input (InputFault.Syntax self.now.end wanted) }
+    {
+        InputError::Input(InputFault::Syntax {
+            at: self.bytes.len(),
+            wanted,
+        })
+    }
+}
+
+// The refusal of a token that is no number in the range.
+fn refusal(fault: NumberFault) -> InputFault
+    ensures { result ≡ refusal_of fault }
+{
+    match fault {
+        NumberFault::OutOfRange { at } => InputFault::Range { at },
+        NumberFault::NotNumber { at } | NumberFault::End { at } => InputFault::Syntax {
+            at,
+            wanted: Wanted::Number,
+        },
+    }
+}
