@@ -1,0 +1,9 @@
+pub mod Around
+pub mod Counting
+pub mod Fullest
+pub mod Loads
+pub mod Peaks
+pub mod Order
+pub mod Ratios
+pub mod Reached
+pub mod Search

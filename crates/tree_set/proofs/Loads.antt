@@ -1,0 +1,121 @@
+-- Loads as one more piece, or one more net, is counted.
+use Rattle.std.proofs.Common.{◌≡◌, ◌≢◌, ℕ, ◌+◌, ◌<◌, Bool, true, false, cond, ◌||◌, List, length, get_or, take, slice_index, slice_set, refl, sym, ◌∙◌, ap, subst, ⊎_elim, arith, ◌≤◌, ◌*◌, eq-eqb, ne_eqb}
+use Rattle.grid_base.specs.declared.via.Via.{Via as ViaNumber}
+use Rattle.grid_base.specs.declared.size.Size.{Size}
+use Rattle.grid_base.specs.Numbers.{vertices, IsPiece}
+use Rattle.grid_graph.specs.declared.limits.TheConstants.{MAX_DEMAND}
+use Rattle.tree_set.specs.Routings.{ArePieces}
+use Rattle.std.specs.Ordering.{is_eq}
+use Rattle.std.specs.Cmp.{unsigned_ties}
+use Rattle.std.specs.List.{list_any, sum_by, zip}
+use Rattle.std.specs.declared.cmp.Ordering.TheVariants.{Less}
+use Rattle.std.proofs.lemmas.Bool.{cases_eq}
+use Rattle.std.proofs.lemmas.List.{get_or-set_same, get_or-set_other, get_or-take, get_or_default, length-take}
+use Rattle.std.proofs.lemmas.List.Folds.{list_any_more, list_any_none}
+use Rattle.std.proofs.lemmas.List.Sums.{sum_by_more}
+use Rattle.std.proofs.lemmas.Map.Keys.{Less-from_sorted}
+use Rattle.std.proofs.lemmas.Slice.Zip.{get_or-zip, length-zip}
+use Rattle.grid_base.specs.declared.edge.Edge.{Edge as EdgeNumber}
+use Rattle.grid_base.specs.declared.piece.Piece.{Piece}
+use Rattle.grid_base.specs.declared.piece.Piece.TheVariants.{Edge, Via}
+use Rattle.grid_graph.specs.declared.grid.Grid.{Grid}
+use Rattle.grid_graph.specs.declared.net_spec.NetSpec.{NetSpec}
+use Rattle.grid_graph.specs.Grids.{demand_on}
+use Rattle.tree_set.specs.Loads.{is_edge_of, holds, net_load}
+use Rattle.tree_set.specs.Order.{piece_cmp, IsRising}
+
+or_false : (b : Bool) → (b || false) ≡ b
+or_false true = refl
+or_false false = refl
+
+or_true : (b : Bool) → (b || true) ≡ true
+or_true true = refl
+or_true false = refl
+
+-- a piece that comes before an edge isn't that edge
+apart : (q : Piece) (x : EdgeNumber) → piece_cmp q (Edge x) ≡ Less → is_edge_of x.0 q ≡ false
+apart (Edge y) x less = unsigned_ties y.0 x.0 ∙ ap is_eq less
+apart (Via v) x less = refl
+
+-- an edge doesn't stand before itself in a rising list
+not_before : (ps : List Piece) (i : ℕ) (d : Piece) (x : EdgeNumber) → IsRising ps → i < length ps → get_or ps i d ≡ Edge x → holds (take i ps) x.0 ≡ false
+not_before ps i d x rising within is =
+    list_any_none (is_edge_of x.0) (take i ps) (λ k e low.
+    let early : k < i = omega (arith, length-take i ps) in
+    let here : get_or ps i e ≡ Edge x = get_or_default ps i e d within ∙ is in
+    let less : piece_cmp (get_or ps k e) (Edge x) ≡ Less =
+    subst (λ (q : Piece). piece_cmp (get_or ps k e) q ≡ Less) here (Less-from_sorted piece_cmp ps k i e rising early within) in
+    subst (λ (q : Piece). is_edge_of x.0 q ≡ false) (sym (get_or-take i ps k e early)) (apart (get_or ps k e) x less))
+
+-- one more piece is looked at
+holds_more : (ps : List Piece) (i e : ℕ) (d p : Piece) → i < length ps → get_or ps i d ≡ p → holds (take (i + 1) ps) e ≡ (holds (take i ps) e || is_edge_of e p)
+holds_more ps i e d p within is = list_any_more (is_edge_of e) ps i d within ∙ ap (λ (q : Piece). holds (take i ps) e || is_edge_of e q) is
+
+-- a piece that isn't the edge changes nothing
+pub net_load-other : (g : Grid) (width : ℕ) (ps : List Piece) (i e : ℕ) (d p : Piece) → i < length ps → get_or ps i d ≡ p → is_edge_of e p ≡ false → net_load g width (take (i + 1) ps) e ≡ net_load g width (take i ps) e
+net_load-other g width ps i e d p within is other =
+    ap (λ (b : Bool). cond b (demand_on g width e) 0)
+    (holds_more ps i e d p within is ∙ ap (λ (b : Bool). holds (take i ps) e || b) other ∙ or_false (holds (take i ps) e))
+
+-- the edge counts from now on
+net_load-new : (g : Grid) (width : ℕ) (ps : List Piece) (i e : ℕ) (d p : Piece) → i < length ps → get_or ps i d ≡ p → is_edge_of e p ≡ true → net_load g width (take (i + 1) ps) e ≡ demand_on g width e
+net_load-new g width ps i e d p within is same =
+    ap (λ (b : Bool). cond b (demand_on g width e) 0)
+    (holds_more ps i e d p within is ∙ ap (λ (b : Bool). holds (take i ps) e || b) same ∙ or_true (holds (take i ps) e))
+
+-- before, it didn't
+net_load-none : (g : Grid) (width : ℕ) (ps : List Piece) (i : ℕ) (d : Piece) (x : EdgeNumber) → IsRising ps → i < length ps → get_or ps i d ≡ Edge x → net_load g width (take i ps) x.0 ≡ 0
+net_load-none g width ps i d x rising within is = ap (λ (b : Bool). cond b (demand_on g width x.0) 0) (not_before ps i d x rising within is)
+
+-- what was counted of a net's load so far, and that no edge has more than the greatest demand
+pub record IsCounted (g : Grid) (width : ℕ) (ps : List Piece) (i : ℕ) (first loads : List ℕ) : Type 0 where
+  pub value : (e : ℕ) → slice_index loads e ≡ slice_index first e + net_load g width (take i ps) e
+  pub limit : (e : ℕ) → net_load g width (take i ps) e ≤ MAX_DEMAND
+
+put_together : (loads first before demand after : ℕ) → loads ≡ first + before → before ≡ 0 → after ≡ demand → loads + demand ≡ first + after
+put_together loads first before demand after is none new = omega arith
+
+-- an edge's demand is added to its load
+pub IsCounted-edge : (g : Grid) (width : ℕ) (ps : List Piece) (i : ℕ) (d : Piece) (x : EdgeNumber) (first loads : List ℕ) → IsRising ps → i < length ps → get_or ps i d ≡ Edge x → x.0 < length loads → demand_on g width x.0 ≤ MAX_DEMAND → IsCounted g width ps i first loads → IsCounted g width ps (i + 1) first (slice_set loads x.0 (slice_index loads x.0 + demand_on g width x.0))
+IsCounted-edge g width ps i d x first loads rising within is inside small before =
+    let new = net_load-new g width ps i x.0 d (Edge x) within is (eq-eqb x.0 x.0 refl) in
+    let off : (e : ℕ) → (x.0 ≡ e → ⊥) → net_load g width (take (i + 1) ps) e ≡ net_load g width (take i ps) e =
+    λ e other. net_load-other g width ps i e d (Edge x) within is (ne_eqb x.0 e other) in
+    record {
+      value = λ e. ⊎_elim
+          (λ (here : x.0 ≡ e). subst (λ (y : ℕ). slice_index (slice_set loads x.0 (slice_index loads x.0 + demand_on g width x.0)) y ≡ slice_index first y + net_load g width (take (i + 1) ps) y) here
+          (get_or-set_same loads x.0 (slice_index loads x.0 + demand_on g width x.0) 0 inside
+          ∙ put_together _ _ _ _ _ (before.value x.0) (net_load-none g width ps i d x rising within is) new))
+          (λ (other : x.0 ≡ e → ⊥). get_or-set_other loads x.0 e (slice_index loads x.0 + demand_on g width x.0) 0 (λ at. other (sym at))
+          ∙ before.value e ∙ ap (λ (y : ℕ). slice_index first e + y) (sym (off e other)))
+          (cases_eq x.0 e);
+      limit = λ e. ⊎_elim
+          (λ (here : x.0 ≡ e). subst (λ (y : ℕ). net_load g width (take (i + 1) ps) y ≤ MAX_DEMAND) here (subst (λ (y : ℕ). y ≤ MAX_DEMAND) (sym new) small))
+          (λ (other : x.0 ≡ e → ⊥). subst (λ (y : ℕ). y ≤ MAX_DEMAND) (sym (off e other)) (before.limit e))
+          (cases_eq x.0 e);
+    }
+
+-- a via changes no load
+pub IsCounted-via : (g : Grid) (width : ℕ) (ps : List Piece) (i : ℕ) (d : Piece) (v : ViaNumber) (first loads : List ℕ) → i < length ps → get_or ps i d ≡ Via v → IsCounted g width ps i first loads → IsCounted g width ps (i + 1) first loads
+IsCounted-via g width ps i d v first loads within is before =
+    let same : (e : ℕ) → net_load g width (take (i + 1) ps) e ≡ net_load g width (take i ps) e = λ e. net_load-other g width ps i e d (Via v) within is refl in
+    record {
+      value = λ e. before.value e ∙ ap (λ (y : ℕ). slice_index first e + y) (sym (same e));
+      limit = λ e. subst (λ (y : ℕ). y ≤ MAX_DEMAND) (sym (same e)) (before.limit e);
+    }
+
+-- the number of an edge of the size is one of the table's
+pub edge_number : (s : Size) (ps : List Piece) (i : ℕ) (d : Piece) (x : EdgeNumber) → ArePieces s ps → i < length ps → get_or ps i d ≡ Edge x → x.0 < 2 * vertices s
+edge_number s ps i d x pieces within is =
+    let piece : IsPiece s (Edge x) = subst (IsPiece s) is (pieces i d within) in
+    omega (arith, piece.0)
+
+-- one more net
+pub load_more : (g : Grid) (nets : List NetSpec) (trees : List (List Piece)) (k e : ℕ) (n : NetSpec) (tree : List Piece) (before after : ℕ) → k < length nets → k < length trees → n ≡ get_or nets k n → tree ≡ get_or trees k tree → before ≡ sum_by (λ x. net_load g x.0.width x.1 e) (take k (zip nets trees)) → after ≡ before + net_load g n.width tree e → after ≡ sum_by (λ x. net_load g x.0.width x.1 e) (take (k + 1) (zip nets trees))
+load_more g nets trees k e n tree before after in_nets in_trees net_is tree_is so_far more =
+    let f : NetSpec × List Piece → ℕ = λ x. net_load g x.0.width x.1 e in
+    let within : k < length (zip nets trees) = omega (arith, length-zip nets trees) in
+    let at : get_or (zip nets trees) k (n, tree) ≡ (n, tree) =
+    get_or-zip nets trees k (n, tree) in_nets in_trees ∙ ap (λ (x : NetSpec). (x, get_or trees k tree)) (sym net_is) ∙ ap (λ (t : List Piece). (n, t)) (sym tree_is) in
+    let step = sum_by_more f (zip nets trees) k (n, tree) within ∙ ap (λ (y : NetSpec × List Piece). sum_by f (take k (zip nets trees)) + f y) at in
+    more ∙ ap (λ (y : ℕ). y + net_load g n.width tree e) so_far ∙ sym step

@@ -1,0 +1,29 @@
+use Rattle.std.proofs.Common.{◌≡◌, ◌*◌, ◌≤◌, ◌<◌, ℕ, length, slice_index, List, refl, sym, ◌∙◌, subst, arith}
+use Rattle.grid_base.specs.declared.piece.Piece.{Piece}
+use Rattle.grid_base.specs.Numbers.{vertices}
+use Rattle.grid_graph.specs.declared.limits.TheConstants.{MAX_DEMAND}
+use Rattle.grid_graph.specs.Grids.{demand_on}
+use Rattle.tree_set.specs.Order.{IsRising}
+use Rattle.tree_set.specs.Routings.{ArePieces}
+use Rattle.tree_set.proofs.Loads.{IsCounted-edge, IsCounted-via, edge_number}
+use Rattle.tree_set.proofs.load.add_load.Goals as goal
+use Rattle.tree_set.proofs.load.add_load.Goals.{in-Edge, in_default}
+
+pub loop-p-preserved : goal.loop-p-preserved
+loop-p-preserved c =
+    let g = c.args.grid.now in
+    let ps = c.pieces-p-items.result.now in
+    let i = c.loop-p.p-index in
+    let rising : IsRising ps = subst IsRising (sym c.pieces-p-items.ensures.listed) c.pieces-p-items.ensures.rising in
+    let pieces : ArePieces g.size ps = subst (ArePieces g.size) (sym c.pieces-p-items.ensures.listed) c.requires.pieces in
+    elim c.match-p.branch [
+      | in-Edge w ↦
+          let x = w.in-Edge.e in
+          let inside : x.0 < length c.loop-p.loads =
+          subst (λ (n : ℕ). x.0 < n) (sym (c.loop-p.auto.loads ∙ c.requires.table)) (edge_number g.size ps i _ x pieces c.loop-p-test.true w.in-Edge.is) in
+          let small : demand_on g c.args.width x.0 ≤ MAX_DEMAND = subst (λ (n : ℕ). n ≤ MAX_DEMAND) w.demand.ensures.value w.demand.ensures.limit in
+          rw (w.loads-is, w.from.ensures, w.demand.ensures.value)
+          (IsCounted-edge g c.args.width ps i _ x c.args.loads.now c.loop-p.loads rising c.loop-p-test.true w.in-Edge.is inside small c.loop-p.invariant)
+      | in_default w ↦
+          rw w.loads-is (IsCounted-via g c.args.width ps i _ w.in_default.field-0 c.args.loads.now c.loop-p.loads c.loop-p-test.true w.in_default.is c.loop-p.invariant)
+    ]

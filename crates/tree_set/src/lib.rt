@@ -1,0 +1,44 @@
+//! Trees, loads and measures: the sets of pieces that nets are routed with, and what they use of the edges.
+//!
+//! ```text
+//! let tree = Tree::of(pieces);                                      // in any order, with repeats
+//! if inside(&grid, Ground::Open, &tree) && joins(alloc, size, &tree, terminals)? {
+//!     add_load(&grid, width, &tree, loads.as_mut_slice());
+//! }
+//! let measure = measure_of(alloc, &design, trees.as_slice())?;      // overflow, wirelength, peak
+//! ```
+//!
+//! It stands on `grid_base` and `grid_graph`, whose pieces, walks, grids and designs it speaks of.
+//!
+//! Promised: a tree is the set of the pieces that it was made of, as a strictly rising list; `joins` and `inside`
+//! are true exactly where walks in the tree join the terminals and where the ground allows every piece; loads and
+//! measures are exactly those of `specs/Loads.antt` and `specs/Measures.antt`; and fractions are in lowest terms and
+//! compared exactly.
+
+#![tactic(auto)]
+
+mod divisor;
+mod fraction;
+mod joining;
+mod limits;
+mod load;
+mod measure;
+mod measures;
+mod overflow;
+mod peak;
+mod reach;
+mod touching;
+mod tree;
+mod within;
+
+pub use fraction::Fraction;
+pub use joining::joins;
+pub use limits::{MAX_DENOMINATOR, NUMERATOR_LIMIT};
+pub use load::add_load;
+pub use measure::Measure;
+pub use measures::measure_of;
+pub use tree::Tree;
+pub use within::inside;
+
+#[cfg(test)]
+mod tests;
