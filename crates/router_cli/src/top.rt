@@ -1,0 +1,131 @@
+//! The top call.
+
+ghost use Rattle.std.specs.Prelude.{◌≡◌, ◌≢◌, ◌↔◌, ◌⊎◌, ◌≤◌, ℕ, List, [], ◌∷◌, take, Contains, All};
+ghost use Rattle.gr_desk.specs.declared.port.Port.{Port};
+ghost use Rattle.gr_desk.specs.declared.port.Port.TheVariants.{In, Report};
+ghost use Rattle.ispd_reader.specs.declared.first.First.{First};
+ghost use Rattle.gr_desk.specs.Runs.{Adds};
+ghost use Rattle.grid_base.specs.Numbers.{IsPiece};
+ghost use Rattle.ispd_reader.specs.FirstForm.{IsFirstForm, IsWithinLimits};
+ghost use Rattle.route_text.specs.declared.frame.Frame.{Frame};
+ghost use Rattle.router_cli.specs.OneNet.{IsFrameOf};
+ghost use Rattle.router_cli.specs.declared.refusal.Refusal.{Refusal};
+ghost use Rattle.router_cli.specs.Promise.{IsRouteCommand, IsNoCommand, IsInput, IsOtherForm, IsReport, ReportGains, InputFailed, OutputFailed, ExpectsWords, status_of, lines_of, report_of};
+
+use crate::prepared::prepare;
+use crate::refusal::Refusal;
+use crate::report::write_report;
+use crate::routed_design::RoutedDesign;
+use gr_desk::{Desk, Failed, Port, write_all};
+use std::alloc::Global;
+
+/// All that the program does. `words` are the arguments without the program's name, and the answer
+/// is the status that the program ends with.
+///
+/// | Status | Says |
+/// |---|---|
+/// | 0 | the report has the net's route, its overflow and its wirelength |
+/// | 2 | the words are no command |
+/// | 3 | the input is not of a form that is built |
+/// | 6 | the input could not be opened or read |
+/// | 7 | the report could not be written whole |
+/// | 8 | want of memory, before a report was begun |
+pub fn run<D: Desk>(alloc: Global, words: &Vec<String>, desk: &mut D) -> u8
+    // Status 0: the report has gained the route text of a set of pieces that joins the net's pins
+    // inside the grid, and the overflow and the wirelength of that very set.
+    ensures routed { result ≡ 0 → (text : List ℕ)
+        × IsReport words.now.items (D.told desk.old) text
+        × ReportGains (D.told desk.old) (D.told desk.new) text }
+    // Status 7: it has gained a part of such a text from its front, and nothing else.
+    ensures cut_short { result ≡ 7 → (text : List ℕ) × (n : ℕ)
+        × IsReport words.now.items (D.told desk.old) text
+        × ReportGains (D.told desk.old) (D.told desk.new) (take n text) }
+    // A refused run adds its lines, or a part of them from their front ..
+    ensures refused { (r : Refusal) → result ≡ status_of r → (n : ℕ)
+        × ReportGains (D.told desk.old) (D.told desk.new) (take n (lines_of r)) }
+    // .. and all of them where no write failed.
+    ensures refused_whole { (r : Refusal) → result ≡ status_of r
+        → ¬ OutputFailed (D.told desk.old) (D.told desk.new)
+        → ReportGains (D.told desk.old) (D.told desk.new) (lines_of r) }
+    // Where the words are a command, the input has the first form and no call of the desk failed,
+    // only want of memory keeps the run from its report.
+    ensures complete { (bytes : List ℕ) (first : First)
+        → IsInput words.now.items (D.told desk.old) bytes
+        → IsFirstForm bytes first
+        → ¬ InputFailed (D.told desk.old) (D.told desk.new)
+        → ¬ OutputFailed (D.told desk.old) (D.told desk.new)
+        → (result ≡ 0) ⊎ (result ≡ 8) }
+    ensures statuses { Contains (0 ∷ 2 ∷ 3 ∷ 6 ∷ 7 ∷ 8 ∷ []) result }
+    // Status 2 comes exactly where the words are no command.
+    ensures no_command { (result ≡ 2) ↔ IsNoCommand words.now.items }
+    ensures command { result ≢ 2 → (name : List ℕ) × IsRouteCommand words.now.items name }
+    // Status 3 comes only where the input has another form ..
+    ensures other_form { result ≡ 3 → (bytes : List ℕ)
+        → IsInput words.now.items (D.told desk.old) bytes → IsOtherForm bytes }
+    // .. and then always, where no open or read failed and memory sufficed.
+    ensures form_tested { (bytes : List ℕ)
+        → IsInput words.now.items (D.told desk.old) bytes
+        → IsOtherForm bytes
+        → ¬ InputFailed (D.told desk.old) (D.told desk.new)
+        → (result ≡ 3) ⊎ (result ≡ 8) }
+    // Status 6 comes only where an open or a read failed, 7 only where a create or a write did.
+    ensures unread { result ≡ 6 → InputFailed (D.told desk.old) (D.told desk.new) }
+    ensures unwritten { result ≡ 7 → OutputFailed (D.told desk.old) (D.told desk.new) }
+    // No output file is created or written, and no other input is opened or read than In.
+    ensures other_ports { (p : Port) → p ≢ In → p ≢ Report
+        → (D.told desk.new).ports p ≡ (D.told desk.old).ports p }
+    ensures input_only_read { (D.told desk.new).ports In ≡ record ((D.told desk.old).ports In) {
+      rest = ((D.told desk.new).ports In).rest;
+      state = ((D.told desk.new).ports In).state;
+    } }
+    ensures report_only_written { (D.told desk.new).ports Report ≡ record ((D.told desk.old).ports Report) {
+      written = ((D.told desk.new).ports Report).written;
+    } }
+    ensures files { (D.told desk.new).files ≡ (D.told desk.old).files }
+    // The run is in order: it opens the words' name at In and no other, and reads what it opened.
+    ensures in_order { ExpectsWords words.now.items (D.told desk.old)
+        → (D.told desk.new).strayed ≡ (D.told desk.old).strayed }
+    // Without a command the run does nothing but write its lines.
+    ensures nothing_read { result ≡ 2 → (D.told desk.new).ports In ≡ (D.told desk.old).ports In }
+    ensures nothing_strayed { result ≡ 2 → (D.told desk.new).strayed ≡ (D.told desk.old).strayed }
+    // Where an open or a read failed, the status is 6; where it is 0, no create or write failed.
+    ensures in_stays { result ≢ 6 → (D.told desk.new).in_faults ≡ (D.told desk.old).in_faults }
+    ensures out_stays { result ≡ 0 → (D.told desk.new).out_faults ≡ (D.told desk.old).out_faults }
+    // The counts of faults never fall.
+    ensures in_count { (D.told desk.old).in_faults ≤ (D.told desk.new).in_faults }
+    ensures out_count { (D.told desk.old).out_faults ≤ (D.told desk.new).out_faults }
+{
+    match prepare(alloc, words, desk) {
+        Ok(routed) => report(desk, &routed),
+        Err(refusal) => refuse(desk, refusal),
+    }
+}
+
+// Writes the report, and answers the status.
+fn report<D: Desk>(desk: &mut D, routed: &RoutedDesign) -> u8
+    requires limits { IsWithinLimits routed.now.design }
+    requires inside { All (IsPiece routed.now.design.size) routed.now.tree }
+    ensures whole { result ≡ 0 → (frame : Frame) × IsFrameOf routed.now.design frame
+        × Adds (D.told desk.old) (D.told desk.new) Report (report_of frame routed.now.design routed.now.tree) }
+    ensures part { result ≡ 7 → (frame : Frame) × (n : ℕ) × IsFrameOf routed.now.design frame
+        × Adds (D.told desk.old) (D.told desk.new) Report (take n (report_of frame routed.now.design routed.now.tree)) }
+    ensures statuses { (result ≡ 0) ⊎ (result ≡ 7) }
+    ensures cause { result ≡ 7 → OutputFailed (D.told desk.old) (D.told desk.new) }
+    ensures quiet { result ≡ 0 → (D.told desk.new).out_faults ≡ (D.told desk.old).out_faults }
+{
+    match write_report(desk, routed) {
+        Ok(()) => 0,
+        Err(Failed) => 7,
+    }
+}
+
+// Says on the report why the run is refused, and answers the status, which stays where that fails.
+fn refuse<D: Desk>(desk: &mut D, refusal: Refusal) -> u8
+    ensures status { result ≡ status_of refusal }
+    ensures part { (n : ℕ) × Adds (D.told desk.old) (D.told desk.new) Report (take n (lines_of refusal)) }
+    ensures whole { ¬ OutputFailed (D.told desk.old) (D.told desk.new)
+        → Adds (D.told desk.old) (D.told desk.new) Report (lines_of refusal) }
+{
+    let _ = write_all(desk, Port::Report, refusal.lines());
+    refusal.status()
+}
