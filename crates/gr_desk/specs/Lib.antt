@@ -8,3 +8,4 @@ pub mod Files
 pub mod Slot
 pub mod Memory
 pub mod NeverFails
+pub mod Pens
