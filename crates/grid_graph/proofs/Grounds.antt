@@ -59,6 +59,11 @@ cut_off_apart g n labels place right vertex apart = record {
   joined = λ i first v below at_first at_v. right.joined first.0 v.0 (vertex 0 first at_first) (vertex i v at_v) (sym (apart.alike i first v below at_first at_v));
 }
 
+-- a ground joins the terminals whose ground it is
+pub ground_joins : (g : Grid) (terminals : List Vertex) (over : Ground) → IsGround g terminals over → JoinsTerminals g over terminals
+ground_joins g terminals Open is = is
+ground_joins g terminals WithChoked is = is.1
+
 -- what is allowed on open ground is allowed with choked edges too
 pub Allows-choked : (g : Grid) (p : Piece) → Allows g Open p → Allows g WithChoked p
 Allows-choked g (Edge e) allowed = λ wall. cc

@@ -1,8 +1,8 @@
 -- How labels are passed on along links.
-use Rattle.std.proofs.Common.{◌≡◌, ◌≢◌, ℕ, ◌+◌, ◌<◌, ◌⊎◌, List, [], ◌∷◌, ◌++◌, slice_index, slice_set, replicate, Some, None, refl, sym, ◌∙◌, ap, subst, inl, inr, ⊎_elim, arith}
+use Rattle.std.proofs.Common.{◌≡◌, ◌≢◌, ℕ, ◌+◌, ◌<◌, List, [], ◌∷◌, ◌++◌, slice_index, slice_set, replicate, Some, None, refl, sym, ◌∙◌, ap, subst, inl, inr, ⊎_elim, arith}
 use Rattle.std.proofs.lemmas.Bool.{cases_eq}
 use Rattle.std.proofs.lemmas.List.{get_or-set_same, get_or-set_other, length-replicate, get_or-replicate}
-use Rattle.std.proofs.lemmas.List.Elements.{Contains-push, Contains-push_cases, Contains-append_left}
+use Rattle.std.proofs.lemmas.List.Elements.{Contains-push, Contains-push_cases}
 use Rattle.std.proofs.Math.ListN.{length-set}
 use Rattle.std.proofs.lemmas.Option.{same_Some, slice_get_within}
 use Rattle.grid_graph.specs.Lists.{At}
@@ -16,6 +16,7 @@ use Rattle.grid_base.specs.Walks.{AreLinked, WalkBetween, InVertices}
 use Rattle.grid_base.proofs.Walks.{WalkBetween-refl, WalkBetween-sym, WalkBetween-trans, WalkBetween-link, AreLinked-sym, linked_vertex, closed_under_walks}
 use Rattle.grid_graph.specs.declared.labels.TheConstants.{NO_LABEL}
 use Rattle.grid_graph.specs.Labels.{AreLabels, IsLabelled, ArePartial, WaitsWith, KeepsLabels}
+use Rattle.grid_graph.proofs.Waiting.{pushed_cases, pushed_keeps, popped_waits, popped_waited}
 
 -- a set of waiting vertices may be told in another way
 pub ArePartial-same : (s : Size) (F : Piece → Type 0) (labels : List ℕ) (P Q : ℕ → Type 0) → ((v : ℕ) → P v → Q v) → ((v : ℕ) → Q v → P v) → ArePartial s F labels P → ArePartial s F labels Q
@@ -32,18 +33,6 @@ ArePartial-same s F labels P Q to from partial = record {
 pub linked_label : (s : Size) (F : Piece → Type 0) (labels : List ℕ) (P : ℕ → Type 0) (from to : ℕ) → ArePartial s F labels P → P from → AreLinked s F from to → IsLabelled labels to → slice_index labels to ≡ slice_index labels from
 linked_label s F labels P from to partial waits link labelled =
     ⊎_elim (λ same. sym same) (λ also. partial.level to from also waits) (partial.spread to from labelled (AreLinked-sym s F from to link))
-
--- what waits where one more was pushed
-pushed_cases : (waiting : List Vertex) (from to : Vertex) (v : ℕ) → WaitsWith (waiting ++ to ∷ []) from v → WaitsWith waiting from v ⊎ (v ≡ to.0)
-pushed_cases waiting from to v waits =
-    ⊎_elim
-    (λ pushed. ⊎_elim (λ old. inl (inl old)) (λ new. inr (sym (ap (λ (x : Vertex). x.0) new))) (Contains-push_cases waiting to (record { 0 = v }) pushed))
-    (λ is. inl (inr is))
-    waits
-
-pushed_keeps : (waiting : List Vertex) (from to : Vertex) (v : ℕ) → WaitsWith waiting from v → WaitsWith (waiting ++ to ∷ []) from v
-pushed_keeps waiting from to v waits =
-    ⊎_elim (λ old. inl (Contains-append_left waiting (to ∷ []) (record { 0 = v }) old)) (λ is. inr is) waits
 
 -- a new label where there was none keeps all others
 pub kept_by_set : (labels : List ℕ) (at label : ℕ) → slice_index labels at ≡ NO_LABEL → KeepsLabels labels (slice_set labels at label)
@@ -150,12 +139,7 @@ no_wait v waits = omega (arith, waits.1)
 -- the vertex that was taken off the list still waits
 pub ArePartial-popped : (s : Size) (F : Piece → Type 0) (labels : List ℕ) (waiting : List Vertex) (from : Vertex) → ArePartial s F labels (InVertices (waiting ++ from ∷ [])) → ArePartial s F labels (WaitsWith waiting from)
 ArePartial-popped s F labels waiting from =
-    ArePartial-same s F labels (InVertices (waiting ++ from ∷ [])) (WaitsWith waiting from)
-    (λ v waits. ⊎_elim (λ old. inl old) (λ last. inr (sym (ap (λ (x : Vertex). x.0) last))) (Contains-push_cases waiting from (record { 0 = v }) waits))
-    (λ v waits. ⊎_elim
-    (λ old. Contains-append_left waiting (from ∷ []) (record { 0 = v }) old)
-    (λ is. subst (InVertices (waiting ++ from ∷ [])) (sym is) (Contains-push waiting from))
-    waits)
+    ArePartial-same s F labels (InVertices (waiting ++ from ∷ [])) (WaitsWith waiting from) (popped_waits waiting from) (popped_waited waiting from)
 
 -- where no vertex has a label, the labels are right as far as they go
 pub ArePartial-blank : (s : Size) (F : Piece → Type 0) → ArePartial s F (replicate (vertices s) NO_LABEL) (InVertices [])

@@ -1,5 +1,5 @@
 -- The neighbours of a vertex are those that a piece connects with it.
-use Rattle.std.proofs.Common.{◌≡◌, ℕ, zero, suc, ◌+◌, ◌-◌, ◌*◌, ◌<◌, Bool, true, false, ltb, List, [], ◌∷◌, Option, Some, None, slice_get, get_or, Contains, IfSome, refl, sym, ◌∙◌, ap, subst, inl, inr, ⊎_elim, arith}
+use Rattle.std.proofs.Common.{◌≡◌, ℕ, zero, suc, ◌+◌, ◌-◌, ◌*◌, ◌<◌, Bool, true, false, ltb, List, [], ◌∷◌, Option, Some, None, slice_get, get_or, drop, length, Contains, IfSome, refl, sym, ◌∙◌, ap, subst, inl, inr, ⊎_elim, arith}
 use Rattle.grid_base.specs.declared.piece.Piece.{Piece}
 use Rattle.grid_base.specs.declared.size.Size.{Size}
 use Rattle.grid_base.specs.declared.vertex.Vertex.{Vertex}
@@ -7,6 +7,7 @@ use Rattle.grid_base.specs.Numbers.{vertex_number, col_of, row_of, layer_of, pla
 use Rattle.grid_base.proofs.Pieces.{near_end-to_next_col, near_end-to_next_row, far_place-to_next_col, far_place-to_next_row, far_end-to_next_col, far_end-to_next_row, far_end-to_next_layer, one_from_near, place_at-far_end}
 use Rattle.grid_base.proofs.Places.{place_at-inside, place_at-number, vertex_number-place}
 use Rattle.std.proofs.lemmas.Bool.{ltb-true, lt-ltb}
+use Rattle.std.proofs.lemmas.List.{at_drop_more}
 use Rattle.std.proofs.lemmas.Option.{same_Some, slice_get-get_or}
 use Rattle.grid_base.specs.declared.place.Place.{Place}
 use Rattle.grid_graph.specs.Lists.{At}
@@ -221,6 +222,20 @@ pub connects_neighbour : (s : Size) (p : Piece) (v : ℕ) (w : Vertex) → Conne
 connects_neighbour s p v w connects =
     let found = connects_step s p v w.0 connects in
     present_contains (steps s v) found.0 (w, p) found.1
+
+next_at : {X : Type 0} (x : X) (ys : List X) (n : ℕ) → 0 < n → slice_get (x ∷ ys) n ≡ slice_get ys (n - 1)
+next_at x ys zero positive = absurd (omega (arith, positive))
+next_at x ys (suc n) positive = let back : suc n - 1 ≡ n = omega arith in rw back refl
+
+-- one that isn't there counts nothing among those that are there
+pub present-none : {X : Type 0} (xs : List (Option X)) (k n : ℕ) → k < length xs → get_or xs k None ≡ None → slice_get (present (drop (k + 1) xs)) n ≡ slice_get (present (drop k xs)) n
+present-none {X = X} xs k n within is =
+    sym (at_drop_more (λ (ys : List (Option X)). slice_get (present ys) n) xs k None within ∙ ap (λ (o : Option X). slice_get (present (o ∷ drop (k + 1) xs)) n) is)
+
+-- and one that is there counts once
+pub present-some : {X : Type 0} (xs : List (Option X)) (k n : ℕ) (x : X) → k < length xs → get_or xs k None ≡ Some x → 0 < n → slice_get (present (drop (k + 1) xs)) (n - 1) ≡ slice_get (present (drop k xs)) n
+present-some {X = X} xs k n x within is positive =
+    sym (at_drop_more (λ (ys : List (Option X)). slice_get (present ys) n) xs k None within ∙ ap (λ (o : Option X). slice_get (present (o ∷ drop (k + 1) xs)) n) is ∙ next_at x (present (drop (k + 1) xs)) n positive)
 
 present_place : {X : Type 0} (xs : List (Option X)) (i : ℕ) (x : X) → At (present xs) i x → (k : ℕ) × At xs k (Some x)
 present_place [] i x at = cc

@@ -7,6 +7,7 @@ pub mod Grids
 pub mod Grounds
 pub mod Labels
 pub mod Lists
+pub mod Near
 pub mod Neighbours
 pub mod Nets
 pub mod Standing

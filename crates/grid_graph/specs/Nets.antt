@@ -12,8 +12,9 @@ use Rattle.grid_graph.specs.Lists.{At, HasNoRepeats}
 abbrev pub IdsDiffer : List NetSpec → Type 0
 IdsDiffer nets = (i j : ℕ) (m n : NetSpec) → At nets i m → At nets j n → m.id ≡ n.id → i ≡ j
 
--- a net that fits the grid: its terminals are different vertices, and every demand of its width is within the limit
+-- a net that fits the grid: its id has 32 bits, its terminals are different vertices, and every demand of its width is within the limit
 pub record IsNet (g : Grid) (n : NetSpec) : Type 0 where
+  pub id : n.id ≤ 4294967295
   pub width : IsNetWidth g n.width
   pub vertices : (i : ℕ) (v : Vertex) → At n.terminals i v → IsVertex g.size v.0
   pub distinct : HasNoRepeats n.terminals

@@ -1,10 +1,9 @@
 //! Capacities before any adjustment.
 
-ghost use Rattle.std.specs.Prelude.{◌≡◌, ℕ, ◌*◌, ◌≤◌, length, slice_index, IfOk};
+ghost use Rattle.std.specs.Prelude.{◌≡◌, ℕ, ◌*◌, ◌≤◌, ◌^◌, length, slice_index, IfOk};
 ghost use Rattle.grid_base.specs.Numbers.{vertices};
 ghost use Rattle.grid_graph.specs.Capacities.{is_edge, layer_capacity};
 ghost use Rattle.grid_graph.specs.GridLimits.{IsPerLayer, IsCapacities};
-ghost use Rattle.grid_graph.specs.declared.limits.TheConstants.{MAX_CAPACITY};
 
 use grid_base::{Edge, Piece, Size, Vertex};
 use std::alloc::{AllocError, Global};
@@ -33,8 +32,8 @@ pub fn first_capacities(
     vertical: &[u32],
     horizontal: &[u32],
 ) -> Result<Vec<u32>, AllocError>
-    requires vertical { IsPerLayer size MAX_CAPACITY vertical.now }
-    requires horizontal { IsPerLayer size MAX_CAPACITY horizontal.now }
+    requires vertical { IsPerLayer size (2 ^ 18) vertical.now }
+    requires horizontal { IsPerLayer size (2 ^ 18) horizontal.now }
     ensures table { IfOk result (λ v. IsCapacities size v.items) }
     ensures value { IfOk result (λ v. (e : ℕ) → slice_index v.items e ≡ layer_capacity size vertical.now horizontal.now e) }
 {

@@ -7,7 +7,7 @@ use crate::grid_parts::GridParts;
 use crate::grid_refusal::GridRefusal;
 use crate::ground::Ground;
 use crate::kind::Kind;
-use crate::steps::{nth_present, steps};
+use crate::steps::nth_step;
 use crate::tiles::{tile_index, written_position};
 use grid_base::{Edge, Piece, Size, Vertex};
 use std::alloc::Global;
@@ -32,7 +32,6 @@ impl Grid {
     ghost use Rattle.grid_base.specs.Numbers.{IsVertex, IsPiece, Connects};
     ghost use Rattle.grid_graph.specs.Capacities.{layer_capacity};
     ghost use Rattle.grid_graph.specs.GridLimits.{IsPosition};
-    ghost use Rattle.grid_graph.specs.declared.limits.TheConstants.{MAX_CAPACITY, MAX_DEMAND};
     ghost use Rattle.grid_graph.specs.Grids as grids;
     ghost use Rattle.grid_graph.specs.Neighbours.{neighbours};
 
@@ -63,7 +62,7 @@ impl Grid {
     /// Sets the capacity of one edge, and with it its kind. A later adjustment of the edge replaces it.
     pub fn adjust(&mut self, e: Edge, level: u32)
         requires edge { IsPiece self.old.size (Piece.Edge e) }
-        requires limit { level ≤ MAX_CAPACITY }
+        requires limit { level ≤ 2 ^ 18 }
         ensures level { grids.capacity self.new e.0 ≡ level }
         ensures others { (other : ℕ) → other ≢ e.0 → grids.capacity self.new other ≡ grids.capacity self.old other }
         ensures rest { grids.SameButCapacities self.old self.new }
@@ -82,7 +81,7 @@ impl Grid {
     pub fn capacity(&self, e: Edge) -> u32
         requires { grids.IsEdgeNumber self.now e.0 }
         ensures value { result ≡ grids.capacity self.now e.0 }
-        ensures limit { result ≤ MAX_CAPACITY }
+        ensures limit { result ≤ 2 ^ 18 }
     {
         self.capacities[e.0 as usize]
     }
@@ -110,7 +109,7 @@ impl Grid {
         requires width { grids.IsNetWidth self.now width }
         ensures value { result ≡ grids.demand_on self.now width e.0 }
         ensures positive { 0 < result }
-        ensures limit { result ≤ MAX_DEMAND }
+        ensures limit { result ≤ 1023 }
     {
         let layer = self.size.place_of(Vertex(e.0 / 2)).layer as usize;
         width.max(self.widths[layer]) + self.spacings[layer]
@@ -171,8 +170,7 @@ impl Grid {
         ensures connects { IfSome result (λ x. Connects self.now.size x.1 v.0 x.0.0) }
         ensures every { (w : Vertex) (p : Piece) → Connects self.now.size p v.0 w.0 → Contains (neighbours self.now.size v.0) (w, p) }
     {
-        let steps = steps(self.size, v);
-        nth_present(&steps, i)
+        nth_step(self.size, v, i)
     }
 
     /// Whether a net of this ground may use the piece. No number that belongs to no piece is allowed.

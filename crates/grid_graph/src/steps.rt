@@ -1,6 +1,6 @@
 //! The steps from a vertex to its neighbours.
 
-ghost use Rattle.std.specs.Prelude.{◌≡◌, slice_get};
+ghost use Rattle.std.specs.Prelude.{◌≡◌, ◌<◌, None, get_or, slice_get};
 ghost use Rattle.grid_base.specs.Numbers.{IsVertex, place_at, vertex_number};
 ghost use Rattle.grid_graph.specs.Neighbours as near;
 ghost use Rattle.grid_graph.specs.Standing.{StandsAt};
@@ -89,13 +89,15 @@ fn up(size: Size, place: Place, v: Vertex) -> Option<(Vertex, Piece)>
     ))
 }
 
-/// The i-th of those that are there.
-pub fn nth_present(steps: &[Option<(Vertex, Piece)>], i: u32) -> Option<(Vertex, Piece)>
-    ensures { result ≡ slice_get (near.present steps.now) i }
+/// The i-th of the steps that stay inside the grid, in the order of `steps`. None past it is worked out.
+pub fn nth_step(size: Size, v: Vertex, i: u32) -> Option<(Vertex, Piece)>
+    requires { IsVertex size v.0 }
+    ensures { result ≡ slice_get (near.neighbours size v.0) i }
 {
+    let place = size.place_of(v);
     let mut left = i;
-    for step in steps {
-        if let Some(found) = *step {
+    for side in 0..6 {
+        if let Some(found) = step_to(size, place, v, side) {
             if left == 0 {
                 return Some(found);
             }
@@ -103,4 +105,20 @@ pub fn nth_present(steps: &[Option<(Vertex, Piece)>], i: u32) -> Option<(Vertex,
         }
     }
     None
+}
+
+/// The step at this place of the list of all six.
+fn step_to(size: Size, place: Place, v: Vertex, side: u32) -> Option<(Vertex, Piece)>
+    requires side { side < 6 }
+    requires place { StandsAt size place v.0 }
+    ensures { result ≡ get_or (near.steps size v.0) side None }
+{
+    match side {
+        0 => west(size, place, v),
+        1 => east(size, place, v),
+        2 => south(size, place, v),
+        3 => north(size, place, v),
+        4 => down(size, place, v),
+        _ => up(size, place, v),
+    }
 }

@@ -4,10 +4,9 @@ use grid_base::Piece;
 
 /// What a search may use: a finite list of allowed pieces with their weights.
 pub trait Weights {
-    ghost use Rattle.std.specs.Prelude.{◌≡◌, ◌↔◌, ◌≤◌, ℕ, List, IsTrue};
+    ghost use Rattle.std.specs.Prelude.{◌≡◌, ◌↔◌, ◌≤◌, ◌^◌, ℕ, List, IsTrue};
     ghost use Rattle.grid_base.specs.declared.piece.Piece.{Piece};
     ghost use Rattle.grid_base.specs.declared.size.Size.{Size};
-    ghost use Rattle.grid_graph.specs.declared.limits.TheConstants.{MAX_WEIGHT};
     ghost use Rattle.grid_graph.specs.Weighed.{Weighs, IsAllowed, NoPieceTwice, ArePieces, AreSmall};
 
     ghost size: { Self → Size };
@@ -21,7 +20,7 @@ pub trait Weights {
     /// The piece's weight. Of one that isn't allowed it is any number up to `MAX_WEIGHT`.
     fn weight(&self, p: Piece) -> u64
         ensures value { (weight : ℕ) → Weighs (pieces self.now) p weight → result ≡ weight }
-        ensures limit { result ≤ MAX_WEIGHT };
+        ensures limit { result ≤ 2 ^ 38 };
 
     ghost once: { (x : Self) → NoPieceTwice (pieces x) };
 
