@@ -1,6 +1,6 @@
 -- Adjusting a grid step by step.
-use Rattle.std.proofs.Common.{◌≡◌, ◌≢◌, ℕ, suc, ◌+◌, ◌-◌, ◌<◌, ◌≤◌, ◌^◌, Bool, true, false, cond, ◌==◌, List, [], ◌∷◌, ◌++◌, length, Option, Some, None, Result, Ok, Err, refl, sym, ap, ◌∙◌, ⊎_elim, arith, eq-eqb, ne_eqb}
-use Rattle.std.specs.Option.{option_map, unwrap_or}
+use Rattle.std.proofs.Common.{◌≡◌, ◌≢◌, ℕ, ◌+◌, ◌-◌, ◌<◌, ◌≤◌, ◌^◌, true, false, ◌==◌, List, [], ◌∷◌, ◌++◌, length, Option, Some, None, Ok, refl, sym, ap, ◌∙◌, ⊎_elim, arith, eq-eqb, ne_eqb}
+use Rattle.std.specs.Option.{unwrap_or}
 use Rattle.std.proofs.lemmas.Bool.{cases_eq}
 use Rattle.std.proofs.lemmas.List.{length_push}
 use Rattle.text_scan.specs.Tokens.{Token}
@@ -12,7 +12,6 @@ use Rattle.ispd_reader.specs.Parsing.{Rest, Read, ◌>>=◌, Refuses, parts_at}
 use Rattle.ispd_reader.specs.Numbers.{count_at}
 use Rattle.ispd_reader.specs.Header.{Extent}
 use Rattle.ispd_reader.specs.Adjustments.{Adjustment, or_else, level_where, last_level, adjustment_at, more_adjustments_at, counted_adjustments_at, adjustments_at}
-use Rattle.ispd_reader.specs.Views.{extent_of_size}
 use Rattle.ispd_reader.specs.Adjusted.{IsAdjusted, IsAdjustedBy}
 use Rattle.ispd_reader.proofs.InTurn.{goes_on, ends, is_done}
 

@@ -1,11 +1,11 @@
 -- Reading parts one after another, as a loop does.
-use Rattle.std.proofs.Common.{◌≡◌, ℕ, suc, ◌-◌, ◌+◌, ◌≤◌, ◌<◌, List, [], ◌∷◌, ◌++◌, Result, Ok, Err, refl, sym, ap, ◌∙◌, arith}
+use Rattle.std.proofs.Common.{◌≡◌, ℕ, suc, ◌-◌, ◌+◌, ◌≤◌, ◌<◌, List, [], ◌∷◌, ◌++◌, Ok, Err, refl, sym, ◌∙◌, arith}
 use Rattle.ispd_reader.specs.declared.input_error.InputError.{InputError}
 use Rattle.ispd_reader.specs.declared.input_error.InputError.TheVariants as errors
 use Rattle.ispd_reader.specs.declared.number.Number.{Number}
 use Rattle.ispd_reader.specs.Numbers.{number_at}
 use Rattle.ispd_reader.specs.Header.{unused_at}
-use Rattle.ispd_reader.specs.Parsing.{Rest, Read, ◌>>=◌, Refuses, parts_at}
+use Rattle.ispd_reader.specs.Parsing.{Rest, Read, Refuses, parts_at}
 
 -- one more part was read
 pub goes_on : {A : Type 0} (part : List A → Rest → Read A) (before : List A) (count i : ℕ) (rest : Rest) (x : A) (after : Rest) (total : Read (List A)) →

@@ -1,10 +1,10 @@
 -- Reading nets one after another, and what the nets so far keep.
-use Rattle.std.proofs.Common.{◌≡◌, ◌≢◌, ℕ, suc, ◌+◌, ◌-◌, ◌<◌, ◌≤◌, max, Bool, true, false, cond, ◌||◌, ◌==◌, List, [], ◌∷◌, ◌++◌, length, map, get_or, fold, Some, Result, Ok, Err, refl, sym, ap, ◌∙◌, ⊎_elim, ◌⊎◌, le_refl, arith, eq-eqb, ne_eqb, not, subst, zero}
+use Rattle.std.proofs.Common.{◌≡◌, ◌≢◌, ℕ, suc, ◌+◌, ◌-◌, ◌<◌, ◌≤◌, max, Bool, true, false, ◌||◌, ◌==◌, List, [], ◌∷◌, ◌++◌, length, get_or, fold, Some, Ok, Err, refl, sym, ap, ◌∙◌, ⊎_elim, le_refl, arith, eq-eqb, ne_eqb, not, subst, zero}
 use mathlib.Core.Path.{fun_ext}
 use Rattle.std.specs.List.{list_any, sum_by, All, filter, slice_get}
 use Rattle.std.specs.Option.{option_map}
 use Rattle.std.proofs.lemmas.Bool.{cases_Bool, cases_eq, false≢true}
-use Rattle.std.proofs.lemmas.List.{map_push, length_push, length-map}
+use Rattle.std.proofs.lemmas.List.{map_push, length_push}
 use Rattle.std.proofs.lemmas.List.Elements.{All-nil, All-cons, All-head, All-tail, All-filter, All-get_or}
 use Rattle.std.proofs.lemmas.List.Folds.{list_any-append}
 use Rattle.std.proofs.lemmas.List.Sums.{sum_by_push}
@@ -12,12 +12,12 @@ use Rattle.std.proofs.lemmas.Option.{slice_get-map, slice_get_within, get_or_fro
 use Rattle.grid_base.specs.declared.vertex.Vertex.{Vertex}
 use Rattle.grid_graph.specs.declared.grid.Grid.{Grid}
 use Rattle.grid_graph.specs.declared.net_spec.NetSpec.{NetSpec}
-use Rattle.grid_graph.specs.declared.limits.TheConstants.{MAX_NETS, MAX_PINS}
+use Rattle.grid_graph.specs.declared.limits.TheConstants.{MAX_PINS}
 use Rattle.grid_graph.specs.Lists.{At}
-use Rattle.grid_graph.specs.Nets.{IdsDiffer, IsNet, IsDesign}
+use Rattle.grid_graph.specs.Nets.{IdsDiffer, IsNet}
 use Rattle.ispd_reader.specs.declared.input_error.InputError.{InputError}
 use Rattle.ispd_reader.specs.declared.input_error.InputError.TheVariants as errors
-use Rattle.ispd_reader.specs.Parsing.{Rest, Read, ◌>>=◌, Refuses}
+use Rattle.ispd_reader.specs.Parsing.{Rest, Read, Refuses}
 use Rattle.ispd_reader.specs.Header.{Layout}
 use Rattle.ispd_reader.specs.Nets.{Net, greatest, without_repeats, has_id, net_at, more_nets_at}
 use Rattle.ispd_reader.specs.Views.{numbers, net_of, nets_of}

@@ -1,5 +1,5 @@
 -- Where the first token of a text stands.
-use Rattle.std.proofs.Common.{◌≡◌, ℕ, ◌+◌, Bool, true, false, cond, List, [], ◌∷◌, refl, one-add, add-zero, arith, ⊎_elim, ◌==◌, ap, ◌∙◌, Ok, Err, Result, ℤ, pos, neg_ℤ, ◌^◌, length, sym}
+use Rattle.std.proofs.Common.{◌≡◌, ℕ, ◌+◌, true, false, cond, List, [], ◌∷◌, refl, add-zero, arith, ⊎_elim, ◌==◌, ap, ◌∙◌, Ok, Err, Result, ℤ, pos, neg_ℤ, ◌^◌, length, sym}
 use Rattle.std.specs.List.{prefix_len}
 use Rattle.std.proofs.lemmas.Bool.{cases_Bool}
 use Rattle.text_scan.specs.declared.number_fault.NumberFault.{NumberFault}

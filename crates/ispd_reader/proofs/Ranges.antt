@@ -1,5 +1,5 @@
 -- Numbers within their limits.
-use Rattle.std.proofs.Common.{◌≡◌, ℕ, ◌*◌, ◌^◌, ◌≤◌, ◌<◌, Bool, true, false, cond, ◌&&◌, ◌↔◌, List, [], ◌∷◌, Option, Some, None, IsSome, IfSome, Result, Ok, Err, ℤ, pos, negsuc, neg_ℤ, refl, sym, ap, ◌∙◌, ⊎_elim, arith, nat_abs, ◌-ℤ◌, ◌≤ℤ◌, int_lt, ltb, eqb}
+use Rattle.std.proofs.Common.{◌≡◌, ℕ, ◌*◌, ◌^◌, ◌≤◌, ◌<◌, true, false, ◌↔◌, List, [], ◌∷◌, Option, Some, None, IsSome, IfSome, Ok, ℤ, pos, negsuc, neg_ℤ, refl, sym, ap, ◌∙◌, ⊎_elim, arith, nat_abs, ◌-ℤ◌, ◌≤ℤ◌, int_lt, ltb, eqb}
 use Rattle.std.specs.Option.{option_map}
 use Rattle.std.proofs.lemmas.Bool.{cases_Bool}
 use Rattle.std.proofs.lemmas.Bool.Decides.{nat_tests}
@@ -7,9 +7,8 @@ use Rattle.std.proofs.lemmas.Int.{ints}
 use Rattle.std.proofs.lemmas.Option.{none-some, cond_some}
 use Rattle.std.proofs.lemmas.Nat.{div_below}
 use Rattle.grid_graph.specs.Tiles.{tile_index}
-use Rattle.text_scan.specs.declared.number_fault.NumberFault.{NumberFault}
 use Rattle.text_scan.specs.Tokens.{Token}
-use Rattle.text_scan.specs.Numbers.{is_number, is_within, value_of, number_of, first_number}
+use Rattle.text_scan.specs.Numbers.{is_number, is_within, value_of, first_number}
 use Rattle.grid_base.specs.declared.size.Size.{Size}
 use Rattle.grid_base.specs.Limits.{IsGridSize}
 use Rattle.grid_graph.specs.GridLimits.{IsPosition}

@@ -1,27 +1,22 @@
 -- The parts of a text together, and the design that they make.
-use Rattle.std.proofs.Common.{◌≡◌, ℕ, ◌+◌, ◌<◌, ◌≤◌, List, map, length, false, nat_lt, ◌^◌, arith, ℤ, Option, Result, Ok, Err, refl, sym, ap, ◌∙◌, subst}
+use Rattle.std.proofs.Common.{◌≡◌, ℕ, ◌≤◌, List, length, false, nat_lt, ◌^◌, arith, ℤ, Ok, refl, ap, ◌∙◌}
 use Rattle.std.specs.Option.{unwrap_or}
 use Rattle.std.proofs.lemmas.Bool.Decides.{nat_tests}
-use Rattle.std.specs.List.{slice_index}
-use Rattle.grid_graph.specs.declared.design.Design.{Design}
 use Rattle.grid_graph.specs.declared.grid.Grid.{Grid}
 use Rattle.grid_graph.specs.declared.grid_parts.GridParts.{GridParts}
 use Rattle.grid_graph.specs.declared.net_spec.NetSpec.{NetSpec}
-use Rattle.grid_graph.specs.Capacities.{layer_capacity}
 use Rattle.grid_graph.specs.Grids.{capacity, first_capacity, HasParts, SameButCapacities}
-use Rattle.grid_graph.specs.Lists.{At}
-use Rattle.grid_graph.specs.Nets.{IsNet, IsDesign}
+use Rattle.grid_graph.specs.Nets.{IsDesign}
 use Rattle.grid_base.specs.declared.size.Size.{Size}
-use Rattle.grid_base.specs.Numbers.{IsVertex}
 use Rattle.ispd_reader.specs.declared.input_error.InputError.{InputError}
 use Rattle.ispd_reader.specs.declared.input_error.InputError.TheVariants as errors
-use Rattle.ispd_reader.specs.Parsing.{Rest, rest_of, Read, ◌>>=◌, Refuses}
-use Rattle.ispd_reader.specs.Header.{Extent, Layout, layout_at}
+use Rattle.ispd_reader.specs.Parsing.{Rest, rest_of, Refuses}
+use Rattle.ispd_reader.specs.Header.{Layout, layout_at}
 use Rattle.ispd_reader.specs.Nets.{Net, nets_at}
 use Rattle.ispd_reader.specs.Adjustments.{Adjustment, adjustments_at, last_level}
-use Rattle.ispd_reader.specs.Views.{extent_of_size, layout_of, layout_of_parts, net_of, nets_of}
+use Rattle.ispd_reader.specs.Views.{extent_of_size, layout_of, layout_of_parts}
 use Rattle.ispd_reader.specs.Adjusted.{IsAdjusted}
-use Rattle.ispd_reader.specs.Designs.{Contents, contents_at, contents_of}
+use Rattle.ispd_reader.specs.Designs.{contents_at, contents_of}
 
 -- all parts were read
 pub all_read : (rest : Rest) (layout : Layout) (one : Rest) (nets : List Net) (two : Rest) (adjustments : List Adjustment) (three : Rest) →
@@ -72,6 +67,7 @@ design_kept g h nets same d = record {
   net = λ k n at_k.
       let fits = d.net k n at_k in
       record {
+        id = fits.id;
         width = rw (same.size, same.spacings) fits.width;
         vertices = rw same.size fits.vertices;
         distinct = fits.distinct;

@@ -1,5 +1,5 @@
 -- A grid that adjustments have changed.
-use Rattle.std.specs.Prelude.{◌≡◌, ℕ, List, Option, option_map, Result, Ok, Err, unwrap_or}
+use Rattle.std.specs.Prelude.{◌≡◌, ℕ, List, option_map, Result, Ok, Err, unwrap_or}
 use Rattle.grid_graph.specs.declared.grid.Grid.{Grid}
 use Rattle.grid_graph.specs.Grids.{capacity, SameButCapacities}
 use Rattle.ispd_reader.specs.declared.adjustment.Adjustment.{Adjustment as AdjustmentOfOne}

@@ -1,14 +1,13 @@
 -- The adjustments of single edges.
-use Rattle.std.specs.Prelude.{ℕ, Bool, ◌+◌, ◌-◌, ◌*◌, ◌^◌, ◌==◌, min, List, [], ◌∷◌, length, if◌then◌else◌, ℤ, Option, None, Some, Result, Ok, Err}
+use Rattle.std.specs.Prelude.{ℕ, ◌+◌, ◌-◌, ◌*◌, ◌^◌, ◌==◌, min, List, [], ◌∷◌, length, if◌then◌else◌, ℤ, Option, None, Some, Ok}
 use Rattle.text_scan.specs.Tokens.{Token}
 use Rattle.grid_base.specs.declared.place.Place.{Place}
 use Rattle.grid_base.specs.Numbers.{distance}
-use Rattle.ispd_reader.specs.declared.input_fault.InputFault.{InputFault}
 use Rattle.ispd_reader.specs.declared.input_fault.InputFault.TheVariants.{AdjustmentPlace}
 use Rattle.ispd_reader.specs.Parsing.{Rest, Read, ◌>>=◌, or_refuse, parts_at}
 use Rattle.ispd_reader.specs.Numbers.{number_at, capacity_at, count_at}
 use Rattle.ispd_reader.specs.Within.{within}
-use Rattle.ispd_reader.specs.Header.{Extent, Layout}
+use Rattle.ispd_reader.specs.Header.{Extent}
 use Rattle.ispd_reader.specs.Nets.{vertex_at}
 
 -- an adjustment: the number of the edge between its two tiles, none where they lie one above the other, and the new capacity

@@ -4,7 +4,7 @@ use Rattle.grid_graph.specs.declared.design.Design.{Design}
 use Rattle.grid_graph.specs.Grids.{capacity, first_capacity}
 use Rattle.ispd_reader.specs.declared.input_fault.InputFault.{InputFault}
 use Rattle.ispd_reader.specs.declared.input_fault.InputFault.TheVariants.{TooLong}
-use Rattle.ispd_reader.specs.Parsing.{Rest, rest_of, Read, ◌>>=◌}
+use Rattle.ispd_reader.specs.Parsing.{Rest, rest_of, ◌>>=◌}
 use Rattle.ispd_reader.specs.Header.{Layout, layout_at}
 use Rattle.ispd_reader.specs.Nets.{Net, nets_at}
 use Rattle.ispd_reader.specs.Views.{layout_of, net_of}

@@ -1,5 +1,5 @@
 -- The parts of the text before the nets: the grid, its layers and its tiles.
-use Rattle.std.specs.Prelude.{ℕ, zero, suc, Bool, ◌+◌, ◌*◌, ◌^◌, ◌&&◌, List, [], length, slice_index, if◌then◌else◌, nat_le, ℤ, pos, negsuc, Option, None, Some, Ok}
+use Rattle.std.specs.Prelude.{ℕ, zero, suc, Bool, ◌*◌, ◌^◌, ◌&&◌, List, [], length, slice_index, if◌then◌else◌, nat_le, ℤ, pos, negsuc, Option, None, Some, Ok}
 use Rattle.ispd_reader.specs.declared.input_fault.InputFault.TheVariants.{GridSize}
 use Rattle.ispd_reader.specs.declared.wanted.Wanted.{Wanted}
 use Rattle.ispd_reader.specs.declared.wanted.Wanted.TheVariants as wanted

@@ -1,6 +1,6 @@
-pub mod Tokens
-pub mod FirstForm
-pub mod Reading
+pub use Rattle.grid_graph.specs.Grids
+pub use Rattle.grid_graph.specs.Tiles
+pub use Rattle.text_scan.specs.Tokens
 pub mod Words
 pub mod Refusals
 pub mod Rest
@@ -13,3 +13,4 @@ pub mod Adjustments
 pub mod Views
 pub mod Adjusted
 pub mod Designs
+pub mod Alike

@@ -1,8 +1,7 @@
 -- The nets and their pins.
-use Rattle.std.specs.Prelude.{ℕ, zero, suc, Bool, not, ◌+◌, ◌-◌, ◌*◌, ◌^◌, ◌==◌, max, List, [], ◌∷◌, ◌++◌, length, map, fold, filter, if◌then◌else◌, ℤ, Option, Result, Ok, Err}
+use Rattle.std.specs.Prelude.{ℕ, zero, suc, Bool, not, ◌+◌, ◌-◌, ◌*◌, ◌^◌, ◌==◌, max, List, [], ◌∷◌, ◌++◌, length, fold, filter, if◌then◌else◌, ℤ, Option, Ok, Err}
 use Rattle.std.specs.List.{list_any}
 use Rattle.grid_graph.specs.Tiles.{tile_index}
-use Rattle.ispd_reader.specs.declared.input_fault.InputFault.{InputFault}
 use Rattle.ispd_reader.specs.declared.input_fault.InputFault.TheVariants.{Range, WidthLimit, DuplicateId, PinOutside, PinLayer}
 use Rattle.ispd_reader.specs.declared.wanted.Wanted.TheVariants as wanted
 use Rattle.ispd_reader.specs.Parsing.{Rest, Read, ◌>>=◌, or_refuse, parts_at}

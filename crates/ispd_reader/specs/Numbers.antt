@@ -1,5 +1,5 @@
 -- Words, names and numbers at the front of the tokens.
-use Rattle.std.specs.Prelude.{ℕ, Bool, ◌-◌, ◌^◌, List, [], ◌∷◌, if◌then◌else◌, ℤ, pos, neg_ℤ, int_lt, Result, Ok, Err}
+use Rattle.std.specs.Prelude.{ℕ, ◌-◌, ◌^◌, List, [], ◌∷◌, if◌then◌else◌, ℤ, pos, neg_ℤ, int_lt, Result, Ok, Err}
 use Rattle.std.specs.Str.{bytes_eq}
 use Rattle.text_scan.specs.Tokens.{Token}
 use Rattle.text_scan.specs.Numbers.{is_number, value_of, is_within}

@@ -1,6 +1,5 @@
 -- What the values of the program are in the words of the format.
-use Rattle.std.specs.Prelude.{ℕ, List, map, Option, option_map}
-use Rattle.grid_base.specs.declared.edge.Edge.{Edge}
+use Rattle.std.specs.Prelude.{ℕ, List, map}
 use Rattle.grid_base.specs.declared.size.Size.{Size}
 use Rattle.grid_base.specs.declared.vertex.Vertex.{Vertex}
 use Rattle.grid_graph.specs.declared.grid.Grid.{Grid}

@@ -23,6 +23,7 @@ use std::collections::BTreeSet;
 #[tactic(auto, unfolding(crate::specs::Nets::id_at))]
 fn id(tokens: &mut TokensLeft<'_>, taken: &mut BTreeSet<u32>) -> Result<u32, InputError>
     ensures id { Reads (λ id. id) result tokens.new (id_at (contains nat_cmp taken.old) tokens.old) }
+    ensures limit { IfOk result (λ id. id ≤ 4294967295) }
     ensures free { IfOk result (λ id. contains nat_cmp taken.old id ≡ false) }
     ensures taken { IfOk result (λ id. (q : ℕ) → contains nat_cmp taken.new q ≡ (q == id || contains nat_cmp taken.old q)) }
 {

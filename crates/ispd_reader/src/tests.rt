@@ -1,129 +1,368 @@
 use super::*;
-use grid_base::{Size, Vertex};
+use grid_base::{Edge, Vertex};
+use grid_graph::{Design, Kind};
 use std::alloc::Global;
 use std::test::Fail;
 
 /// One net of two pins in a row of three tiles, of 144 bytes.
 const DESIGN: &[u8] =
-    b"grid 3 1 1\nvertical capacity 4\nhorizontal capacity 4\nminimum width 1\nminimum spacing 1\nvia spacing 1\n0 0 10 10\nnum net 1\na 0 2 1\n5 5 1\n25 5 1\n0\n";
+    b"grid 3 1 1\nvertical capacity 0\nhorizontal capacity 4\nminimum width 1\nminimum spacing 1\nvia spacing 1\n0 0 10 10\nnum net 1\na 0 2 1\n5 5 1\n25 5 1\n0\n";
 
-/// What stands in that design between its vertical capacity and its net, and the net.
-const MIDDLE: &str =
-    "\nhorizontal capacity 4\nminimum width 1\nminimum spacing 1\nvia spacing 1\n0 0 10 10\nnum net 1\n";
+/// The same with other line ends, and with the grid's corner and the pins to the lower left.
+const CRLF: &[u8] =
+    b"grid 3 1 1\r\nvertical capacity 0\r\nhorizontal capacity 4\r\nminimum width 1\r\nminimum spacing 1\r\nvia spacing 1\r\n-10 -10 10 10\r\nnum net 1\r\na 0 2 1\r\n-5 -5 1\r\n15 -5 1\r\n0\r\n";
 
-const NET: &str = "a 0 2 1 5 5 1 25 5 1 0";
+/// Three rows and columns on two layers, of which each has edges in one direction.
+const LAYERED: &[u8] =
+    b"grid 3 3 2\nvertical capacity 0 10\nhorizontal capacity 10 0\nminimum width 1 1\nminimum spacing 1 1\nvia spacing 1 1\n10 10 10 10\n\nnum net 1\na 0 2 1\n15 15 1\n35 35 1\n0\n";
 
-/// That design with another vertical capacity and another net.
-fn read_with(alloc: Global, vertical: &str, net: &str) -> Result<First, FirstError> {
-    let mut text = Vec::from_slice(alloc, b"grid 3 1 1\nvertical capacity ")?;
-    text.extend_from_slice(vertical.as_bytes())?;
-    text.extend_from_slice(MIDDLE.as_bytes())?;
-    text.extend_from_slice(net.as_bytes())?;
-    read_first(alloc, &text)
+/// Two rows, columns and layers without nets, of 131 bytes, up to the adjustments.
+const BLOCK: &[u8] =
+    b"grid 2 2 2 vertical capacity 1 2 horizontal capacity 3 4 minimum width 1 1 minimum spacing 1 1 via spacing 1 1 0 0 10 10 num net 0 ";
+
+/// Reads the first bytes of a text with others behind them.
+fn read_with(alloc: Global, text: &[u8], front: usize, rest: &[u8]) -> Result<Design, InputError> {
+    let mut bytes = Vec::from_slice(alloc, &text[..front.min(text.len())])?;
+    bytes.extend_from_slice(rest)?;
+    read_design(alloc, &bytes)
 }
 
-fn is_refused(answer: &Result<First, FirstError>) -> bool {
-    matches!(answer, Err(FirstError::Unbuilt))
+fn fault_of(read: Result<Design, InputError>) -> Option<InputFault> {
+    match read {
+        Err(InputError::Input(fault)) => Some(fault),
+        _ => None,
+    }
 }
 
-#[test]
-fn a_design_has_the_numbers_of_its_text(rt: HostRuntime) -> Result<(), Fail> {
-    let first = read_first(rt.alloc(), DESIGN)?;
-    assert_eq!(rt; Some(first.size), Size::new(3, 1, 1));
-    assert_eq!(rt; first.vertical.list(), [4].as_slice());
-    assert_eq!(rt; first.horizontal.list(), [4].as_slice());
-    assert_eq!(rt; first.widths.list(), [1].as_slice());
-    assert_eq!(rt; first.spacings.list(), [1].as_slice());
-    assert_eq!(rt; first.origin, (0, 0));
-    assert_eq!(rt; first.tile, (10, 10));
-    assert_eq!(rt; first.name.list(), b"a".as_slice());
-    assert_eq!(rt; first.id, 0);
-    assert_eq!(rt; first.width, 1);
-    assert_eq!(rt; first.from, Vertex(0));
-    assert_eq!(rt; first.to, Vertex(2));
-    Ok(())
+/// The id, the name and the terminals of the first net.
+fn first_net(design: &Design) -> Option<(u32, &[u8], &[Vertex])> {
+    match design.nets.list() {
+        [] => None,
+        [net, ..] => Some((net.id, net.name.list(), net.terminals.list())),
+    }
 }
 
-#[test]
-fn layers_and_rows_are_told_apart(rt: HostRuntime) -> Result<(), Fail> {
-    let text =
-        b"grid 3 2 2\r\nvertical capacity 1 2\r\nhorizontal capacity 3 4\r\nminimum width 5 6\r\nminimum spacing 7 8\r\nvia spacing 9 9\r\n100 200 10 20\r\nnum net 1\r\n#\xff 7 2 11\r\n125 235 2\r\n105 200 1\r\n0";
-    let first = read_first(rt.alloc(), text)?;
-    assert_eq!(rt; Some(first.size), Size::new(3, 2, 2));
-    assert_eq!(rt; first.vertical.list(), [1, 2].as_slice());
-    assert_eq!(rt; first.horizontal.list(), [3, 4].as_slice());
-    assert_eq!(rt; first.widths.list(), [5, 6].as_slice());
-    assert_eq!(rt; first.spacings.list(), [7, 8].as_slice());
-    assert_eq!(rt; first.origin, (100, 200));
-    assert_eq!(rt; first.tile, (10, 20));
-    assert_eq!(rt; first.name.list(), b"#\xff".as_slice());
-    assert_eq!(rt; first.id, 7);
-    assert_eq!(rt; first.width, 11);
-    assert_eq!(rt; first.from, Vertex(11));
-    assert_eq!(rt; first.to, Vertex(0));
-    Ok(())
+/// The first of these edges that has another capacity or kind.
+fn first_other_edge(design: &Design, edges: &[(u32, u32, Kind)]) -> Option<u32> {
+    for (e, level, kind) in edges {
+        let edge = Edge(*e);
+        if *e / 2 >= design.grid.size().vertices()
+            || design.grid.capacity(edge) != *level
+            || design.grid.kind(edge) != *kind
+        {
+            return Some(*e);
+        }
+    }
+    None
 }
 
 #[test]
-fn the_lists_come_back(rt: HostRuntime) -> Result<(), Fail> {
-    let layers = Layers::of([1, 2].to_vec(rt.alloc())?);
-    assert_eq!(rt; layers.into_list().as_slice(), [1, 2].as_slice());
-    let bytes = Bytes::of(b"net".to_vec(rt.alloc())?);
-    assert_eq!(rt; bytes.into_list().as_slice(), b"net".as_slice());
-    Ok(())
-}
-
-/// A pin on the upper border, on a line between tiles; no count of adjustments, one of two zeros;
-/// leading zeros; the greatest id of nine digits with the greatest width.
-const INSIDE: &str =
-    "a 0 2 1 5 5 1 30 10 1 0|a 0 2 1 5 5 1 20 5 1 0|a 0 2 1 5 5 1 25 5 1|a 0 2 1 5 5 1 25 5 1 00|a 00 02 01 05 5 1 025 5 01 0|a 999999999 2 1022 5 5 1 25 5 1 0";
-
-#[test]
-fn the_limits_are_inside(rt: HostRuntime) -> Result<(), Fail> {
-    for net in INSIDE.split('|') {
-        let first = read_with(rt.alloc(), "000262144", net)?;
-        assert_eq!(rt; first.to, Vertex(2), "at {net}");
+fn a_design_is_what_its_text_says(rt: HostRuntime) -> Result<(), Fail> {
+    let design = read_design(rt.alloc(), DESIGN)?;
+    assert_eq!(rt; design.grid.size().cols(), 3);
+    assert_eq!(rt; design.grid.origin(), (0, 0));
+    assert_eq!(rt; design.grid.tile(), (10, 10));
+    for net in design.nets.list() {
+        assert_eq!(rt; net.width, 1);
     }
     Ok(())
 }
 
-/// A closed edge, one capacity too many, signs, ten digits, no number.
-const OTHER_CAPACITIES: &str = "0|262145|4 4|+4|-4|0000000004|4a|";
+// The fourth row has six pins and three terminals, in the order of their first pins.
+#[test]
+fn texts_are_read(rt: HostRuntime) -> Result<(), Fail> {
+    let both = [Vertex(0), Vertex(2)];
+    let three = [Vertex(2), Vertex(0), Vertex(1)];
+    let corners = [Vertex(0), Vertex(8)];
+    let cases: [(usize, &[u8], u32, &[u8], &[Vertex]); 12] = [
+        (144, b"", 0, b"a", &both),
+        (142, b"", 0, b"a", &both),
+        (144, b"what follows is ignored", 0, b"a", &both),
+        (
+            125,
+            b"6 1\n25 5 1\n5 5 1\n27 1 1\n15 5 1\n5 5 1\n9 9 1\n0\n",
+            0,
+            b"a",
+            &three,
+        ),
+        (129, b"5 5 1\n7 3 1\n0\n", 0, b"a", &both[..1]),
+        (129, b"0 0 1\n30 10 1\n0\n", 0, b"a", &both),
+        (129, b"0 10 1\n30 0 1\n0\n", 0, b"a", &both),
+        (135, b"30 5 1\n0\n", 0, b"a", &both),
+        (0, CRLF, 0, b"a", &both),
+        (0, LAYERED, 0, b"a", &corners),
+        (
+            101,
+            b"-0 +000 10 10 num net +1 \x00\xff +007 1 1 5 5 1",
+            7,
+            b"\x00\xff",
+            &both[..1],
+        ),
+        (
+            119,
+            b"2 a 4294967295 0 1 a 0 1 1 5 5 1 0",
+            4294967295,
+            b"a",
+            &[],
+        ),
+    ];
+    for (front, rest, id, name, terminals) in cases {
+        let design = read_with(rt.alloc(), DESIGN, front, rest)?;
+        assert_eq!(rt;
+            first_net(&design),
+            Some((id, name, terminals)),
+            "with {rest:?}"
+        );
+    }
+    Ok(())
+}
+
+// In the block vertex 6 is column 0, row 1 of the upper layer, and vertex 5 is column 1, row 0
+// there; its last adjustment lies between two layers.
+#[test]
+fn an_edge_has_the_level_of_its_last_adjustment(rt: HostRuntime) -> Result<(), Fail> {
+    let choked = [(0, 0, Kind::Choked), (2, 4, Kind::Open), (1, 0, Kind::Wall)];
+    let widened = [(0, 8, Kind::Open), (2, 4, Kind::Open), (1, 0, Kind::Wall)];
+    let block = [
+        (12, 7, Kind::Open),
+        (11, 9, Kind::Open),
+        (0, 3, Kind::Open),
+        (1, 1, Kind::Open),
+        (8, 4, Kind::Open),
+        (9, 2, Kind::Open),
+    ];
+    let layered = [
+        (0, 10, Kind::Open),
+        (1, 0, Kind::Wall),
+        (18, 0, Kind::Wall),
+        (19, 10, Kind::Open),
+    ];
+    let cases: [(&[u8], usize, &[u8], &[(u32, u32, Kind)]); 4] = [
+        (DESIGN, 142, b"1\n0 0 1 1 0 1 0\n", &choked),
+        (DESIGN, 142, b"2\n0 0 1 1 0 1 0\n0 0 1 1 0 1 8\n", &widened),
+        (
+            BLOCK,
+            131,
+            b"3 1 1 2 0 1 2 7 1 1 2 1 0 2 9 0 0 1 0 0 2 5",
+            &block,
+        ),
+        (LAYERED, 180, b"", &layered),
+    ];
+    for (text, front, rest, edges) in cases {
+        let design = read_with(rt.alloc(), text, front, rest)?;
+        assert_eq!(rt; first_other_edge(&design, edges), None, "with {rest:?}");
+    }
+    Ok(())
+}
 
 #[test]
-fn other_capacities_are_refused(rt: HostRuntime) {
-    for capacity in OTHER_CAPACITIES.split('|') {
-        let answer = read_with(rt.alloc(), capacity, NET);
-        assert!(rt; is_refused(&answer), "at {capacity}");
+fn each_word_is_asked_for_at_its_place(rt: HostRuntime) {
+    let cases: [(usize, &[u8], usize, Wanted); 23] = [
+        (0, b"", 0, Wanted::Grid),
+        (0, b"g", 0, Wanted::Grid),
+        (0, b" \t\r\n", 4, Wanted::Grid),
+        (11, b"Vertical", 11, Wanted::Vertical),
+        (20, b"capacit", 20, Wanted::Capacity),
+        (31, b"", 31, Wanted::Horizontal),
+        (53, b"x", 53, Wanted::Minimum),
+        (61, b"widths 1", 61, Wanted::Width),
+        (77, b"width", 77, Wanted::Spacing),
+        (87, b"", 87, Wanted::Via),
+        (111, b"net", 111, Wanted::Num),
+        (115, b"num", 115, Wanted::Net),
+        (121, b"", 121, Wanted::Name),
+        (119, b"4194304", 126, Wanted::Name),
+        (119, b"one", 119, Wanted::Number),
+        (139, b"", 139, Wanted::Number),
+        (0, b"grid 1 -1 x", 10, Wanted::Number),
+        (101, b"-1099511627776 +", 116, Wanted::Number),
+        (101, b"-", 101, Wanted::Number),
+        (101, b"+-1", 101, Wanted::Number),
+        (101, b"1\x00", 101, Wanted::Number),
+        (127, b"1022", 131, Wanted::Number),
+        (119, b"2\na 0 0 1\nb 1 16777216 1 x", 144, Wanted::Number),
+    ];
+    for (front, rest, at, wanted) in cases {
+        let read = read_with(rt.alloc(), DESIGN, front, rest);
+        assert_eq!(rt;
+            fault_of(read),
+            Some(InputFault::Syntax { at, wanted }),
+            "with {rest:?}"
+        );
     }
 }
 
-/// A pin one step outside, above, below and above the layers; one pin, three pins; a wire that
-/// needs 1024; something behind the count of adjustments, an adjustment, a sign; nothing.
-const OTHER_NETS: &str =
-    "a 0 2 1 5 5 1 31 5 1 0|a 0 2 1 5 11 1 25 5 1 0|a 0 2 1 5 5 0 25 5 1 0|a 0 2 1 5 5 1 25 5 2 0|a 0 1 1 5 5 1 0|a 0 3 1 5 5 1 15 5 1 25 5 1 0|a 0 2 1023 5 5 1 25 5 1 0|a 0 2 1 5 5 1 25 5 1 0 0|a 0 2 1 5 5 1 25 5 1 1 0 0 1 1 0 1 0|a 0 2 1 5 5 1 25 5 1 -0|";
-
 #[test]
-fn other_nets_are_refused(rt: HostRuntime) {
-    for net in OTHER_NETS.split('|') {
-        let answer = read_with(rt.alloc(), "4", net);
-        assert!(rt; is_refused(&answer), "at {net}");
+fn each_fault_is_told_at_its_place(rt: HostRuntime) {
+    let cases: [(usize, &[u8], InputFault); 33] = [
+        (
+            119,
+            b"one",
+            InputFault::Syntax {
+                at: 119,
+                wanted: Wanted::Number,
+            },
+        ),
+        (101, b"1099511627777", InputFault::Range { at: 101 }),
+        (123, b"4294967296 2 1", InputFault::Range { at: 123 }),
+        (123, b"-1 2 1", InputFault::Range { at: 123 }),
+        (0, b"grid 2048 2048 3", InputFault::GridSize { at: 15 }),
+        (0, b"grid 1 1 17", InputFault::GridSize { at: 9 }),
+        (0, b"grid 0 1 1", InputFault::GridSize { at: 9 }),
+        (105, b"0 10", InputFault::TileSize { at: 105 }),
+        (108, b"-5", InputFault::TileSize { at: 108 }),
+        (29, b"262145", InputFault::CapacityLimit { at: 29 }),
+        (51, b"-1", InputFault::CapacityLimit { at: 51 }),
+        (
+            142,
+            b"1 0 0 1 1 0 1 262145",
+            InputFault::CapacityLimit { at: 156 },
+        ),
+        (67, b"1024", InputFault::WidthLimit { at: 67 }),
+        (85, b"1023", InputFault::WidthLimit { at: 85 }),
+        (
+            67,
+            b"0\nminimum spacing 0",
+            InputFault::WidthLimit { at: 85 },
+        ),
+        (127, b"1023", InputFault::WidthLimit { at: 127 }),
+        (119, b"4194305", InputFault::NetLimit { at: 119 }),
+        (119, b"-1", InputFault::NetLimit { at: 119 }),
+        (125, b"16777217 1", InputFault::NetLimit { at: 125 }),
+        (142, b"8388609", InputFault::NetLimit { at: 142 }),
+        (
+            119,
+            b"2\na 0 2 1\n5 5 1\n25 5 1\nb 0 2 1\n5 5 1\n25 5 1\n0\n",
+            InputFault::DuplicateId { at: 144, id: 0 },
+        ),
+        (
+            119,
+            b"3 a 4294967295 0 1 a 0 0 1 a 4294967295 0 1 0",
+            InputFault::DuplicateId {
+                at: 148,
+                id: 4294967295,
+            },
+        ),
+        (
+            135,
+            b"31 5 1\n0\n",
+            InputFault::PinOutside {
+                at: 135,
+                id: 0,
+                pin: 1,
+            },
+        ),
+        (
+            135,
+            b"-1 5 1\n0\n",
+            InputFault::PinOutside {
+                at: 135,
+                id: 0,
+                pin: 1,
+            },
+        ),
+        (
+            129,
+            b"5 11 1\n0\n",
+            InputFault::PinOutside {
+                at: 131,
+                id: 0,
+                pin: 0,
+            },
+        ),
+        (
+            129,
+            b"5 -1 1\n0\n",
+            InputFault::PinOutside {
+                at: 131,
+                id: 0,
+                pin: 0,
+            },
+        ),
+        (
+            140,
+            b"0\n0\n",
+            InputFault::PinLayer {
+                at: 140,
+                id: 0,
+                pin: 1,
+            },
+        ),
+        (
+            140,
+            b"2\n0\n",
+            InputFault::PinLayer {
+                at: 140,
+                id: 0,
+                pin: 1,
+            },
+        ),
+        (
+            142,
+            b"1\n0 0 1 2 0 1 3",
+            InputFault::AdjustmentPlace { at: 154, index: 0 },
+        ),
+        (
+            142,
+            b"1\n2 0 1 3 0 1 3",
+            InputFault::AdjustmentPlace { at: 154, index: 0 },
+        ),
+        (
+            142,
+            b"1\n0 0 1 0 1 1 3",
+            InputFault::AdjustmentPlace { at: 154, index: 0 },
+        ),
+        (
+            142,
+            b"1\n0 0 1 0 0 2 3",
+            InputFault::AdjustmentPlace { at: 154, index: 0 },
+        ),
+        (
+            142,
+            b"1\n-1 0 1 0 0 1 3",
+            InputFault::AdjustmentPlace { at: 155, index: 0 },
+        ),
+    ];
+    for (front, rest, fault) in cases {
+        let read = read_with(rt.alloc(), DESIGN, front, rest);
+        assert_eq!(rt; fault_of(read), Some(fault), "with {rest:?}");
     }
 }
 
 #[test]
-fn a_text_that_is_cut_off_is_refused(rt: HostRuntime) {
-    assert!(rt; read_first(rt.alloc(), &DESIGN[..142]).is_ok());
-    assert!(rt; is_refused(&read_first(rt.alloc(), &DESIGN[..139])));
-    assert!(rt; is_refused(&read_first(rt.alloc(), b"")));
+fn the_tiles_of_an_adjustment_are_neighbours(rt: HostRuntime) {
+    let cases: [(&[u8], usize, u32); 5] = [
+        (b"2 0 0 1 1 0 1 3 0 0 1 1 1 1 3", 157, 1),
+        (b"1 0 0 1 1 0 2 3", 143, 0),
+        (b"1 0 0 1 0 0 1 3", 143, 0),
+        (b"1 0 0 0 0 0 1 3", 143, 0),
+        (b"1 0 0 2 0 0 3 3", 143, 0),
+    ];
+    for (rest, at, index) in cases {
+        let read = read_with(rt.alloc(), BLOCK, 131, rest);
+        assert_eq!(rt;
+            fault_of(read),
+            Some(InputFault::AdjustmentPlace { at, index }),
+            "with {rest:?}"
+        );
+    }
 }
 
 #[test]
-fn blanks_count_as_bytes(rt: HostRuntime) -> Result<(), Fail> {
-    let mut text = DESIGN.to_vec(rt.alloc())?;
-    text.resize(65_536, b' ')?;
-    assert!(rt; read_first(rt.alloc(), &text).is_ok());
-    text.push(b' ')?;
-    assert!(rt; is_refused(&read_first(rt.alloc(), &text)));
+fn a_number_may_have_a_thousand_digits(rt: HostRuntime) -> Result<(), Fail> {
+    let digits = vec![in rt.alloc(); b'9'; 1000]?;
+    let read = read_with(rt.alloc(), DESIGN, 101, &digits);
+    assert_eq!(rt; fault_of(read), Some(InputFault::Range { at: 101 }));
+    Ok(())
+}
+
+#[test]
+fn faults_say_what_was_wanted(rt: HostRuntime) -> Result<(), Fail> {
+    let fault = InputFault::Syntax {
+        at: 7,
+        wanted: Wanted::Horizontal,
+    };
+    let text = fault.to_string(rt.alloc())?;
+    assert_eq!(rt; text.as_str(), "horizontal expected at byte 7");
     Ok(())
 }

@@ -10,11 +10,9 @@ use crate::input_error::InputError;
 use crate::input_fault::InputFault;
 use crate::number::Number;
 use crate::wanted::Wanted;
+use grid_graph::MAX_NUMBER;
 use std::marker::Model;
 use text_scan::{NumberFault, Scanner};
-
-/// The farthest that a number may be from zero.
-const MAX_NUMBER: i64 = 1 << 40;
 
 /// The tokens of a text that are left to be read, with their places in it.
 #[derive(Drop)]

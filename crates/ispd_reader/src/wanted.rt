@@ -1,6 +1,6 @@
 //! The words of the format.
 
-ghost use Rattle.std.specs.Prelude.{◌≡◌};
+ghost use Rattle.std.specs.Prelude.{◌≡◌, Some};
 ghost use Rattle.ispd_reader.specs.Words.{spelling};
 
 use std::fmt;
@@ -46,6 +46,8 @@ impl Wanted {
 }
 
 impl fmt::Display for Wanted {
+    ghost output = { λ wanted. Some (spelling wanted) };
+
     fn fmt<W: fmt::Write>(&self, f: &mut fmt::Formatter<W>) -> fmt::Result {
         f.write_str(self.word())
     }

@@ -1,4 +1,3 @@
-use Rattle.std.proofs.Common.{◌≡◌}
 use Rattle.ispd_reader.specs.Views.{extent_of_size}
 use Rattle.ispd_reader.proofs.AdjustSteps.{AreAdjustments}
 use Rattle.ispd_reader.proofs.adjustments.adjust.Given as goal

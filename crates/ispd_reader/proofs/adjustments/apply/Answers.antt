@@ -1,6 +1,4 @@
-use Rattle.std.proofs.Common.{◌≡◌, refl, ◌∙◌, ap, sym}
-use Rattle.ispd_reader.specs.Adjusted.{IsAdjustedBy}
-use Rattle.ispd_reader.proofs.AdjustSteps.{one_edge, SameButCapacities-refl}
+use Rattle.ispd_reader.proofs.AdjustSteps.{one_edge}
 use Rattle.ispd_reader.proofs.adjustments.apply.Goals as goal
 
 pub returns-in-Some : goal.returns-in-Some

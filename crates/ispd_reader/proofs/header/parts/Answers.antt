@@ -1,5 +1,4 @@
-use Rattle.std.proofs.Common.{◌≡◌, ◌∙◌, arith}
-use Rattle.ispd_reader.specs.declared.wanted.Wanted.TheVariants as wanted
+use Rattle.std.proofs.Common.{◌∙◌, arith}
 use Rattle.ispd_reader.proofs.Limits.{capacities_keep, widths_keep, spacings_keep}
 use Rattle.ispd_reader.proofs.header.parts.Goals as goal
 

@@ -1,5 +1,4 @@
-use Rattle.std.proofs.Common.{◌≡◌, sym, ◌∙◌, ap}
-use Rattle.ispd_reader.specs.Header.{extent_of}
+use Rattle.std.proofs.Common.{sym}
 use Rattle.ispd_reader.proofs.Ranges.{within_bounds, within_none, no_extent, size_is, cols_within, rows_within}
 use Rattle.ispd_reader.proofs.header.size_of.Goals as goal
 

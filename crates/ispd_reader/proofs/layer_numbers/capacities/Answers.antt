@@ -1,4 +1,3 @@
-use Rattle.std.proofs.Common.{◌≡◌}
 use Rattle.ispd_reader.specs.Numbers.{capacity_at}
 use Rattle.ispd_reader.specs.Header.{capacities_at}
 use Rattle.ispd_reader.proofs.InTurn.{goes_on}

@@ -1,4 +1,3 @@
-use Rattle.std.proofs.Common.{◌≡◌}
 use Rattle.ispd_reader.specs.Header.{vias_at}
 use Rattle.ispd_reader.proofs.InTurn.{unused_goes_on}
 use Rattle.ispd_reader.proofs.layer_numbers.skip_vias.Goals as goal

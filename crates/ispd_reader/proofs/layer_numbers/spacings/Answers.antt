@@ -1,4 +1,4 @@
-use Rattle.std.proofs.Common.{◌≡◌, ℕ, List, ◌++◌, ◌∷◌, [], length, slice_index, arith, ap, Ok}
+use Rattle.std.proofs.Common.{◌≡◌, ℕ, List, length, slice_index, arith, Ok}
 use Rattle.std.proofs.lemmas.List.{length_push}
 use Rattle.ispd_reader.specs.Numbers.{spacing_at}
 use Rattle.ispd_reader.specs.Header.{spacings_at}

@@ -1,4 +1,4 @@
-use Rattle.std.proofs.Common.{◌≡◌, ℕ, ◌<◌, ◌≤◌, ◌+◌, length, ap, ◌∙◌, sym, arith, subst, List}
+use Rattle.std.proofs.Common.{◌≡◌, ℕ, ◌<◌, length, ap, ◌∙◌, arith, List}
 use Rattle.std.specs.List.{All}
 use Rattle.std.proofs.lemmas.List.{length-map}
 use Rattle.grid_base.specs.declared.vertex.Vertex.{Vertex}
@@ -14,6 +14,7 @@ returns-clause-fits c =
     let same : numbers c.in_ok-terminals.terminals ≡ without_repeats (numbers c.in_ok-pins.pins.items) = c.in_ok-terminals.ensures.terminals ∙ ap (λ (vs : List Vertex). without_repeats (numbers vs)) c.deref.ensures.value in
     let inside : All below (numbers c.in_ok-terminals.terminals) = rw same (All-without_repeats below (numbers c.in_ok-pins.pins.items) c.in_ok-pins.ensures.vertices) in
     record {
+      id = c.in_ok-id.ensures.limit;
       width = c.in_ok-width.ensures.limit;
       vertices = All-at below c.in_ok-terminals.terminals inside;
       distinct = c.in_ok-terminals.ensures.distinct;

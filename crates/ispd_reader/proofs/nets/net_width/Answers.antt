@@ -1,4 +1,4 @@
-use Rattle.std.proofs.Common.{◌≡◌, ◌≤◌, ◌-◌, arith}
+use Rattle.std.proofs.Common.{◌≤◌, ◌-◌, arith}
 use Rattle.ispd_reader.proofs.Ranges.{within_bounds}
 use Rattle.ispd_reader.proofs.NetSteps.{spacing_le_greatest}
 use Rattle.ispd_reader.proofs.nets.net_width.Goals as goal

@@ -1,4 +1,4 @@
-use Rattle.std.proofs.Common.{◌≡◌, ℕ, List, ◌++◌, ◌∷◌, [], length, arith, ap, Ok, ◌∙◌, ◌<◌}
+use Rattle.std.proofs.Common.{◌≡◌, ℕ, List, ◌++◌, ◌∷◌, [], length, arith, Ok, ◌∙◌, ◌<◌}
 use Rattle.std.proofs.lemmas.List.{length_push, map_push, length-map}
 use Rattle.std.proofs.lemmas.List.Elements.{All-push}
 use Rattle.grid_base.specs.declared.vertex.Vertex.{Vertex}

@@ -1,5 +1,4 @@
-use Rattle.std.proofs.Common.{◌≡◌, IfSome, ◌<◌, ap, sym, arith, rules}
-use Rattle.std.proofs.lemmas.Grind.{common_steps}
+use Rattle.std.proofs.Common.{◌≡◌, rules}
 use Rattle.grid_graph.specs.Tiles.{tile_index}
 use Rattle.ispd_reader.proofs.Ranges.{rows_within, tile_below}
 use Rattle.ispd_reader.proofs.pins.row.Goals as goal

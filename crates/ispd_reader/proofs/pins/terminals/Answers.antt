@@ -1,10 +1,6 @@
-use Rattle.std.proofs.Common.{◌≡◌, ◌++◌, ◌∷◌, [], List, Bool, true, false, not, cond, ◌<◌, get_or, length, take, refl, sym, ap, ◌∙◌, arith}
-use Rattle.std.proofs.lemmas.List.{take_all}
-use Rattle.std.proofs.lemmas.Bool.{not-false}
+use Rattle.std.proofs.Common.{◌≡◌, Bool, true, false, not, get_or, refl, sym, ◌∙◌}
 use Rattle.std.specs.BTreeSet.{contains}
 use Rattle.std.specs.Ordering.{nat_cmp}
-use Rattle.ispd_reader.specs.Nets.{without_repeats}
-use Rattle.ispd_reader.specs.Views.{numbers}
 use Rattle.ispd_reader.proofs.Distinct.{terminal_added, terminal_known}
 use Rattle.ispd_reader.proofs.pins.terminals.Goals as goal
 use Rattle.ispd_reader.proofs.pins.terminals.Goals.{then-branch+in_ok-push, else-branch}

@@ -2,7 +2,7 @@ use Rattle.std.proofs.Common.{◌≡◌, ◌∙◌, ap, refl}
 use Rattle.std.proofs.lemmas.Result.{err_from_is_err_and}
 use Rattle.ispd_reader.specs.Parsing.{rest_of}
 use Rattle.ispd_reader.specs.Header.{Layout}
-use Rattle.ispd_reader.specs.Views.{extent_of_size, layout_of, layout_of_parts, nets_of}
+use Rattle.ispd_reader.specs.Views.{extent_of_size, layout_of_parts, nets_of}
 use Rattle.ispd_reader.proofs.Whole.{all_read, nets_refused, adjustments_refused, layout_made, design_kept, design_read, short_text}
 use Rattle.ispd_reader.proofs.reading.read_design.Goals as goal
 

@@ -1,0 +1,75 @@
+-- What alike grids have in common: walks, grounds, and nets without one.
+use Rattle.std.proofs.Common.{◌↔◌, ℕ, List, sym, ◌∙◌, subst}
+use Rattle.grid_base.specs.declared.piece.Piece.{Piece}
+use Rattle.grid_base.specs.declared.piece.Piece.TheVariants.{Edge, Via}
+use Rattle.grid_base.specs.declared.size.Size.{Size}
+use Rattle.grid_base.specs.declared.vertex.Vertex.{Vertex}
+use Rattle.grid_base.specs.Numbers.{IsPiece}
+use Rattle.grid_base.specs.Walks.{WalkBetween}
+use Rattle.grid_base.proofs.Walks.{WalkBetween-superset}
+use Rattle.grid_graph.specs.declared.grid.Grid.{Grid}
+use Rattle.grid_graph.specs.declared.ground.Ground.{Ground}
+use Rattle.grid_graph.specs.declared.ground.Ground.TheVariants.{Open, WithChoked}
+use Rattle.grid_graph.specs.declared.net_spec.NetSpec.{NetSpec}
+use Rattle.grid_graph.specs.Grids.{Allows}
+use Rattle.grid_graph.specs.Grounds.{Reaches, JoinsTerminals, IsGround, IsCutOff, IsFirstCutOff}
+use Rattle.ispd_reader.specs.Alike.{AreAlike}
+
+pub AreAlike-sym : (g h : Grid) → AreAlike g h → AreAlike h g
+AreAlike-sym g h alike = record {
+  size = sym alike.size;
+  layout = sym alike.layout;
+  kinds = λ e. sym (alike.kinds e);
+  capacities = λ e. sym (alike.capacities e);
+  demands = λ width e. sym (alike.demands width e);
+  positions = λ v. sym (alike.positions v);
+}
+
+-- alike grids allow the same pieces
+pub Allows-alike : (g h : Grid) (over : Ground) (p : Piece) → AreAlike g h → Allows g over p → Allows h over p
+Allows-alike g h Open (Edge e) alike allowed = sym (alike.kinds e.0) ∙ allowed
+Allows-alike g h WithChoked (Edge e) alike allowed = λ wall. allowed (alike.kinds e.0 ∙ wall)
+Allows-alike g h Open (Via v) alike piece = subst (λ (s : Size). IsPiece s (Via v)) alike.size piece
+Allows-alike g h WithChoked (Via v) alike piece = subst (λ (s : Size). IsPiece s (Via v)) alike.size piece
+
+-- what a walk reaches in one it reaches in the other
+pub Reaches-alike : (g h : Grid) (over : Ground) (a b : ℕ) → AreAlike g h → Reaches g over a b → Reaches h over a b
+Reaches-alike g h over a b alike walk =
+    subst (λ (s : Size). WalkBetween s (Allows h over) a b) alike.size
+    (WalkBetween-superset g.size (Allows g over) (Allows h over) (λ p. Allows-alike g h over p alike) a b walk)
+
+joins_too : (g h : Grid) (over : Ground) (terminals : List Vertex) → AreAlike g h → JoinsTerminals g over terminals → JoinsTerminals h over terminals
+joins_too g h over terminals alike joins = λ a b a_in b_in. Reaches-alike g h over a b alike (joins a b a_in b_in)
+
+-- what is joined in one is joined in the other
+pub JoinsTerminals-alike : (g h : Grid) (over : Ground) (terminals : List Vertex) → AreAlike g h → JoinsTerminals g over terminals ↔ JoinsTerminals h over terminals
+JoinsTerminals-alike g h over terminals alike = (joins_too g h over terminals alike, joins_too h g over terminals (AreAlike-sym g h alike))
+
+-- a net has the same ground in both
+pub IsGround-alike : (g h : Grid) (terminals : List Vertex) (found : Ground) → AreAlike g h → IsGround g terminals found → IsGround h terminals found
+IsGround-alike g h terminals Open alike is = (JoinsTerminals-alike g h Open terminals alike).0 is
+IsGround-alike g h terminals WithChoked alike is = (
+  λ joins. is.0 ((JoinsTerminals-alike g h Open terminals alike).1 joins),
+  (JoinsTerminals-alike g h WithChoked terminals alike).0 is.1,
+)
+
+-- a net that has none in one has none in the other, for the same terminal
+pub IsCutOff-alike : (g h : Grid) (n : NetSpec) (id terminal : ℕ) → AreAlike g h → IsCutOff g n id terminal → IsCutOff h n id terminal
+IsCutOff-alike g h n id terminal alike cut_off =
+    record {
+      named = cut_off.named;
+      apart = λ joins. cut_off.apart ((JoinsTerminals-alike g h WithChoked n.terminals alike).1 joins);
+      exists = cut_off.exists;
+      unjoined = λ first v at_first at_v walk. cut_off.unjoined first v at_first at_v (Reaches-alike h g WithChoked first.0 v.0 (AreAlike-sym g h alike) walk);
+      joined = λ i first v below at_first at_v. Reaches-alike g h WithChoked first.0 v.0 alike (cut_off.joined i first v below at_first at_v);
+    }
+
+-- and the first such net is the same
+pub IsFirstCutOff-alike : (g h : Grid) (nets : List NetSpec) (id terminal : ℕ) → AreAlike g h → IsFirstCutOff g nets id terminal → IsFirstCutOff h nets id terminal
+IsFirstCutOff-alike g h nets id terminal alike first = record {
+  place = first.place;
+  net = first.net;
+  stands = first.stands;
+  cut_off = IsCutOff-alike g h first.net id terminal alike first.cut_off;
+  earlier = λ j m below at. (JoinsTerminals-alike g h WithChoked m.terminals alike).0 (first.earlier j m below at);
+}
