@@ -1,5 +1,5 @@
 -- The pieces that touch a vertex are six at most.
-use Rattle.std.proofs.Common.{◌≡◌, ℕ, ◌+◌, ◌-◌, ◌*◌, ◌<◌, List, [], ◌∷◌, Contains, refl, sym, ◌∙◌, ap, ⊎_elim, arith, lit<}
+use Rattle.std.proofs.Common.{◌≡◌, ℕ, ◌+◌, ◌-◌, ◌*◌, List, [], ◌∷◌, Contains, sym, ◌∙◌, ap, ⊎_elim, arith, lit<}
 use Rattle.grid_base.specs.declared.piece.Piece.{Piece}
 use Rattle.grid_base.specs.declared.size.Size.{Size}
 use Rattle.grid_base.specs.Numbers.{to_next_col, to_next_row, to_next_layer, Connects}

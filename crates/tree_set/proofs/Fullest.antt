@@ -1,11 +1,10 @@
 -- The fullest of some edges, as one more edge is looked at.
-use Rattle.std.proofs.Common.{◌≡◌, ◌≢◌, ℕ, ◌+◌, ◌*◌, ◌≤◌, ◌<◌, Bool, true, false, cond, ltb, Option, Some, None, refl, sym, ◌∙◌, ap, subst, inl, inr, ◌⊎◌, ⊎_elim, arith}
+use Rattle.std.proofs.Common.{◌≡◌, ◌≢◌, ℕ, ◌+◌, ◌*◌, ◌≤◌, ◌<◌, Bool, true, false, cond, ltb, Option, Some, None, refl, sym, subst, inl, inr, ◌⊎◌, ⊎_elim, arith}
 use Rattle.std.proofs.lemmas.Bool.{ltb-true, cases_eq, cases_lt}
 use Rattle.std.proofs.lemmas.List.{get_or_past}
 use Rattle.grid_base.specs.declared.edge.Edge.{Edge}
 use Rattle.grid_base.specs.Numbers.{vertices}
 use Rattle.grid_graph.specs.declared.grid.Grid.{Grid}
-use Rattle.grid_graph.specs.declared.kind.Kind.{Kind}
 use Rattle.grid_graph.specs.declared.kind.Kind.TheVariants.{Open, Choked, Wall}
 use Rattle.grid_graph.specs.Grids.{kind, capacity, first_capacity, IsEdgeNumber}
 use Rattle.tree_set.specs.Fullest.{IsFullest, IsFullestBelow}

@@ -1,13 +1,12 @@
 -- Loads as one more piece, or one more net, is counted.
-use Rattle.std.proofs.Common.{◌≡◌, ◌≢◌, ℕ, ◌+◌, ◌<◌, Bool, true, false, cond, ◌||◌, List, length, get_or, take, slice_index, slice_set, refl, sym, ◌∙◌, ap, subst, ⊎_elim, arith, ◌≤◌, ◌*◌, eq-eqb, ne_eqb}
+use Rattle.std.proofs.Common.{◌≡◌, ℕ, ◌+◌, ◌<◌, Bool, true, false, cond, ◌||◌, List, length, get_or, take, slice_index, slice_set, refl, sym, ◌∙◌, ap, subst, ⊎_elim, arith, ◌≤◌, ◌*◌, eq-eqb, ne_eqb}
 use Rattle.grid_base.specs.declared.via.Via.{Via as ViaNumber}
 use Rattle.grid_base.specs.declared.size.Size.{Size}
 use Rattle.grid_base.specs.Numbers.{vertices, IsPiece}
-use Rattle.grid_graph.specs.declared.limits.TheConstants.{MAX_DEMAND}
 use Rattle.tree_set.specs.Routings.{ArePieces}
 use Rattle.std.specs.Ordering.{is_eq}
 use Rattle.std.specs.Cmp.{unsigned_ties}
-use Rattle.std.specs.List.{list_any, sum_by, zip}
+use Rattle.std.specs.List.{sum_by, zip}
 use Rattle.std.specs.declared.cmp.Ordering.TheVariants.{Less}
 use Rattle.std.proofs.lemmas.Bool.{cases_eq}
 use Rattle.std.proofs.lemmas.List.{get_or-set_same, get_or-set_other, get_or-take, get_or_default, length-take}
@@ -70,13 +69,13 @@ net_load-none g width ps i d x rising within is = ap (λ (b : Bool). cond b (dem
 -- what was counted of a net's load so far, and that no edge has more than the greatest demand
 pub record IsCounted (g : Grid) (width : ℕ) (ps : List Piece) (i : ℕ) (first loads : List ℕ) : Type 0 where
   pub value : (e : ℕ) → slice_index loads e ≡ slice_index first e + net_load g width (take i ps) e
-  pub limit : (e : ℕ) → net_load g width (take i ps) e ≤ MAX_DEMAND
+  pub limit : (e : ℕ) → net_load g width (take i ps) e ≤ 1023
 
 put_together : (loads first before demand after : ℕ) → loads ≡ first + before → before ≡ 0 → after ≡ demand → loads + demand ≡ first + after
 put_together loads first before demand after is none new = omega arith
 
 -- an edge's demand is added to its load
-pub IsCounted-edge : (g : Grid) (width : ℕ) (ps : List Piece) (i : ℕ) (d : Piece) (x : EdgeNumber) (first loads : List ℕ) → IsRising ps → i < length ps → get_or ps i d ≡ Edge x → x.0 < length loads → demand_on g width x.0 ≤ MAX_DEMAND → IsCounted g width ps i first loads → IsCounted g width ps (i + 1) first (slice_set loads x.0 (slice_index loads x.0 + demand_on g width x.0))
+pub IsCounted-edge : (g : Grid) (width : ℕ) (ps : List Piece) (i : ℕ) (d : Piece) (x : EdgeNumber) (first loads : List ℕ) → IsRising ps → i < length ps → get_or ps i d ≡ Edge x → x.0 < length loads → demand_on g width x.0 ≤ 1023 → IsCounted g width ps i first loads → IsCounted g width ps (i + 1) first (slice_set loads x.0 (slice_index loads x.0 + demand_on g width x.0))
 IsCounted-edge g width ps i d x first loads rising within is inside small before =
     let new = net_load-new g width ps i x.0 d (Edge x) within is (eq-eqb x.0 x.0 refl) in
     let off : (e : ℕ) → (x.0 ≡ e → ⊥) → net_load g width (take (i + 1) ps) e ≡ net_load g width (take i ps) e =
@@ -90,8 +89,8 @@ IsCounted-edge g width ps i d x first loads rising within is inside small before
           ∙ before.value e ∙ ap (λ (y : ℕ). slice_index first e + y) (sym (off e other)))
           (cases_eq x.0 e);
       limit = λ e. ⊎_elim
-          (λ (here : x.0 ≡ e). subst (λ (y : ℕ). net_load g width (take (i + 1) ps) y ≤ MAX_DEMAND) here (subst (λ (y : ℕ). y ≤ MAX_DEMAND) (sym new) small))
-          (λ (other : x.0 ≡ e → ⊥). subst (λ (y : ℕ). y ≤ MAX_DEMAND) (sym (off e other)) (before.limit e))
+          (λ (here : x.0 ≡ e). subst (λ (y : ℕ). net_load g width (take (i + 1) ps) y ≤ 1023) here (subst (λ (y : ℕ). y ≤ 1023) (sym new) small))
+          (λ (other : x.0 ≡ e → ⊥). subst (λ (y : ℕ). y ≤ 1023) (sym (off e other)) (before.limit e))
           (cases_eq x.0 e);
     }
 
@@ -101,7 +100,7 @@ IsCounted-via g width ps i d v first loads within is before =
     let same : (e : ℕ) → net_load g width (take (i + 1) ps) e ≡ net_load g width (take i ps) e = λ e. net_load-other g width ps i e d (Via v) within is refl in
     record {
       value = λ e. before.value e ∙ ap (λ (y : ℕ). slice_index first e + y) (sym (same e));
-      limit = λ e. subst (λ (y : ℕ). y ≤ MAX_DEMAND) (sym (same e)) (before.limit e);
+      limit = λ e. subst (λ (y : ℕ). y ≤ 1023) (sym (same e)) (before.limit e);
     }
 
 -- the number of an edge of the size is one of the table's

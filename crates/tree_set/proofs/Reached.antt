@@ -1,12 +1,12 @@
 -- How the reached vertices grow.
-use Rattle.std.proofs.Common.{◌≡◌, ℕ, ◌+◌, ◌<◌, ◌≤◌, ◌⊎◌, ◌↔◌, Bool, true, false, cond, not, List, [], ◌∷◌, ◌++◌, length, get_or, Contains, All, Option, Some, refl, sym, ◌∙◌, ap, subst, inl, inr, ⊎_elim, arith, eq-eqb, ne_eqb}
+use Rattle.std.proofs.Common.{◌≡◌, ℕ, ◌+◌, ◌<◌, ◌≤◌, ◌⊎◌, ◌↔◌, Bool, true, false, cond, List, [], ◌∷◌, ◌++◌, length, get_or, Contains, All, refl, sym, ◌∙◌, ap, subst, inl, inr, ⊎_elim, arith, eq-eqb, ne_eqb}
 use Rattle.std.specs.BTreeSet.{BTreeSet, contains, IsOrdered, Updates, btree_set_len}
 use Rattle.std.specs.List.{list_any}
 use Rattle.std.specs.Ordering.{nat_cmp, is_eq}
 use Rattle.std.specs.Cmp.{unsigned_ties}
 use Rattle.std.proofs.lemmas.Bool.{cases_eq}
 use Rattle.std.proofs.lemmas.List.{get_or_default}
-use Rattle.std.proofs.lemmas.List.Elements.{Contains-push, Contains-push_cases, Contains-append_left, All-contains, All-contains_itself, All-cons, All-nil}
+use Rattle.std.proofs.lemmas.List.Elements.{Contains-push, All-contains, All-contains_itself, All-cons, All-nil}
 use Rattle.std.proofs.lemmas.List.Folds.{list_any_at}
 use Rattle.std.proofs.lemmas.Map.Views.{length-le_from_below}
 use Rattle.grid_base.specs.declared.piece.Piece.{Piece}
@@ -17,6 +17,7 @@ use Rattle.grid_base.specs.Walks.{AreLinked, WalkBetween, InPieces, InVertices, 
 use Rattle.grid_base.proofs.Walks.{WalkBetween-refl, WalkBetween-link, closed_under_walks, walk_vertices}
 use Rattle.grid_base.proofs.Joined.{Joins-from_one, JoinsList-from_one}
 use Rattle.grid_graph.specs.Labels.{WaitsWith}
+use Rattle.grid_graph.proofs.Waiting.{pushed_cases, pushed_keeps, popped_waits, popped_waited}
 use Rattle.tree_set.specs.Reached.{Has, AreReached, Spreads}
 
 -- a vertex was added to a set
@@ -43,18 +44,6 @@ Adds-from_updates old new to updates ordered =
           (λ (other : to ≡ v → ⊥). inl (sym (at v false (sym (unsigned_ties to v) ∙ ne_eqb to v other)) ∙ has))
           (cases_eq to v);
     }
-
--- what waits where one more was pushed
-pushed_cases : (waiting : List Vertex) (from to : Vertex) (v : ℕ) → WaitsWith (waiting ++ to ∷ []) from v → WaitsWith waiting from v ⊎ (v ≡ to.0)
-pushed_cases waiting from to v waits =
-    ⊎_elim
-    (λ pushed. ⊎_elim (λ old. inl (inl old)) (λ new. inr (sym (ap (λ (x : Vertex). x.0) new))) (Contains-push_cases waiting to (record { 0 = v }) pushed))
-    (λ is. inl (inr is))
-    waits
-
-pushed_keeps : (waiting : List Vertex) (from to : Vertex) (v : ℕ) → WaitsWith waiting from v → WaitsWith (waiting ++ to ∷ []) from v
-pushed_keeps waiting from to v waits =
-    ⊎_elim (λ old. inl (Contains-append_left waiting (to ∷ []) (record { 0 = v }) old)) (λ is. inr is) waits
 
 -- a vertex that is linked to a reached one is reached, and waits from now on
 pub AreReached-added : (s : Size) (F : Piece → Type 0) (old new : BTreeSet ℕ) (waiting : List Vertex) (from to : Vertex) → AreReached s F old (WaitsWith waiting from) → Adds old new to.0 → AreLinked s F from.0 to.0 → AreReached s F new (WaitsWith (waiting ++ to ∷ []) from)
@@ -107,14 +96,8 @@ pub AreReached-popped : (s : Size) (F : Piece → Type 0) (reached : BTreeSet �
 AreReached-popped s F reached waiting from before = record {
   ordered = before.ordered;
   joined = before.joined;
-  spread = λ v w has linked. ⊎_elim
-      (λ got. inl got)
-      (λ waits. inr (⊎_elim (λ old. inl old) (λ new. inr (sym (ap (λ (x : Vertex). x.0) new))) (Contains-push_cases waiting from (record { 0 = v }) waits)))
-      (before.spread v w has linked);
-  known = λ v waits. ⊎_elim
-      (λ old. before.known v (Contains-append_left waiting (from ∷ []) (record { 0 = v }) old))
-      (λ is. before.known v (subst (InVertices (waiting ++ from ∷ [])) (sym is) (Contains-push waiting from)))
-      waits;
+  spread = λ v w has linked. ⊎_elim (λ got. inl got) (λ waits. inr (popped_waits waiting from v waits)) (before.spread v w has linked);
+  known = λ v waits. before.known v (popped_waited waiting from v waits);
 }
 
 -- a vertex need not wait once all that is linked to it is reached

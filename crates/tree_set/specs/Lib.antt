@@ -1,3 +1,8 @@
+pub use Rattle.grid_base.specs.Numbers
+pub use Rattle.grid_base.specs.Walks
+pub use Rattle.grid_graph.specs.Grids
+pub use Rattle.grid_graph.specs.Grounds
+pub use Rattle.grid_graph.specs.Lists
 pub mod Fractions
 pub mod Fullest
 pub mod Loads

@@ -1,5 +1,5 @@
 -- Loads: what nets use of the edges by their sets of pieces.
-use Rattle.std.specs.Prelude.{ℕ, ◌+◌, ◌==◌, Bool, false, cond, List}
+use Rattle.std.specs.Prelude.{ℕ, ◌==◌, Bool, false, cond, List}
 use Rattle.std.specs.List.{list_any, sum_by, zip}
 use Rattle.grid_base.specs.declared.piece.Piece.{Piece}
 use Rattle.grid_base.specs.declared.piece.Piece.TheVariants.{Edge, Via}

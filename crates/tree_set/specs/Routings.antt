@@ -19,8 +19,14 @@ ArePieces s pieces = All (IsPiece s) pieces
 abbrev pub IsInside : Grid → Ground → List Piece → Type 0
 IsInside g over pieces = All (Allows g over) pieces
 
--- one set per net, inside the net's ground, that joins the net's terminals; it may hold cycles and loose pieces
+-- a route of a net: a subset of the net's ground that joins the net's terminals; it may hold cycles and loose pieces
+pub record IsRoute (g : Grid) (n : NetSpec) (tree : List Piece) : Type 0 where
+  pub over : Ground
+  pub is_ground : IsGround g n.terminals over
+  pub inside : IsInside g over tree
+  pub joined : JoinsList g.size tree n.terminals
+
+-- a routing: one route per net
 pub record IsRouting (g : Grid) (nets : List NetSpec) (trees : List (List Piece)) : Type 0 where
   pub long : length trees ≡ length nets
-  pub inside : (k : ℕ) (n : NetSpec) (tree : List Piece) (over : Ground) → At nets k n → At trees k tree → IsGround g n.terminals over → IsInside g over tree
-  pub joined : (k : ℕ) (n : NetSpec) (tree : List Piece) → At nets k n → At trees k tree → JoinsList g.size tree n.terminals
+  pub each : (k : ℕ) (n : NetSpec) (tree : List Piece) → At nets k n → At trees k tree → IsRoute g n tree

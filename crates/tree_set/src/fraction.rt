@@ -15,15 +15,14 @@ pub struct Fraction {
 }
 
 impl Fraction {
-    ghost use Rattle.std.specs.Prelude.{◌≡◌, ◌*◌, ◌≤◌, ◌<◌, ◌↔◌, IsTrue};
-    ghost use Rattle.tree_set.specs.declared.limits.TheConstants.{NUMERATOR_LIMIT, MAX_DENOMINATOR};
+    ghost use Rattle.std.specs.Prelude.{◌≡◌, ◌*◌, ◌≤◌, ◌<◌, ◌^◌, ◌↔◌, IsTrue};
     ghost use Rattle.tree_set.specs.Fractions.{IsRatio, IsAtMost};
 
     /// The fraction num/den.
     pub fn of(num: u128, den: u128) -> Fraction
-        requires num { num < NUMERATOR_LIMIT }
+        requires num { num < 2 ^ 70 }
         requires positive { 1 ≤ den }
-        requires den { den ≤ MAX_DENOMINATOR }
+        requires den { den ≤ 2 ^ 57 }
         ensures { IsRatio num den result }
     {
         let divisor = greatest_divisor(num, den);

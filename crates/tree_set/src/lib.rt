@@ -20,6 +20,7 @@
 mod divisor;
 mod fraction;
 mod joining;
+mod laws;
 mod limits;
 mod load;
 mod measure;
@@ -33,6 +34,7 @@ mod within;
 
 pub use fraction::Fraction;
 pub use joining::joins;
+pub use laws::loads_add_up;
 pub use limits::{MAX_DENOMINATOR, NUMERATOR_LIMIT};
 pub use load::add_load;
 pub use measure::Measure;

@@ -3,7 +3,6 @@
 ghost use Rattle.std.specs.Prelude.{◌≡◌, ◌+◌, ◌*◌, ◌≤◌, ◌^◌, ℕ, length, slice_index};
 ghost use Rattle.grid_base.specs.Numbers.{vertices};
 ghost use Rattle.grid_graph.specs.Grids.{IsNetWidth};
-ghost use Rattle.grid_graph.specs.declared.limits.TheConstants.{MAX_DEMAND};
 ghost use Rattle.tree_set.specs.Loads.{net_load};
 ghost use Rattle.tree_set.specs.Routings.{ArePieces};
 
@@ -18,7 +17,7 @@ pub fn add_load(grid: &Grid, width: u32, tree: &Tree, loads: &mut [u64])
     requires table { length loads.old ≡ 2 * vertices grid.now.size }
     requires room { (e : ℕ) → slice_index loads.old e ≤ 2 ^ 62 }
     ensures value { (e : ℕ) → slice_index loads.new e ≡ slice_index loads.old e + net_load grid.now width tree.now e }
-    ensures limit { (e : ℕ) → slice_index loads.new e ≤ slice_index loads.old e + MAX_DEMAND }
+    ensures limit { (e : ℕ) → slice_index loads.new e ≤ slice_index loads.old e + 1023 }
 {
     for p in tree.pieces() {
         if let Piece::Edge(e) = *p {

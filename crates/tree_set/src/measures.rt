@@ -3,7 +3,6 @@
 ghost use Rattle.std.specs.Prelude.{◌≡◌, ◌*◌, ◌+◌, ◌≤◌, ◌^◌, ℕ, All, IfOk, length, slice_index};
 ghost use Rattle.grid_base.specs.Numbers.{vertices};
 ghost use Rattle.grid_base.specs.declared.size.Size.{Size};
-ghost use Rattle.grid_graph.specs.declared.limits.TheConstants.{MAX_NETS};
 ghost use Rattle.tree_set.specs.Loads.{load};
 ghost use Rattle.tree_set.specs.Measures as measures;
 ghost use Rattle.tree_set.specs.Routings.{ArePieces};
@@ -54,7 +53,7 @@ fn add_all(design: &Design, trees: &[Tree], loads: &mut [u64])
 
 /// The number of pieces of all trees.
 fn wirelength_of(size: Size, trees: &[Tree]) -> u64
-    requires count { length trees.now ≤ MAX_NETS }
+    requires count { length trees.now ≤ 2 ^ 22 }
     requires pieces { All (ArePieces size) trees.now }
     ensures { result ≡ measures.wirelength trees.now }
 {

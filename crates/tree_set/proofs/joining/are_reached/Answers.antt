@@ -1,4 +1,4 @@
-use Rattle.std.proofs.Common.{rules, ◌≡◌, ℕ, ◌<◌, length, get_or, sym, subst, ⊎_elim, arith}
+use Rattle.std.proofs.Common.{rules, ◌≡◌, ℕ, get_or, sym, subst, ⊎_elim, arith}
 use Rattle.std.proofs.lemmas.Bool.{cases_eq}
 use Rattle.std.proofs.lemmas.List.{get_or_default}
 use Rattle.grid_base.specs.declared.vertex.Vertex.{Vertex}

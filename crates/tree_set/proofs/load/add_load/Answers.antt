@@ -1,7 +1,4 @@
-use Rattle.std.proofs.Common.{◌≡◌, ◌*◌, ◌≤◌, ◌<◌, ℕ, length, slice_index, List, refl, sym, ◌∙◌, subst, arith}
-use Rattle.grid_base.specs.declared.piece.Piece.{Piece}
-use Rattle.grid_base.specs.Numbers.{vertices}
-use Rattle.grid_graph.specs.declared.limits.TheConstants.{MAX_DEMAND}
+use Rattle.std.proofs.Common.{◌≤◌, ◌<◌, ℕ, length, sym, ◌∙◌, subst}
 use Rattle.grid_graph.specs.Grids.{demand_on}
 use Rattle.tree_set.specs.Order.{IsRising}
 use Rattle.tree_set.specs.Routings.{ArePieces}
@@ -21,7 +18,7 @@ loop-p-preserved c =
           let x = w.in-Edge.e in
           let inside : x.0 < length c.loop-p.loads =
           subst (λ (n : ℕ). x.0 < n) (sym (c.loop-p.auto.loads ∙ c.requires.table)) (edge_number g.size ps i _ x pieces c.loop-p-test.true w.in-Edge.is) in
-          let small : demand_on g c.args.width x.0 ≤ MAX_DEMAND = subst (λ (n : ℕ). n ≤ MAX_DEMAND) w.demand.ensures.value w.demand.ensures.limit in
+          let small : demand_on g c.args.width x.0 ≤ 1023 = subst (λ (n : ℕ). n ≤ 1023) w.demand.ensures.value w.demand.ensures.limit in
           rw (w.loads-is, w.from.ensures, w.demand.ensures.value)
           (IsCounted-edge g c.args.width ps i _ x c.args.loads.now c.loop-p.loads rising c.loop-p-test.true w.in-Edge.is inside small c.loop-p.invariant)
       | in_default w ↦

@@ -1,4 +1,4 @@
-use Rattle.std.proofs.Common.{◌≡◌, ◌+◌, ◌*◌, ◌≤◌, ◌^◌, ℕ, slice_index, sym, ◌∙◌, ap, arith, zero-add, map, sum}
+use Rattle.std.proofs.Common.{◌+◌, ℕ, slice_index, sym, ◌∙◌, ap, arith, zero-add, map, sum}
 use Rattle.std.specs.List.{range_with_len}
 use Rattle.std.proofs.lemmas.List.FromFn.{sum_by-map-range_with_len_more}
 use Rattle.grid_graph.specs.Grids.{kind, capacity}

@@ -1,4 +1,4 @@
-use Rattle.std.proofs.Common.{◌≡◌, ◌*◌, ℕ, slice_index, refl}
+use Rattle.std.proofs.Common.{◌*◌, slice_index, refl}
 use Rattle.grid_base.specs.Numbers.{vertices}
 use Rattle.grid_graph.specs.Grids.{capacity}
 use Rattle.tree_set.specs.Fractions.{IsRatio}

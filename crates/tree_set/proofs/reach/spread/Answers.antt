@@ -1,4 +1,4 @@
-use Rattle.std.proofs.Common.{rules, ◌≡◌, ℕ, ◌+◌, ◌<◌, length, inr, refl, sym, ◌∙◌, subst, arith}
+use Rattle.std.proofs.Common.{rules, ◌≡◌, ◌<◌, length, inr, refl, subst, arith}
 use Rattle.grid_base.specs.Walks.{InPieces}
 use Rattle.grid_graph.specs.Labels.{WaitsWith}
 use Rattle.tree_set.proofs.Reached.{SpreadBelow, SpreadBelow-more, AreReached-spread, reached_vertex, spread_to_all}

@@ -1,6 +1,5 @@
-use Rattle.std.proofs.Common.{◌≡◌, ◌+◌, ◌<◌, ℕ, length, get_or}
+use Rattle.std.proofs.Common.{◌≡◌, ◌+◌, ℕ, length}
 use Rattle.std.specs.BTreeSet.{btree_set_len}
-use Rattle.grid_base.specs.declared.piece.Piece.{Piece}
 use Rattle.grid_base.specs.Walks.{InPieces}
 use Rattle.grid_graph.specs.Labels.{WaitsWith}
 use Rattle.tree_set.specs.Reached.{AreReached, Has}

@@ -1,4 +1,4 @@
-use Rattle.std.proofs.Common.{◌≡◌, ◌≢◌, ℕ, zero, suc, ◌*◌, ◌<◌, ◌≤◌, List, [], ◌∷◌, length, get_or, Option, Some, None, All, refl, sym, ◌∙◌, ap, subst, arith, sum_by}
+use Rattle.std.proofs.Common.{◌≡◌, ◌≢◌, ℕ, zero, suc, ◌*◌, ◌≤◌, List, [], ◌∷◌, length, get_or, All, refl, sym, ◌∙◌, ap, subst, arith, sum_by}
 use Rattle.std.proofs.lemmas.List.Sums.{sum_by-le}
 use Rattle.std.proofs.lemmas.Option.{slice_get-get_or, slice_get_within, same_Some}
 use Rattle.grid_base.specs.declared.size.Size.{Size}
@@ -8,7 +8,7 @@ use Rattle.grid_graph.specs.declared.grid.Grid.{Grid}
 use Rattle.grid_graph.specs.declared.net_spec.NetSpec.{NetSpec}
 use Rattle.grid_graph.specs.Grids.{IsNetWidth}
 use Rattle.grid_graph.specs.Lists.{At, HasNoRepeats}
-use Rattle.grid_graph.specs.Nets.{IdsDiffer, IsDesign, IsNet}
+use Rattle.grid_graph.specs.Nets.{IdsDiffer, IsDesign}
 use Rattle.tree_set.proofs.tests.equal_design.Goals as goal
 
 pair_vertices : (s : Size) (from to : Vertex) → IsVertex s from.0 → IsVertex s to.0 → (i : ℕ) (v : Vertex) → At (from ∷ to ∷ []) i v → IsVertex s v.0
@@ -41,6 +41,7 @@ IsDesign-equal g nets from to equal narrow apart from_is to_is few =
       pins = omega arith;
       ids = IdsDiffer-equal nets from to equal;
       net = λ k n at. record {
+        id = omega (arith, (equal.each k n at).0, slice_get_within nets k n at);
         width = subst (IsNetWidth g) (sym (equal.each k n at).1) narrow;
         vertices = subst (λ (ts : List Vertex). (i : ℕ) (v : Vertex) → At ts i v → IsVertex g.size v.0) (sym (equal.each k n at).2) (pair_vertices g.size from to from_is to_is);
         distinct = subst HasNoRepeats (sym (equal.each k n at).2) (pair_apart from to apart);

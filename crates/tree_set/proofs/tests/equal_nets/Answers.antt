@@ -1,16 +1,9 @@
-use Rattle.std.proofs.Common.{◌≡◌, ℕ, zero, suc, ◌+◌, ◌⊎◌, List, [], ◌∷◌, ◌++◌, length, refl, sym, ◌∙◌, ap, subst, inl, inr, ⊎_elim, arith, length-append}
-use Rattle.std.proofs.lemmas.Option.{slice_get_within, same_Some}
+use Rattle.std.proofs.Common.{◌≡◌, ℕ, ◌+◌, List, [], ◌∷◌, ◌++◌, length, refl, sym, ◌∙◌, ap, subst, ⊎_elim, length-append}
 use Rattle.grid_base.specs.declared.vertex.Vertex.{Vertex}
 use Rattle.grid_graph.specs.declared.net_spec.NetSpec.{NetSpec}
 use Rattle.grid_graph.specs.Lists.{At}
+use Rattle.grid_graph.proofs.Grounds.{At-push_cases}
 use Rattle.tree_set.proofs.tests.equal_nets.Goals as goal
-
-At-push_cases : (nets : List NetSpec) (y : NetSpec) (k : ℕ) (n : NetSpec) → At (nets ++ y ∷ []) k n → At nets k n ⊎ ((length nets ≡ k) × (y ≡ n))
-At-push_cases [] y zero n at = inr (refl, same_Some y n at)
-At-push_cases [] y (suc k) n at = absurd (omega (arith, slice_get_within (y ∷ []) (suc k) n at))
-At-push_cases (x ∷ rest) y zero n at = inl at
-At-push_cases (x ∷ rest) y (suc k) n at =
-    ⊎_elim (λ old. inl old) (λ new. inr (ap suc new.0, new.1)) (At-push_cases rest y k n at)
 
 abbrev IsOneOf : Vertex → Vertex → ℕ → NetSpec → Type 0
 IsOneOf from to k n = (n.id ≡ k) × (n.width ≡ 1) × (n.terminals ≡ from ∷ to ∷ [])
@@ -19,8 +12,8 @@ pushed_each : (nets : List NetSpec) (y : NetSpec) (from to : Vertex) → ((k : �
 pushed_each nets y from to each here k n at =
     ⊎_elim
     (λ old. each k n old)
-    (λ new. subst (λ (m : NetSpec). IsOneOf from to k m) new.1 (subst (λ (j : ℕ). IsOneOf from to j y) new.0 here))
-    (At-push_cases nets y k n at)
+    (λ new. subst (IsOneOf from to k) (sym new.1) (subst (λ (j : ℕ). IsOneOf from to j y) (sym new.0) here))
+    (At-push_cases nets y n k at)
 
 pub loop-id-preserved : goal.loop-id-preserved
 loop-id-preserved c =
