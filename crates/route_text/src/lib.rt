@@ -1,31 +1,52 @@
-//! The text of routes: which tiles the wires of each net go through, as text for other programs.
+//! The text of routes: written for a design with one set of pieces per net, and read back as blocks.
 //!
 //! ```text
-//! write_net(desk, Port::Report, &frame, b"clock", 7, &tree)?;
+//! write_routes(desk, Port::Report, &design, trees.as_slice())?;
 //! // clock 7
 //! // (5,25,1)-(45,25,1)
 //! // (25,25,1)-(25,25,2)
 //! // !
+//! let blocks = read_routes(alloc, bytes)?;
+//! blocks[0].segments.list();                // a wire from (5,25,1) to (45,25,1), and a via
 //! ```
 //!
-//! It stands on `tree_set` and `grid_base` for the routes, on `gr_desk` to write to, and on `itoa`.
+//! It stands on `tree_set`, `grid_graph` and `grid_base` for the routes, on `gr_desk` to write to, on `text_scan` to
+//! read, and on `itoa`.
 //!
-//! Promised: the bytes written are exactly the text of the set of pieces, or some part from its
-//! front where a write failed; and no memory is taken.
+//! Promised: `write_routes` writes exactly the text of the nets with their sets, or some part from its front where a
+//! write failed, and takes no memory. `read_routes` answers the blocks that a text names, or the first place at which
+//! it is no list of blocks; only want of memory is left open. By the laws of `laws.rt` a written text reads back: as
+//! one block per net, which has the net's name and id and names exactly the pieces of its set.
 
 #![tactic(auto)]
 
 mod axis;
-mod frame;
-mod held;
+mod block;
+mod laws;
 mod net;
-mod pen;
+mod parts;
+mod point;
 mod points;
 mod position;
+mod reading;
+mod route_error;
+mod routes;
 mod runs;
+mod segment;
+mod segments;
 
-pub use frame::Frame;
-pub use net::write_net;
+pub use block::Block;
+pub use laws::{
+    no_bound_decides, runs_are_longest, segments_name_their_pieces, written_routes_read_back,
+};
+pub use point::Point;
+pub use reading::read_routes;
+pub use route_error::RouteError;
+pub use routes::write_routes;
+pub use segment::Segment;
+pub use segments::Segments;
 
+#[cfg(test)]
+mod reading_tests;
 #[cfg(test)]
 mod tests;

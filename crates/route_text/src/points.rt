@@ -2,13 +2,13 @@
 
 ghost use Rattle.std.specs.Prelude.{◌≡◌};
 ghost use Rattle.grid_base.specs.Numbers.{IsVertex};
-ghost use Rattle.route_text.specs.Pens.{Puts, pen_told};
+ghost use Rattle.gr_desk.specs.Pens.{Puts, pen_told};
 ghost use Rattle.route_text.specs.RouteText.{point_text, segment_text};
 
-use crate::frame::Frame;
-use crate::pen::Pen;
-use gr_desk::Desk;
+use crate::position::{x_of, y_of};
+use gr_desk::{Desk, Pen};
 use grid_base::Vertex;
+use grid_graph::Grid;
 use itoa::{Buffer, Integer};
 
 /// Puts a number in decimal digits.
@@ -20,30 +20,30 @@ pub(crate) fn put_number<D: Desk, I: Integer>(pen: &mut Pen<'_, D>, number: I)
 }
 
 /// Puts a vertex as a point.
-fn put_point<D: Desk>(pen: &mut Pen<'_, D>, frame: &Frame, v: Vertex)
-    requires { IsVertex frame.now.size v.0 }
+fn put_point<D: Desk>(pen: &mut Pen<'_, D>, grid: &Grid, v: Vertex)
+    requires { IsVertex grid.now.size v.0 }
     ensures same_desk { pen.new.desk.ghost_name ≡ pen.old.desk.ghost_name }
-    ensures puts { Puts (pen_told D.told pen.old) (pen_told D.told pen.new) (point_text frame.now v.0) }
+    ensures puts { Puts (pen_told D.told pen.old) (pen_told D.told pen.new) (point_text grid.now v.0) }
 {
-    let place = frame.size.place_of(v);
+    let place = grid.size().place_of(v);
     pen.put(b"(");
-    put_number(pen, frame.x_of(place.col));
+    put_number(pen, x_of(grid, place.col));
     pen.put(b",");
-    put_number(pen, frame.y_of(place.row));
+    put_number(pen, y_of(grid, place.row));
     pen.put(b",");
     put_number(pen, place.layer + 1);
     pen.put(b")");
 }
 
 /// Puts a segment from one vertex to another, on a line of its own.
-pub(crate) fn put_segment<D: Desk>(pen: &mut Pen<'_, D>, frame: &Frame, from: Vertex, to: Vertex)
-    requires from { IsVertex frame.now.size from.0 }
-    requires to { IsVertex frame.now.size to.0 }
+pub(crate) fn put_segment<D: Desk>(pen: &mut Pen<'_, D>, grid: &Grid, from: Vertex, to: Vertex)
+    requires from { IsVertex grid.now.size from.0 }
+    requires to { IsVertex grid.now.size to.0 }
     ensures same_desk { pen.new.desk.ghost_name ≡ pen.old.desk.ghost_name }
-    ensures puts { Puts (pen_told D.told pen.old) (pen_told D.told pen.new) (segment_text frame.now (from.0, to.0)) }
+    ensures puts { Puts (pen_told D.told pen.old) (pen_told D.told pen.new) (segment_text grid.now (from.0, to.0)) }
 {
-    put_point(pen, frame, from);
+    put_point(pen, grid, from);
     pen.put(b"-");
-    put_point(pen, frame, to);
+    put_point(pen, grid, to);
     pen.put(b"\n");
 }

@@ -1,4 +1,4 @@
-use Rattle.route_text.proofs.Pens.{puts-then}
+use Rattle.gr_desk.proofs.Pens.{puts-then}
 use Rattle.route_text.proofs.points.put_segment.Goals as goal
 
 pub returns-clause-puts : goal.returns-clause-puts

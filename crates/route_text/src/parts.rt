@@ -1,0 +1,95 @@
+//! The small parts of a route text: marks, numbers, points and segments.
+
+ghost use Rattle.std.specs.Prelude.{◌≡◌, ◌≤ℤ◌, IfOk};
+ghost use Rattle.grid_graph.specs.GridLimits.{IsPosition};
+ghost use Rattle.route_text.specs.Blocks.{mark_at, coordinate_at, token_number_at, point_at, segment_at};
+ghost use Rattle.route_text.specs.ReadLimits.{IsNearPoint, IsNearSegment};
+ghost use Rattle.route_text.specs.Reads.{Reads, Moves, place_of};
+
+use crate::point::Point;
+use crate::route_error::RouteError;
+use crate::segment::Segment;
+use text_scan::{NumberFault, Scanner};
+
+/// The farthest that a number may be from zero.
+pub(crate) const MAX_NUMBER: i64 = 1 << 40;
+
+/// The byte `b`, after blanks.
+fn mark(scanner: &mut Scanner<'_>, b: u8) -> Result<(), RouteError>
+    ensures mark { Reads (λ _. tt) result scanner.new (mark_at b scanner.old) }
+    ensures passed { IfOk result (λ _. Moves 1 scanner.old scanner.new) }
+{
+    if scanner.mark(b) {
+        Ok(())
+    } else {
+        Err(RouteError::Syntax {
+            at: scanner.place(),
+        })
+    }
+}
+
+/// A number of a point, which may end without a blank.
+fn coordinate(scanner: &mut Scanner<'_>) -> Result<i64, RouteError>
+    ensures number { Reads (λ x. x) result scanner.new (coordinate_at scanner.old) }
+    ensures passed { IfOk result (λ _. Moves 1 scanner.old scanner.new) }
+    ensures range { IfOk result (λ x. IsPosition x) }
+{
+    match scanner.digits(i128::from(-MAX_NUMBER), i128::from(MAX_NUMBER)) {
+        Ok(value) => Ok(value as i64),
+        Err(fault) => Err(refusal(fault)),
+    }
+}
+
+/// A number from `lo` to `hi` that is a whole token.
+pub(crate) fn token_number(scanner: &mut Scanner<'_>, lo: i64, hi: i64) -> Result<i64, RouteError>
+    ensures number { Reads (λ x. x) result scanner.new (token_number_at lo hi scanner.old) }
+    ensures passed { IfOk result (λ _. Moves 1 scanner.old scanner.new) }
+    ensures range { IfOk result (λ x. (lo ≤ℤ x) × (x ≤ℤ hi)) }
+{
+    match scanner.number(lo, hi) {
+        Ok(value) => Ok(value),
+        Err(fault) => Err(refusal(fault)),
+    }
+}
+
+/// The refusal of a number.
+fn refusal(fault: NumberFault) -> RouteError
+    ensures { result ≡ RouteError.Syntax (place_of fault) }
+{
+    let at = match fault {
+        NumberFault::NotNumber { at } => at,
+        NumberFault::OutOfRange { at } => at,
+        NumberFault::End { at } => at,
+    };
+    RouteError::Syntax { at }
+}
+
+/// `(`, x, `,`, y, `,`, layer, `)`.
+#[tactic(auto, unfolding(crate::specs::Blocks::point_at))]
+fn point(scanner: &mut Scanner<'_>) -> Result<Point, RouteError>
+    ensures point { Reads (λ p. p) result scanner.new (point_at scanner.old) }
+    ensures passed { IfOk result (λ _. Moves 1 scanner.old scanner.new) }
+    ensures range { IfOk result IsNearPoint }
+{
+    mark(scanner, b'(')?;
+    let x = coordinate(scanner)?;
+    mark(scanner, b',')?;
+    let y = coordinate(scanner)?;
+    mark(scanner, b',')?;
+    let layer = coordinate(scanner)?;
+    mark(scanner, b')')?;
+    Ok(Point { x, y, layer })
+}
+
+/// A point, `-`, a point.
+#[tactic(auto, unfolding(crate::specs::Blocks::segment_at))]
+pub(crate) fn segment(scanner: &mut Scanner<'_>) -> Result<Segment, RouteError>
+    ensures segment { Reads (λ s. s) result scanner.new (segment_at scanner.old) }
+    ensures passed { IfOk result (λ _. Moves 1 scanner.old scanner.new) }
+    ensures range { IfOk result IsNearSegment }
+{
+    let from = point(scanner)?;
+    mark(scanner, b'-')?;
+    let to = point(scanner)?;
+    Ok(Segment { from, to })
+}
