@@ -9,7 +9,7 @@ use Rattle.gr_desk.specs.Causes.{Rose}
 use Rattle.gr_desk.specs.Told.{Told}
 use Rattle.gr_desk.specs.Runs.{Adds}
 use Rattle.gr_desk.proofs.Runs.{adds-then}
-use Rattle.route_text.specs.Pens.{Ends}
+use Rattle.gr_desk.specs.Pens.{Ends}
 
 -- a front of a part is a front of the whole
 pub front_within : (n : ℕ) (before text more whole : List ℕ) → whole ≡ before ++ text ++ more → (m : ℕ) × (before ++ take n text ≡ take m whole)
@@ -27,27 +27,6 @@ front_within n before text more whole e = (
 -- a count that rose in the second of two turns rose in both together
 pub rose-later : (a b c : ℕ) → a ≤ b → Rose b c → Rose a c
 rose-later a b c h r = omega (arith, h, r)
-
--- a count that rose in the first of two turns rose in both together
-pub rose-before : (a b c : ℕ) → Rose a b → b ≤ c → Rose a c
-rose-before a b c r h = omega (arith, h, r)
-
--- the last turn of a text ends it or fails
-pub ends_last : {T E : Type 0} (a b c : Told) (port : Port) (before text : List ℕ) (r : Result T E)
-    → Adds a b port before → b.out_faults ≡ a.out_faults → Ends b c port text r
-    → Ends a c port (before ++ text) r
-ends_last a b c port before text (Ok v) h same ends = record {
-  all = adds-then a b c port before text h ends.all;
-  part = tt;
-  cause = tt;
-  quiet = ends.quiet ∙ same;
-}
-ends_last a b c port before text (Err e) h same ends = record {
-  all = tt;
-  part = (length before + ends.part.0, subst (λ (bs : List ℕ). Adds a c port bs) (sym (take-append-add before text ends.part.0)) (adds-then a b c port before _ h ends.part.1));
-  cause = rose-later _ _ _ h.later ends.cause;
-  quiet = tt;
-}
 
 -- a turn that failed ends the whole
 pub ends_cut : {T E : Type 0} (a b c : Told) (port : Port) (before text more whole : List ℕ) (r : Result T E) → whole ≡ before ++ text ++ more

@@ -1,6 +1,9 @@
 pub mod Pairs
-pub mod Sparse
-pub mod Runs
-pub mod Overflow
 pub mod Endings
 pub mod Outcomes
+pub mod Visits
+pub mod WayBack
+pub mod TwoTerminals
+pub mod Causes
+pub mod Routings
+pub mod ReadBack

@@ -9,26 +9,31 @@
 //! // wirelength 2
 //! ```
 //!
-//! It stands on `ispd_reader` for the design, `tree_set` and `grid_base` for the route,
-//! `route_text` for its text, `gr_desk` to read from and write to, and `itoa`.
+//! It stands on `ispd_reader` for the design, `grid_graph` for the nets' grounds, `tree_set` for routes and their
+//! measures, `route_text` for their text, `gr_desk` to read from and write to, and `itoa`.
 //!
 //! Promised, in the words of `specs/Promise.antt`: where the status is 0, the report has the route
-//! text of a set of pieces that joins the net's pins inside the grid, and the overflow and the
-//! wirelength of that very set; every other status has its cause, and no output file is touched.
+//! text of one set of pieces per net that joins the net's terminals in its ground, and the overflow and the
+//! wirelength of these very sets; every other status but 8, want of memory, has its cause, and no output file is
+//! touched.
 
 #![tactic(auto)]
 
-mod axis;
-mod measures;
+mod laws;
+mod lines;
 mod prepared;
 mod refusal;
 mod report;
 mod routed_design;
-mod straight;
+mod routes;
 #[cfg(test)]
 mod tests;
 mod top;
+mod visit;
+mod walk;
+mod walker;
 mod words;
 
+pub use laws::reported_routes_read_back;
 pub use refusal::Refusal;
 pub use top::run;

@@ -1,23 +1,32 @@
 //! From the words to a routed design.
 
-ghost use Rattle.std.specs.Prelude.{◌≡◌, ◌≢◌, ◌↔◌, ℕ, List, [], ◌∷◌, Some, IfOk, IsErrOf, Err};
+ghost use Rattle.std.specs.Prelude.{◌≡◌, ◌≢◌, ◌≤◌, ◌↔◌, ℕ, List, length, Some, IfOk, IsErrOf, Err, IsTrue};
 ghost use Rattle.gr_desk.specs.declared.port.Port.TheVariants.{In};
 ghost use Rattle.gr_desk.specs.Calls.{IsOrderlyOpen};
-ghost use Rattle.ispd_reader.specs.FirstForm.{IsFirstForm, IsWithinLimits};
-ghost use Rattle.router_cli.specs.Promise.{IsRouteCommand, IsNoCommand, IsInput, IsOtherForm, IsRouting, InputFailed, ExpectsWords};
-ghost use Rattle.router_cli.specs.OneNet.{with_pieces};
+ghost use Rattle.grid_graph.specs.declared.net_spec.NetSpec.{NetSpec};
+ghost use Rattle.grid_graph.specs.Lists.{At};
+ghost use Rattle.ispd_reader.specs.declared.input_fault.InputFault.{InputFault};
+ghost use Rattle.ispd_reader.specs.Designs.{contents_of};
+ghost use Rattle.router_cli.specs.declared.refusal.Refusal.{Refusal};
+ghost use Rattle.router_cli.specs.Words.{IsRouteCommand, IsNoCommand};
+ghost use Rattle.router_cli.specs.Inputs.{IsInput, IsDesignOfText, AreSmall};
+ghost use Rattle.router_cli.specs.Measured.{IsRouted};
+ghost use Rattle.router_cli.specs.Refusals.{IsRefusedFor, IsInputRefused, IsTextRefusal, InputFailed};
+ghost use Rattle.router_cli.specs.Promise.{ExpectsWords};
 ghost use Rattle.router_cli.specs.Steps.{OnlyReads};
 
 use crate::refusal::Refusal;
 use crate::routed_design::RoutedDesign;
-use crate::straight::straight_route;
+use crate::routes::route_nets;
 use crate::words::route_name;
 use gr_desk::{Desk, Port, read_port};
-use ispd_reader::read_first;
+use grid_graph::{Design, NetSpec};
+use ispd_reader::read_design;
 use std::alloc::Global;
+use tree_set::measure_of;
 
-/// The most bytes that a text of the first form has.
-pub const MOST_BYTES: u64 = 65_536;
+/// The most bytes that an input has.
+const MAX_BYTES: u64 = 1 << 30;
 
 /// Reads the input that the words name, and routes it.
 pub fn prepare<D: Desk>(
@@ -25,16 +34,15 @@ pub fn prepare<D: Desk>(
     words: &Vec<String>,
     desk: &mut D,
 ) -> Result<RoutedDesign, Refusal>
-    ensures limits { IfOk result (λ r. IsWithinLimits r.design) }
-    ensures routing { IfOk result (λ r. IsRouting r.design.size (with_pieces r.design r.tree ∷ [])) }
+    ensures routed { IfOk result IsRouted }
     ensures named { IfOk result (λ r. (bytes : List ℕ)
-        → IsInput words.now.items (D.told desk.old) bytes → IsFirstForm bytes r.design) }
+        → IsInput words.now.items (D.told desk.old) bytes → IsDesignOfText bytes r.design) }
+    ensures small { IfOk result (λ r. AreSmall r.design.nets) }
     ensures reads { OnlyReads (ExpectsWords words.now.items (D.told desk.old)) (D.told desk.old) (D.told desk.new) }
     ensures no_command { IsErrOf result Refusal.NoCommand ↔ IsNoCommand words.now.items }
     ensures command { result ≢ Err Refusal.NoCommand → (name : List ℕ) × IsRouteCommand words.now.items name }
     ensures nothing_read { IsErrOf result Refusal.NoCommand → D.told desk.new ≡ D.told desk.old }
-    ensures other_form { IsErrOf result Refusal.Unbuilt → (bytes : List ℕ)
-        → IsInput words.now.items (D.told desk.old) bytes → IsOtherForm bytes }
+    ensures refused { (r : Refusal) → IsErrOf result r → IsTextRefusal r → IsInputRefused words.now.items (D.told desk.old) r }
     ensures unread { IsErrOf result Refusal.Unread → InputFailed (D.told desk.old) (D.told desk.new) }
     ensures quiet { result ≢ Err Refusal.Unread → (D.told desk.new).in_faults ≡ (D.told desk.old).in_faults }
 {
@@ -50,27 +58,48 @@ fn read_input<D: Desk>(alloc: Global, desk: &mut D, name: &str) -> Result<Vec<u8
     ensures bytes { IfOk result (λ v. (bytes : List ℕ) → (D.told desk.old).files name.now ≡ Some bytes → v.items ≡ bytes) }
     ensures reads { OnlyReads (IsOrderlyOpen (D.told desk.old) In name.now) (D.told desk.old) (D.told desk.new) }
     ensures command { result ≢ Err Refusal.NoCommand }
-    ensures other_form { IsErrOf result Refusal.Unbuilt → (bytes : List ℕ)
-        → (D.told desk.old).files name.now ≡ Some bytes → IsOtherForm bytes }
+    ensures refused { (r : Refusal) → IsErrOf result r → IsTextRefusal r → (bytes : List ℕ)
+        → (D.told desk.old).files name.now ≡ Some bytes → IsRefusedFor bytes r }
     ensures unread { IsErrOf result Refusal.Unread → InputFailed (D.told desk.old) (D.told desk.new) }
     ensures quiet { result ≢ Err Refusal.Unread → (D.told desk.new).in_faults ≡ (D.told desk.old).in_faults }
 {
     if desk.open(Port::In, name).is_err() {
         return Err(Refusal::Unread);
     }
-    Ok(read_port(alloc, desk, Port::In, MOST_BYTES)?)
+    Ok(read_port(alloc, desk, Port::In, MAX_BYTES)?)
 }
 
-// The design that the bytes name, with its route.
+// The design that the bytes name, with its routes.
 fn route_bytes(alloc: Global, bytes: &[u8]) -> Result<RoutedDesign, Refusal>
-    ensures limits { IfOk result (λ r. IsWithinLimits r.design) }
-    ensures routing { IfOk result (λ r. IsRouting r.design.size (with_pieces r.design r.tree ∷ [])) }
-    ensures named { IfOk result (λ r. IsFirstForm bytes.now r.design) }
+    ensures routed { IfOk result IsRouted }
+    ensures named { IfOk result (λ r. IsDesignOfText bytes.now r.design) }
+    ensures small { IfOk result (λ r. AreSmall r.design.nets) }
     ensures command { result ≢ Err Refusal.NoCommand }
-    ensures other_form { IsErrOf result Refusal.Unbuilt → IsOtherForm bytes.now }
+    ensures refused { (r : Refusal) → IsErrOf result r → IsTextRefusal r → IsRefusedFor bytes.now r }
     ensures read { result ≢ Err Refusal.Unread }
 {
-    let design = read_first(alloc, bytes)?;
-    let tree = straight_route(alloc, &design.size, design.from, design.to)?;
-    Ok(RoutedDesign { design, tree })
+    let design = read_design(alloc, bytes)?;
+    if !are_small(design.nets.list()) {
+        return Err(Refusal::Unbuilt);
+    }
+    let grounds = design.grounds()?;
+    let trees = route_nets(alloc, &design, grounds.as_slice())?;
+    let measure = measure_of(alloc, &design, trees.as_slice())?;
+    Ok(RoutedDesign {
+        design,
+        trees,
+        measure,
+    })
+}
+
+// Whether no net has more than two terminals.
+fn are_small(nets: &[NetSpec]) -> bool
+    ensures { IsTrue result ↔ AreSmall nets.now }
+{
+    for net in nets {
+        if net.terminals.list().len() > 2 {
+            return false;
+        }
+    }
+    true
 }

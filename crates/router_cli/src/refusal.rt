@@ -2,11 +2,12 @@
 
 ghost use Rattle.std.specs.Prelude.{◌≡◌};
 ghost use Rattle.router_cli.specs.declared.refusal.Refusal.TheVariants.{NoMemory};
-ghost use Rattle.router_cli.specs.Promise.{status_of, lines_of};
-ghost use Rattle.router_cli.specs.Steps.{of_port_fault, of_first_error};
+ghost use Rattle.router_cli.specs.Refusals.{status_of};
+ghost use Rattle.router_cli.specs.Steps.{of_port_fault, of_input_error, of_ground_error};
 
 use gr_desk::PortFault;
-use ispd_reader::FirstError;
+use grid_graph::GroundError;
+use ispd_reader::{InputError, InputFault};
 use thiserror::Error;
 
 /// Why a run ends without a route. A report that can't be written whole is no refusal: it has
@@ -16,9 +17,16 @@ pub enum Refusal {
     /// The words are no command.
     #[error("the words are no command")]
     NoCommand,
-    /// The input is of a form that isn't built yet.
-    #[error("the input is of a form that isn't built yet")]
+    /// The design has a net with more terminals than can be routed yet.
+    #[error("the design has a net of more than two terminals")]
     Unbuilt,
+    /// The input is no design.
+    #[error("{0}")]
+    Input(InputFault),
+    /// Neither open nor choked edges join a net's terminals: its id, and the place among its terminals, from 0, of the
+    /// first one that isn't joined to the first.
+    #[error("net {id} is unreachable: its terminal {terminal} is not joined to its first one")]
+    Unreachable { id: u32, terminal: u32 },
     /// The input could not be opened or read.
     #[error("the input can't be read")]
     Unread,
@@ -34,21 +42,10 @@ impl Refusal {
     {
         match self {
             Refusal::NoCommand => 2,
-            Refusal::Unbuilt => 3,
+            Refusal::Unbuilt | Refusal::Input(_) => 3,
+            Refusal::Unreachable { .. } => 5,
             Refusal::Unread => 6,
             Refusal::NoMemory => 8,
-        }
-    }
-
-    /// The lines that the report gets, each ended by a line feed.
-    pub fn lines(self) -> &'static [u8]
-        ensures { result.now ≡ lines_of self }
-    {
-        match self {
-            Refusal::NoCommand => b"refused 2\nusage: grouter route\n",
-            Refusal::Unbuilt => b"refused 3 10\n",
-            Refusal::Unread => b"refused 6\n",
-            Refusal::NoMemory => b"refused 8\n",
         }
     }
 }
@@ -58,20 +55,31 @@ impl From<PortFault> for Refusal {
 
     fn from(fault: PortFault) -> Refusal {
         match fault {
-            PortFault::TooLong => Refusal::Unbuilt,
+            PortFault::TooLong => Refusal::Input(InputFault::TooLong),
             PortFault::Failed => Refusal::Unread,
             PortFault::NoMemory => Refusal::NoMemory,
         }
     }
 }
 
-impl From<FirstError> for Refusal {
-    ghost from_gives = { λ error refusal. refusal ≡ of_first_error error };
+impl From<InputError> for Refusal {
+    ghost from_gives = { λ error refusal. refusal ≡ of_input_error error };
 
-    fn from(error: FirstError) -> Refusal {
+    fn from(error: InputError) -> Refusal {
         match error {
-            FirstError::Unbuilt => Refusal::Unbuilt,
-            FirstError::NoMemory => Refusal::NoMemory,
+            InputError::Input(fault) => Refusal::Input(fault),
+            InputError::NoMemory => Refusal::NoMemory,
+        }
+    }
+}
+
+impl From<GroundError> for Refusal {
+    ghost from_gives = { λ error refusal. refusal ≡ of_ground_error error };
+
+    fn from(error: GroundError) -> Refusal {
+        match error {
+            GroundError::Unreachable { id, terminal } => Refusal::Unreachable { id, terminal },
+            GroundError::NoMemory => Refusal::NoMemory,
         }
     }
 }

@@ -1,60 +1,36 @@
 //! The report of a routed design.
 
-ghost use Rattle.std.specs.Prelude.{◌≡◌, ◌∷◌, [], All};
+ghost use Rattle.std.specs.Prelude.{◌≡◌, ◌∷◌, [], ◌++◌, codes, length, All};
 ghost use Rattle.gr_desk.specs.declared.port.Port.TheVariants.{Report};
-ghost use Rattle.grid_base.specs.Numbers.{IsPiece};
-ghost use Rattle.ispd_reader.specs.FirstForm.{IsWithinLimits};
-ghost use Rattle.route_text.specs.declared.frame.Frame.{Frame};
-ghost use Rattle.route_text.specs.Pens.{Ends};
-ghost use Rattle.router_cli.specs.Promise.{report_line, report_of};
-ghost use Rattle.router_cli.specs.OneNet.{IsFrameOf};
+ghost use Rattle.gr_desk.specs.Pens.{Ends};
+ghost use Rattle.tree_set.specs.Routings.{ArePieces};
+ghost use Rattle.router_cli.specs.Lines.{line};
+ghost use Rattle.router_cli.specs.Promise.{report_of};
+ghost use Rattle.router_cli.specs.Measured.{IsMeasured};
 
-use crate::measures::{overflow, wirelength};
+use crate::lines::put_line;
 use crate::routed_design::RoutedDesign;
-use gr_desk::{Desk, Failed, Port, write_all};
-use ispd_reader::First;
-use itoa::Buffer;
-use route_text::{Frame, write_net};
+use gr_desk::{Desk, Failed, Pen, Port};
+use route_text::write_routes;
+use tree_set::Measure;
 
-/// Writes the report: the net's route text, then its overflow and its wirelength.
+/// Writes the report: the nets' route text, then the overflow and the wirelength.
 pub fn write_report<D: Desk>(desk: &mut D, routed: &RoutedDesign) -> Result<(), Failed>
-    requires limits { IsWithinLimits routed.now.design }
-    requires inside { All (IsPiece routed.now.design.size) routed.now.tree }
-    ensures { (frame : Frame) × IsFrameOf routed.now.design frame × Ends (D.told desk.old) (D.told desk.new) Report (report_of frame routed.now.design routed.now.tree) result }
+    requires one_each { length routed.now.trees.items ≡ length routed.now.design.nets }
+    requires pieces { All (ArePieces routed.now.design.grid.size) routed.now.trees.items }
+    requires measured { IsMeasured routed.now }
+    ensures { Ends (D.told desk.old) (D.told desk.new) Report (report_of routed.now.design routed.now.trees.items) result }
 {
-    let design = &routed.design;
-    let frame = frame_of(design);
-    write_net(
-        desk,
-        Port::Report,
-        &frame,
-        design.name.list(),
-        design.id,
-        &routed.tree,
-    )?;
-    write_line(desk, b"overflow", overflow(design, &routed.tree))?;
-    write_line(desk, b"wirelength", wirelength(design, &routed.tree))
+    write_routes(desk, Port::Report, &routed.design, routed.trees.as_slice())?;
+    write_measure(desk, &routed.measure)
 }
 
-// Where the design's tiles lie.
-fn frame_of(design: &First) -> Frame
-    requires { IsWithinLimits design.now }
-    ensures { IsFrameOf design.now result }
+// Writes the overflow and the wirelength.
+fn write_measure<D: Desk>(desk: &mut D, measure: &Measure) -> Result<(), Failed>
+    ensures { Ends (D.told desk.old) (D.told desk.new) Report (line (codes "overflow") (measure.now.overflow ∷ []) ++ line (codes "wirelength") (measure.now.wirelength ∷ [])) result }
 {
-    Frame {
-        size: design.size,
-        origin: design.origin,
-        tile: design.tile,
-    }
-}
-
-// Writes a line of the report: a word and a number.
-fn write_line<D: Desk>(desk: &mut D, word: &[u8], number: u64) -> Result<(), Failed>
-    ensures { Ends (D.told desk.old) (D.told desk.new) Report (report_line word.now number) result }
-{
-    let mut buffer = Buffer::new();
-    write_all(desk, Port::Report, word)?;
-    write_all(desk, Port::Report, b" ")?;
-    write_all(desk, Port::Report, buffer.format(number).as_bytes())?;
-    write_all(desk, Port::Report, b"\n")
+    let mut pen = Pen::new(desk, Port::Report);
+    put_line(&mut pen, b"overflow", &[measure.overflow]);
+    put_line(&mut pen, b"wirelength", &[measure.wirelength]);
+    pen.finish()
 }

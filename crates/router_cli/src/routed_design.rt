@@ -1,11 +1,12 @@
-//! A design with its route.
+//! A design with its routes.
 
-use ispd_reader::First;
-use tree_set::Tree;
+use grid_graph::Design;
+use tree_set::{Measure, Tree};
 
-/// A design of one net, and a set of pieces that joins the net's pins.
-#[derive(Debug, Drop)]
+/// A design, one tree per net in file order, and what is measured of them.
+#[derive(Drop)]
 pub struct RoutedDesign {
-    pub design: First,
-    pub tree: Tree,
+    pub design: Design,
+    pub trees: Vec<Tree>,
+    pub measure: Measure,
 }

@@ -1,184 +1,281 @@
 //! What no clause says: the worked examples, and that memory suffices for them.
+//!
+//! Most texts are `ROW` with the bytes between two places replaced by others.
 
 use crate::run;
-use gr_desk::{CallKind, Desk, Fail as Failing, MemDesk, Port};
+use gr_desk::{CallKind, Desk, Fail as FailedCall, MemDesk, Port};
 use std::alloc::{AllocError, Global};
 use std::test::Fail;
 
-// A design with one net `a` of id 0 and width 1, and tiles of 10 by 10.
-fn design(
+/// One net of two pins in a row of three tiles, of 144 bytes. The capacities stand at 29 and 51, the count of nets at
+/// 119, the net's count of pins at 125, its pins at 129 and 135, and the count of adjustments at 142.
+const ROW: &[u8] =
+    b"grid 3 1 1\nvertical capacity 0\nhorizontal capacity 4\nminimum width 1\nminimum spacing 1\nvia spacing 1\n0 0 10 10\nnum net 1\na 0 2 1\n5 5 1\n25 5 1\n0\n";
+
+/// What is reported of it.
+const ROW_REPORT: &str = "a 0\n(5,5,1)-(25,5,1)\n!\noverflow 0\nwirelength 2\n";
+
+/// The same row without capacity, up to its count of nets.
+const WALLED: &[u8] =
+    b"grid 3 1 1\nvertical capacity 0\nhorizontal capacity 0\nminimum width 1\nminimum spacing 1\nvia spacing 1\n0 0 10 10\nnum net ";
+
+/// The row with other line ends, and with the grid's corner and the pins to the lower left.
+const CRLF: &str =
+    "grid 3 1 1\r\nvertical capacity 0\r\nhorizontal capacity 4\r\nminimum width 1\r\nminimum spacing 1\r\nvia spacing 1\r\n-10 -10 10 10\r\nnum net 1\r\na 0 2 1\r\n-5 -5 1\r\n15 -5 1\r\n0\r\n";
+
+/// A tile on two layers.
+const STACK: &str =
+    "grid 1 1 2\nvertical capacity 4 4\nhorizontal capacity 4 4\nminimum width 1 1\nminimum spacing 1 1\nvia spacing 1 1\n0 0 10 10\nnum net 1\na 0 2 1\n5 5 1\n5 5 2\n0\n";
+
+/// Four tiles, with the edge between those of the pins choked.
+const SQUARE: &str =
+    "grid 2 2 1\nvertical capacity 2\nhorizontal capacity 2\nminimum width 1\nminimum spacing 1\nvia spacing 1\n0 0 10 10\nnum net 1\na 0 2 1\n5 5 1\n15 5 1\n1\n0 0 1 1 0 1 0\n";
+
+/// Three rows and columns on two layers, of which each has edges in one direction.
+const LAYERED: &[u8] =
+    b"grid 3 3 2\nvertical capacity 0 10\nhorizontal capacity 10 0\nminimum width 1 1\nminimum spacing 1 1\nvia spacing 1 1\n10 10 10 10\n\nnum net 1\na 0 2 1\n15 15 1\n35 35 1\n0\n";
+
+/// A text with the bytes between two places replaced.
+fn edited(
     alloc: Global,
-    corner: &str,
-    grid: &str,
-    vertical: &str,
-    horizontal: &str,
-    ones: &str,
-    pins: &str,
-) -> Result<String, AllocError> {
-    format!(in alloc;
-        "grid {grid}\nvertical capacity {vertical}\nhorizontal capacity {horizontal}\nminimum width {ones}\nminimum spacing {ones}\nvia spacing {ones}\n{corner} 10 10\nnum net 1\na 0 2 1\n{pins}\n0\n"
-    )
+    text: &[u8],
+    from: usize,
+    to: usize,
+    by: &str,
+) -> Result<Vec<u8>, AllocError> {
+    let mut bytes = Vec::from_slice(alloc, &text[..from.min(text.len())])?;
+    bytes.extend_from_slice(by.as_bytes())?;
+    bytes.extend_from_slice(&text[to.min(text.len())..])?;
+    Ok(bytes)
 }
 
-// The design of three tiles in a row.
-fn three_tiles(alloc: Global, vertical: &str, horizontal: &str) -> Result<String, AllocError> {
-    design(
-        alloc,
-        "0 0",
-        "3 1 1",
-        vertical,
-        horizontal,
-        "1",
-        "5 5 1\n25 5 1",
-    )
-}
-
-// The same design with its lower left corner elsewhere.
-fn cornered(alloc: Global, corner: &str) -> Result<String, AllocError> {
-    design(alloc, corner, "3 1 1", "4", "4", "1", "5 5 1\n25 5 1")
-}
-
-fn files(alloc: Global, text: String) -> Result<Vec<(String, Vec<u8>)>, AllocError> {
+/// A desk with the text under `a.gr`, which expects that name at In.
+fn desk_of(alloc: Global, text: Vec<u8>, failing: Vec<FailedCall>) -> Result<MemDesk, AllocError> {
     let mut files = Vec::new(alloc);
-    files.push((String::from_str(alloc, "a.gr")?, text.into_bytes()))?;
-    Ok(files)
+    files.push((String::from_str(alloc, "a.gr")?, text))?;
+    let mut names = Vec::new(alloc);
+    names.push((Port::In, String::from_str(alloc, "a.gr")?))?;
+    Ok(MemDesk::expecting(alloc, files, failing, names))
 }
 
-fn words_of(alloc: Global, words: &[&str]) -> Result<Vec<String>, AllocError> {
+/// The status of a run.
+fn status_of(alloc: Global, words: &[&str], desk: &mut MemDesk) -> Result<u8, AllocError> {
     let mut all = Vec::new(alloc);
     for word in words {
         all.push(String::from_str(alloc, word)?)?;
     }
-    Ok(all)
+    Ok(run(alloc, &all, desk))
 }
 
 #[test]
-fn a_design_gets_its_route_and_its_measures(rt: HostRuntime) -> Result<(), Fail> {
+fn a_design_is_reported(rt: HostRuntime) -> Result<(), Fail> {
     let alloc = rt.alloc();
-    let row = "a 0\n(5,5,1)-(25,5,1)\n!\n";
-    for (vertical, horizontal, measures) in [
-        ("4", "4", "overflow 0\nwirelength 2\n"),
-        ("4", "1", "overflow 2\nwirelength 2\n"),
-    ] {
-        let text = three_tiles(alloc, vertical, horizontal)?;
-        let mut desk = MemDesk::new(alloc, files(alloc, text)?, Vec::new(alloc));
-        let words = words_of(alloc, &["route", "a.gr"])?;
-        assert_eq!(rt; run(alloc, &words, &mut desk), 0);
-        let report = format!(in alloc; "{row}{measures}")?;
-        assert_eq!(rt; desk.written(Port::Report), report.as_bytes());
-    }
-    Ok(())
-}
-
-// A net whose pins lie on different layers, and a first layer with too little room along y.
-const THREE_LAYERS: &str =
-    "grid 6 4 3\nvertical capacity 1 10 8\nhorizontal capacity 10 1 8\nminimum width 1 1 2\nminimum spacing 1 1 2\nvia spacing 1 1 1\n100 200 20 20\n\nnum net 1\nclk_17 17 2 1\n105 210 1\n215 270 3\n\n0\n";
-
-#[test]
-fn a_route_turns_climbs_and_overflows_a_narrow_layer(rt: HostRuntime) -> Result<(), Fail> {
-    let alloc = rt.alloc();
-    let text = String::from_str(alloc, THREE_LAYERS)?;
-    let mut desk = MemDesk::new(alloc, files(alloc, text)?, Vec::new(alloc));
-    let words = words_of(alloc, &["route", "a.gr"])?;
-    let report =
-        "clk_17 17\n(110,210,1)-(210,210,1)\n(210,210,1)-(210,270,1)\n(210,270,1)-(210,270,2)\n(210,270,2)-(210,270,3)\n!\noverflow 3\nwirelength 10\n";
-    assert_eq!(rt; run(alloc, &words, &mut desk), 0);
-    assert_eq!(rt; desk.written(Port::Report), report.as_bytes());
-    Ok(())
-}
-
-#[test]
-fn pins_may_share_a_tile_a_column_or_a_stack_of_layers(rt: HostRuntime) -> Result<(), Fail> {
-    let alloc = rt.alloc();
-    for (grid, capacity, ones, pins, report) in [
+    let alone = "a 0\n!\noverflow 0\nwirelength 0\n";
+    let over_two = "a 0\n(5,5,1)-(25,5,1)\n!\noverflow 2\nwirelength 2\n";
+    let cases: [(usize, usize, &str, &str); 16] = [
+        (0, 0, "", ROW_REPORT),
+        (29, 30, "4", ROW_REPORT),
+        (29, 52, "4\nhorizontal capacity 1", over_two),
+        (119, 142, "0\n", "overflow 0\nwirelength 0\n"),
         (
-            "3 1 1",
-            "4",
-            "1",
-            "5 5 1\n7 3 1",
-            "a 0\n!\noverflow 0\nwirelength 0\n",
+            119,
+            142,
+            "3\na 0 2 1\n5 5 1\n25 5 1\nb 1 2 1\n5 5 1\n25 5 1\nc 2 2 1\n5 5 1\n25 5 1\n",
+            "a 0\n(5,5,1)-(25,5,1)\n!\nb 1\n(5,5,1)-(25,5,1)\n!\nc 2\n(5,5,1)-(25,5,1)\n!\noverflow 4\nwirelength 6\n",
+        ),
+        (135, 142, "7 3 1\n", alone),
+        (125, 142, "1 1\n5 5 1\n", alone),
+        (125, 142, "0 1\n", alone),
+        (125, 142, "3 1\n5 5 1\n7 3 1\n25 5 1\n", ROW_REPORT),
+        (135, 137, "30", ROW_REPORT),
+        (142, 144, "1\n0 0 1 1 0 1 0\n", over_two),
+        (142, 144, "2\n0 0 1 1 0 1 0\n0 0 1 1 0 1 8\n", ROW_REPORT),
+        (142, 144, "", ROW_REPORT),
+        (
+            0,
+            144,
+            CRLF,
+            "a 0\n(-5,-5,1)-(15,-5,1)\n!\noverflow 0\nwirelength 2\n",
         ),
         (
-            "1 3 1",
-            "4",
-            "1",
-            "5 5 1\n5 25 1",
-            "a 0\n(5,5,1)-(5,25,1)\n!\noverflow 0\nwirelength 2\n",
-        ),
-        (
-            "1 1 2",
-            "4 4",
-            "1 1",
-            "5 5 1\n5 5 2",
+            0,
+            144,
+            STACK,
             "a 0\n(5,5,1)-(5,5,2)\n!\noverflow 0\nwirelength 1\n",
         ),
-    ] {
-        let text = design(alloc, "0 0", grid, capacity, capacity, ones, pins)?;
-        let mut desk = MemDesk::new(alloc, files(alloc, text)?, Vec::new(alloc));
-        let words = words_of(alloc, &["route", "a.gr"])?;
-        assert_eq!(rt; run(alloc, &words, &mut desk), 0, "at {grid}");
-        assert_eq!(rt; desk.written(Port::Report), report.as_bytes());
+        (
+            0,
+            144,
+            SQUARE,
+            "a 0\n(5,15,1)-(15,15,1)\n(5,5,1)-(5,15,1)\n(15,5,1)-(15,15,1)\n!\noverflow 0\nwirelength 3\n",
+        ),
+    ];
+    for (from, to, by, report) in cases {
+        let text = edited(alloc, ROW, from, to, by)?;
+        let mut desk = desk_of(alloc, text, Vec::new(alloc))?;
+        assert_eq!(rt;
+            status_of(alloc, &["route", "a.gr"], &mut desk)?,
+            0,
+            "with {by:?}"
+        );
+        assert_eq!(rt;
+            desk.written(Port::Report),
+            report.as_bytes(),
+            "with {by:?}"
+        );
+    }
+    Ok(())
+}
+
+// No edge leads along y on the first layer, so the net takes two edges along x there, two along y on the second layer,
+// and a via up and one down; in which column it climbs is left to the walk.
+#[test]
+fn a_net_climbs_to_the_layer_of_its_direction(rt: HostRuntime) -> Result<(), Fail> {
+    let alloc = rt.alloc();
+    let text = edited(alloc, LAYERED, 0, 0, "")?;
+    let mut desk = desk_of(alloc, text, Vec::new(alloc))?;
+    assert_eq!(rt; status_of(alloc, &["route", "a.gr"], &mut desk)?, 0);
+    let report = desk.written(Port::Report);
+    assert!(rt; report.starts_with(b"a 0\n"));
+    assert!(rt; report.ends_with(b"!\noverflow 0\nwirelength 6\n"));
+    Ok(())
+}
+
+#[test]
+fn a_design_is_refused(rt: HostRuntime) -> Result<(), Fail> {
+    let alloc = rt.alloc();
+    let cases: [(&[u8], usize, &str, u8, &str); 17] = [
+        (ROW, 139, "", 3, "refused 3 11 139 number\n"),
+        (ROW, 101, "1099511627777", 3, "refused 3 12 101\n"),
+        (ROW, 0, "grid 2048 2048 3", 3, "refused 3 14 15\n"),
+        (ROW, 105, "0 10", 3, "refused 3 15 105\n"),
+        (ROW, 29, "262145", 3, "refused 3 16 29\n"),
+        (ROW, 67, "1024", 3, "refused 3 17 67\n"),
+        (ROW, 119, "4194305", 3, "refused 3 18 119\n"),
+        (
+            ROW,
+            119,
+            "2\na 0 2 1\n5 5 1\n25 5 1\nb 0 2 1\n",
+            3,
+            "refused 3 19 144 0\n",
+        ),
+        (ROW, 135, "31 5 1\n0\n", 3, "refused 3 20 135 0 1\n"),
+        (ROW, 140, "2\n0\n", 3, "refused 3 21 140 0 1\n"),
+        (ROW, 142, "1\n0 0 1 2 0 1 3\n", 3, "refused 3 22 154 0\n"),
+        (
+            WALLED,
+            119,
+            "1\na 0 2 1\n5 5 1\n25 5 1\n",
+            5,
+            "refused 5 4 0 1\n",
+        ),
+        (
+            WALLED,
+            119,
+            "2\na 0 2 1\n5 5 1\n7 3 1\nb 7 2 1\n5 5 1\n25 5 1\n",
+            5,
+            "refused 5 4 7 1\n",
+        ),
+        (
+            WALLED,
+            119,
+            "2\na 9 2 1\n5 5 1\n15 5 1\nb 7 2 1\n5 5 1\n25 5 1\n",
+            5,
+            "refused 5 4 9 1\n",
+        ),
+        (
+            ROW,
+            125,
+            "3 1\n5 5 1\n15 5 1\n25 5 1\n0\n",
+            3,
+            "refused 3 10\n",
+        ),
+        (
+            ROW,
+            125,
+            "3 1\n5 5 1\n15 5 1\n25 5 1\n1\n0 0 1 2 0 1 3\n",
+            3,
+            "refused 3 22 161 0\n",
+        ),
+        (
+            WALLED,
+            119,
+            "1\na 0 3 1\n5 5 1\n15 5 1\n25 5 1\n",
+            3,
+            "refused 3 10\n",
+        ),
+    ];
+    for (whole, from, by, status, report) in cases {
+        let text = edited(alloc, whole, from, whole.len(), by)?;
+        let mut desk = desk_of(alloc, text, Vec::new(alloc))?;
+        assert_eq!(rt;
+            status_of(alloc, &["route", "a.gr"], &mut desk)?,
+            status,
+            "with {by:?}"
+        );
+        assert_eq!(rt;
+            desk.written(Port::Report),
+            report.as_bytes(),
+            "with {by:?}"
+        );
     }
     Ok(())
 }
 
 #[test]
-fn words_that_are_no_command_and_other_inputs_are_refused(rt: HostRuntime) -> Result<(), Fail> {
+fn words_are_refused(rt: HostRuntime) -> Result<(), Fail> {
     let alloc = rt.alloc();
     let usage = "refused 2\nusage: grouter route\n";
-    for (first, second, count, status, report) in [
-        ("route", "a.gr", 0, 2, usage),
-        ("route", "a.gr", 1, 2, usage),
-        ("route", "-x", 2, 2, usage),
-        ("route", "a.gr", 2, 3, "refused 3 10\n"),
-        ("route", "b.gr", 2, 6, "refused 6\n"),
-    ] {
-        let text = three_tiles(alloc, "0", "4")?;
-        let mut desk = MemDesk::new(alloc, files(alloc, text)?, Vec::new(alloc));
-        let mut words = words_of(alloc, &[first, second])?;
-        words.truncate(count);
-        assert_eq!(rt; run(alloc, &words, &mut desk), status, "at {count} words");
-        assert_eq!(rt; desk.written(Port::Report), report.as_bytes());
+    let cases: [(&[&str], u8, &str); 7] = [
+        (&[], 2, usage),
+        (&["route"], 2, usage),
+        (&["route", "-x"], 2, usage),
+        (&["route", ""], 2, usage),
+        (&["route", "a.gr", "b"], 2, usage),
+        (&["judge", "a.gr"], 2, usage),
+        (&["route", "b.gr"], 6, "refused 6\n"),
+    ];
+    for (words, status, report) in cases {
+        let text = edited(alloc, ROW, 0, 0, "")?;
+        let mut desk = desk_of(alloc, text, Vec::new(alloc))?;
+        assert_eq!(rt;
+            status_of(alloc, words, &mut desk)?,
+            status,
+            "with {words:?}"
+        );
+        assert_eq!(rt;
+            desk.written(Port::Report),
+            report.as_bytes(),
+            "with {words:?}"
+        );
     }
     Ok(())
 }
 
-#[test]
-fn a_negative_corner_is_not_of_the_first_form(rt: HostRuntime) -> Result<(), Fail> {
-    let alloc = rt.alloc();
-    for (corner, status, report) in [
-        (
-            "0 0",
-            0,
-            "a 0\n(5,5,1)-(25,5,1)\n!\noverflow 0\nwirelength 2\n",
-        ),
-        ("-10 0", 3, "refused 3 10\n"),
-        ("0 -10", 3, "refused 3 10\n"),
-    ] {
-        let text = cornered(alloc, corner)?;
-        let mut desk = MemDesk::new(alloc, files(alloc, text)?, Vec::new(alloc));
-        let words = words_of(alloc, &["route", "a.gr"])?;
-        assert_eq!(rt; run(alloc, &words, &mut desk), status, "at {corner}");
-        assert_eq!(rt; desk.written(Port::Report), report.as_bytes());
-    }
-    Ok(())
-}
-
+// A refusal that can't be written keeps its status.
 #[test]
 fn a_call_that_fails_has_its_status(rt: HostRuntime) -> Result<(), Fail> {
     let alloc = rt.alloc();
-    for (port, call, status, report) in [
-        (Port::In, CallKind::Open, 6, "refused 6\n"),
-        (Port::In, CallKind::Read, 6, "refused 6\n"),
-        (Port::Report, CallKind::Write, 7, ""),
-    ] {
+    let route: &[&str] = &["route", "a.gr"];
+    let cases: [(&[&str], &str, Port, CallKind, u8, &str); 6] = [
+        (route, "4", Port::In, CallKind::Open, 6, "refused 6\n"),
+        (route, "4", Port::In, CallKind::Read, 6, "refused 6\n"),
+        (route, "4", Port::Report, CallKind::Write, 7, ""),
+        (&["route"], "4", Port::Report, CallKind::Write, 2, ""),
+        (route, "-1", Port::Report, CallKind::Write, 3, ""),
+        (route, "0", Port::Report, CallKind::Write, 5, ""),
+    ];
+    for (words, horizontal, port, call, status, report) in cases {
         let mut failing = Vec::new(alloc);
-        failing.push(Failing { port, call, nth: 0 })?;
-        let text = three_tiles(alloc, "4", "4")?;
-        let mut desk = MemDesk::new(alloc, files(alloc, text)?, failing);
-        let words = words_of(alloc, &["route", "a.gr"])?;
-        assert_eq!(rt; run(alloc, &words, &mut desk), status);
-        assert_eq!(rt; desk.written(Port::Report), report.as_bytes());
+        failing.push(FailedCall { port, call, nth: 0 })?;
+        let text = edited(alloc, ROW, 51, 52, horizontal)?;
+        let mut desk = desk_of(alloc, text, failing)?;
+        assert_eq!(rt; status_of(alloc, words, &mut desk)?, status, "for {status}");
+        assert_eq!(rt;
+            desk.written(Port::Report),
+            report.as_bytes(),
+            "for {status}"
+        );
     }
     Ok(())
 }
@@ -186,12 +283,9 @@ fn a_call_that_fails_has_its_status(rt: HostRuntime) -> Result<(), Fail> {
 #[test]
 fn the_run_opens_what_the_words_name_and_nothing_else(rt: HostRuntime) -> Result<(), Fail> {
     let alloc = rt.alloc();
-    let mut names = Vec::new(alloc);
-    names.push((Port::In, String::from_str(alloc, "a.gr")?))?;
-    let text = three_tiles(alloc, "4", "4")?;
-    let mut desk = MemDesk::expecting(alloc, files(alloc, text)?, Vec::new(alloc), names);
-    let words = words_of(alloc, &["route", "a.gr"])?;
-    assert_eq!(rt; run(alloc, &words, &mut desk), 0);
+    let text = edited(alloc, ROW, 0, 0, "")?;
+    let mut desk = desk_of(alloc, text, Vec::new(alloc))?;
+    assert_eq!(rt; status_of(alloc, &["route", "a.gr"], &mut desk)?, 0);
     assert!(rt; !desk.strayed());
     assert_eq!(rt; desk.starved(), 0);
     let _ = desk.open(Port::In, "b.gr");

@@ -1,22 +1,24 @@
 //! The top call.
 
-ghost use Rattle.std.specs.Prelude.{◌≡◌, ◌≢◌, ◌↔◌, ◌⊎◌, ◌≤◌, ℕ, List, [], ◌∷◌, take, Contains, All};
+ghost use Rattle.std.specs.Prelude.{◌≡◌, ◌≢◌, ◌↔◌, ◌⊎◌, ◌≤◌, ℕ, List, [], ◌∷◌, take, length, Contains, All};
 ghost use Rattle.gr_desk.specs.declared.port.Port.{Port};
 ghost use Rattle.gr_desk.specs.declared.port.Port.TheVariants.{In, Report};
-ghost use Rattle.ispd_reader.specs.declared.first.First.{First};
 ghost use Rattle.gr_desk.specs.Runs.{Adds};
-ghost use Rattle.grid_base.specs.Numbers.{IsPiece};
-ghost use Rattle.ispd_reader.specs.FirstForm.{IsFirstForm, IsWithinLimits};
-ghost use Rattle.route_text.specs.declared.frame.Frame.{Frame};
-ghost use Rattle.router_cli.specs.OneNet.{IsFrameOf};
+ghost use Rattle.grid_graph.specs.declared.design.Design.{Design};
 ghost use Rattle.router_cli.specs.declared.refusal.Refusal.{Refusal};
-ghost use Rattle.router_cli.specs.Promise.{IsRouteCommand, IsNoCommand, IsInput, IsOtherForm, IsReport, ReportGains, InputFailed, OutputFailed, ExpectsWords, status_of, lines_of, report_of};
+ghost use Rattle.router_cli.specs.Words.{IsRouteCommand, IsNoCommand};
+ghost use Rattle.router_cli.specs.Inputs.{IsInput, IsDesignOfText, AreSmall, AreReachable};
+ghost use Rattle.router_cli.specs.Lines.{lines_of};
+ghost use Rattle.router_cli.specs.Measured.{IsRouted};
+ghost use Rattle.router_cli.specs.Refusals.{IsRefusedFor, InputFailed, OutputFailed, status_of};
+ghost use Rattle.router_cli.specs.Promise.{IsReport, IsRefused, Says, ReportGains, ExpectsWords, report_of};
 
+use crate::lines::write_refusal;
 use crate::prepared::prepare;
 use crate::refusal::Refusal;
 use crate::report::write_report;
 use crate::routed_design::RoutedDesign;
-use gr_desk::{Desk, Failed, Port, write_all};
+use gr_desk::{Desk, Failed};
 use std::alloc::Global;
 
 /// All that the program does. `words` are the arguments without the program's name, and the answer
@@ -24,15 +26,16 @@ use std::alloc::Global;
 ///
 /// | Status | Says |
 /// |---|---|
-/// | 0 | the report has the net's route, its overflow and its wirelength |
+/// | 0 | the report has a route for each net, their overflow and their wirelength |
 /// | 2 | the words are no command |
-/// | 3 | the input is not of a form that is built |
+/// | 3 | the input is no design, or has a net of more than two terminals |
+/// | 5 | a net is unreachable |
 /// | 6 | the input could not be opened or read |
 /// | 7 | the report could not be written whole |
 /// | 8 | want of memory, before a report was begun |
 pub fn run<D: Desk>(alloc: Global, words: &Vec<String>, desk: &mut D) -> u8
-    // Status 0: the report has gained the route text of a set of pieces that joins the net's pins
-    // inside the grid, and the overflow and the wirelength of that very set.
+    // Status 0: the report has gained the route text of one set of pieces per net that joins the net's terminals in the
+    // net's ground, and the overflow and the wirelength of these very sets.
     ensures routed { result ≡ 0 → (text : List ℕ)
         × IsReport words.now.items (D.told desk.old) text
         × ReportGains (D.told desk.old) (D.told desk.new) text }
@@ -40,34 +43,28 @@ pub fn run<D: Desk>(alloc: Global, words: &Vec<String>, desk: &mut D) -> u8
     ensures cut_short { result ≡ 7 → (text : List ℕ) × (n : ℕ)
         × IsReport words.now.items (D.told desk.old) text
         × ReportGains (D.told desk.old) (D.told desk.new) (take n text) }
-    // A refused run adds its lines, or a part of them from their front ..
-    ensures refused { (r : Refusal) → result ≡ status_of r → (n : ℕ)
-        × ReportGains (D.told desk.old) (D.told desk.new) (take n (lines_of r)) }
-    // .. and all of them where no write failed.
-    ensures refused_whole { (r : Refusal) → result ≡ status_of r
-        → ¬ OutputFailed (D.told desk.old) (D.told desk.new)
-        → ReportGains (D.told desk.old) (D.told desk.new) (lines_of r) }
-    // Where the words are a command, the input has the first form and no call of the desk failed,
-    // only want of memory keeps the run from its report.
-    ensures complete { (bytes : List ℕ) (first : First)
-        → IsInput words.now.items (D.told desk.old) bytes
-        → IsFirstForm bytes first
-        → ¬ InputFailed (D.told desk.old) (D.told desk.new)
-        → ¬ OutputFailed (D.told desk.old) (D.told desk.new)
-        → (result ≡ 0) ⊎ (result ≡ 8) }
-    ensures statuses { Contains (0 ∷ 2 ∷ 3 ∷ 6 ∷ 7 ∷ 8 ∷ []) result }
+    // Any other status is that of a refusal, which has its cause and is said on the report.
+    ensures refused { result ≢ 0 → result ≢ 7 → IsRefused words.now.items (D.told desk.old) (D.told desk.new) result }
+    ensures statuses { Contains (0 ∷ 2 ∷ 3 ∷ 5 ∷ 6 ∷ 7 ∷ 8 ∷ []) result }
     // Status 2 comes exactly where the words are no command.
     ensures no_command { (result ≡ 2) ↔ IsNoCommand words.now.items }
     ensures command { result ≢ 2 → (name : List ℕ) × IsRouteCommand words.now.items name }
-    // Status 3 comes only where the input has another form ..
-    ensures other_form { result ≡ 3 → (bytes : List ℕ)
-        → IsInput words.now.items (D.told desk.old) bytes → IsOtherForm bytes }
-    // .. and then always, where no open or read failed and memory sufficed.
-    ensures form_tested { (bytes : List ℕ)
+    // A text that has to be refused is, for that very cause, where no open or read failed and memory sufficed.
+    ensures tested { (bytes : List ℕ) (r : Refusal)
         → IsInput words.now.items (D.told desk.old) bytes
-        → IsOtherForm bytes
+        → IsRefusedFor bytes r
         → ¬ InputFailed (D.told desk.old) (D.told desk.new)
-        → (result ≡ 3) ⊎ (result ≡ 8) }
+        → ((result ≡ status_of r) × Says (D.told desk.old) (D.told desk.new) r) ⊎ (result ≡ 8) }
+    // Where the words are a command, the input is a design whose nets have at most two terminals and are reachable, and
+    // no call of the desk failed, only want of memory keeps the run from its report.
+    ensures complete { (bytes : List ℕ) (d : Design)
+        → IsInput words.now.items (D.told desk.old) bytes
+        → IsDesignOfText bytes d
+        → AreSmall d.nets
+        → AreReachable d.grid d.nets
+        → ¬ InputFailed (D.told desk.old) (D.told desk.new)
+        → ¬ OutputFailed (D.told desk.old) (D.told desk.new)
+        → (result ≡ 0) ⊎ (result ≡ 8) }
     // Status 6 comes only where an open or a read failed, 7 only where a create or a write did.
     ensures unread { result ≡ 6 → InputFailed (D.told desk.old) (D.told desk.new) }
     ensures unwritten { result ≡ 7 → OutputFailed (D.told desk.old) (D.told desk.new) }
@@ -103,12 +100,9 @@ pub fn run<D: Desk>(alloc: Global, words: &Vec<String>, desk: &mut D) -> u8
 
 // Writes the report, and answers the status.
 fn report<D: Desk>(desk: &mut D, routed: &RoutedDesign) -> u8
-    requires limits { IsWithinLimits routed.now.design }
-    requires inside { All (IsPiece routed.now.design.size) routed.now.tree }
-    ensures whole { result ≡ 0 → (frame : Frame) × IsFrameOf routed.now.design frame
-        × Adds (D.told desk.old) (D.told desk.new) Report (report_of frame routed.now.design routed.now.tree) }
-    ensures part { result ≡ 7 → (frame : Frame) × (n : ℕ) × IsFrameOf routed.now.design frame
-        × Adds (D.told desk.old) (D.told desk.new) Report (take n (report_of frame routed.now.design routed.now.tree)) }
+    requires { IsRouted routed.now }
+    ensures whole { result ≡ 0 → Adds (D.told desk.old) (D.told desk.new) Report (report_of routed.now.design routed.now.trees.items) }
+    ensures part { result ≡ 7 → (n : ℕ) × Adds (D.told desk.old) (D.told desk.new) Report (take n (report_of routed.now.design routed.now.trees.items)) }
     ensures statuses { (result ≡ 0) ⊎ (result ≡ 7) }
     ensures cause { result ≡ 7 → OutputFailed (D.told desk.old) (D.told desk.new) }
     ensures quiet { result ≡ 0 → (D.told desk.new).out_faults ≡ (D.told desk.old).out_faults }
@@ -126,6 +120,6 @@ fn refuse<D: Desk>(desk: &mut D, refusal: Refusal) -> u8
     ensures whole { ¬ OutputFailed (D.told desk.old) (D.told desk.new)
         → Adds (D.told desk.old) (D.told desk.new) Report (lines_of refusal) }
 {
-    let _ = write_all(desk, Port::Report, refusal.lines());
+    let _ = write_refusal(desk, refusal);
     refusal.status()
 }

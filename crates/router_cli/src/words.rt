@@ -1,7 +1,7 @@
 //! Which words are a command.
 
 ghost use Rattle.std.specs.Prelude.{◌≡◌, ◌↔◌, ℕ, List, MatchOption, IsTrue};
-ghost use Rattle.router_cli.specs.Promise.{IsName, IsRouteCommand, IsNoCommand};
+ghost use Rattle.router_cli.specs.Words.{IsName, IsRouteCommand, IsNoCommand};
 
 fn is_name(word: &str) -> bool
     ensures { IsTrue result ↔ IsName word.now }

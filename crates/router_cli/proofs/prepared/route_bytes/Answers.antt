@@ -1,16 +1,34 @@
-use Rattle.std.proofs.Common.{[], ap, Err}
-use Rattle.std.proofs.lemmas.List.Elements.{All-cons, All-nil}
-use Rattle.router_cli.specs.Promise.{IsRoute}
-use Rattle.router_cli.specs.OneNet.{with_pieces}
-use Rattle.router_cli.proofs.Outcomes.{unbuilt_only}
+use Rattle.std.proofs.Common.{◌≡◌, List, ℕ, sym, subst, rules}
+use Rattle.grid_graph.specs.declared.design.Design.{Design}
+use Rattle.grid_graph.specs.declared.ground_error.GroundError.{GroundError}
+use Rattle.grid_graph.specs.declared.ground_error.GroundError.TheVariants as ground_errors
+use Rattle.grid_graph.specs.Grounds.{IsFirstCause}
+use Rattle.router_cli.specs.declared.refusal.Refusal.TheVariants.{Unbuilt}
+use Rattle.router_cli.specs.Inputs.{IsDesignOfText, AreSmall}
+use Rattle.router_cli.specs.Refusals.{IsRefusedFor, IsTextRefusal}
+use Rattle.router_cli.specs.Steps.{of_ground_error}
+use Rattle.router_cli.proofs.Outcomes.{its_refusal, same_refusal}
 use Rattle.router_cli.proofs.prepared.route_bytes.Goals as goal
 
-pub returns-in_err-design-clause-other_form : goal.returns-in_err-design-clause-other_form
-returns-in_err-design-clause-other_form c = λ h first form.
-    c.in_err-design.ensures.refused (ap Err (unbuilt_only c.from_residual.result c.in_err-design.field-0.0 c.from_residual.ensures.1 h)) first form
+-- a design without grounds is refused for its first net that is cut off
+refused_for_grounds : (text : List ℕ) (d : Design) (e : GroundError) → IsDesignOfText text d → AreSmall d.nets → IsFirstCause d.grid d.nets e → IsTextRefusal (of_ground_error e) → IsRefusedFor text (of_ground_error e)
+refused_for_grounds text d (ground_errors.Unreachable id terminal) named small cause is_text = record { design = d; named = named; small = small; first = cause }
+refused_for_grounds text d ground_errors.NoMemory named small cause is_text = absurd is_text
 
-pub returns-clause-routing : goal.returns-clause-routing
-returns-clause-routing c =
-    All-cons (IsRoute c.in_ok-design.design.size) (with_pieces c.in_ok-design.design c.in_ok-tree.tree) []
-    (record { set = c.in_ok-tree.ensures.set; inside = c.in_ok-tree.ensures.inside; joins = c.in_ok-tree.ensures.joins })
-    (All-nil (IsRoute c.in_ok-design.design.size))
+pub returns-then-not-are_small-clause-refused : goal.returns-then-not-are_small-clause-refused
+returns-then-not-are_small-clause-refused c = λ r is is_text.
+    let d = c.in_ok-design.design in
+    let says = c.in_ok-design.ensures.design in
+    let named : IsDesignOfText c.args.bytes.now d = record { contents = says.0; read = says.1; says = says.2 } in
+    subst (IsRefusedFor c.args.bytes.now) (its_refusal Unbuilt r is)
+    (record { design = d; named = named; large = λ small. let yes = c.are_small.ensures.1 (subst AreSmall (sym c.list.ensures.nets) small) in cc })
+
+pub returns-in_err-grounds-clause-refused : goal.returns-in_err-grounds-clause-refused
+returns-in_err-grounds-clause-refused c = λ r is is_text.
+    let d = c.in_ok-design.design in
+    let says = c.in_ok-design.ensures.design in
+    let named : IsDesignOfText c.args.bytes.now d = record { contents = says.0; read = says.1; says = says.2 } in
+    let made : of_ground_error c.in_err-grounds.field-0.0 ≡ r = same_refusal c.from_residual-in_err-grounds.result _ r c.from_residual-in_err-grounds.ensures.1 is in
+    let small : AreSmall d.nets = subst AreSmall c.list.ensures.nets (c.are_small.ensures.0 (search rules)) in
+    subst (IsRefusedFor c.args.bytes.now) made
+    (refused_for_grounds c.args.bytes.now d c.in_err-grounds.field-0.0 named small c.in_err-grounds.ensures.cause (subst IsTextRefusal (sym made) is_text))

@@ -1,0 +1,88 @@
+-- What refuses a text: it is one cause, and it never refuses a text that has a routing.
+use Rattle.std.proofs.Common.{◌≡◌, ℕ, ◌<◌, List, [], length, refl, sym, ◌∙◌, subst, arith, Ok, Err, get_or, inl, inr}
+use Rattle.std.specs.Prelude.{◌⊎◌}
+use Rattle.std.proofs.lemmas.Option.{slice_get-get_or, slice_get_within}
+use Rattle.std.specs.declared.string.String.{String}
+use Rattle.grid_base.specs.declared.piece.Piece.{Piece}
+use Rattle.grid_graph.specs.declared.design.Design.{Design}
+use Rattle.grid_graph.specs.declared.grid.Grid.{Grid}
+use Rattle.grid_graph.specs.declared.net_spec.NetSpec.{NetSpec}
+use Rattle.grid_graph.proofs.Grounds.{joins_with_choked}
+use Rattle.gr_desk.specs.Told.{Told}
+use Rattle.ispd_reader.specs.Alike.{AreAlikeDesigns}
+use Rattle.ispd_reader.proofs.Alike.{designs_alike}
+use Rattle.ispd_reader.proofs.AlikeGrounds.{IsFirstCutOff-alike}
+use Rattle.ispd_reader.proofs.AlikeCutOff.{first_cut_off-once, cut_off-unreachable}
+use Rattle.tree_set.specs.Routings.{IsRouting}
+use Rattle.router_cli.specs.declared.refusal.Refusal.{Refusal}
+use Rattle.router_cli.specs.declared.refusal.Refusal.TheVariants.{NoCommand, Unbuilt, Input, Unreachable, Unread, NoMemory}
+use Rattle.router_cli.specs.Words.{IsNoCommand}
+use Rattle.router_cli.specs.Inputs.{IsDesignOfText, AreSmall, AreReachable}
+use Rattle.router_cli.specs.Refusals.{IsRefusedFor, IsTextRefusal, IsInputRefused, IsCause, IsCutOffText, InputFailed}
+
+-- the nets of a routing are reachable
+pub routed_reachable : (g : Grid) (nets : List NetSpec) (trees : List (List Piece)) → IsRouting g nets trees → AreReachable g nets
+routed_reachable g nets trees routing k n at =
+    let within : k < length trees = omega (arith, slice_get_within nets k n at, routing.long) in
+    let route = routing.each k n (get_or trees k []) at (slice_get-get_or trees k [] within) in
+    joins_with_choked g n.terminals route.over route.is_ground
+
+-- two designs of one text are alike
+pub one_design : (text : List ℕ) (d e : Design) → IsDesignOfText text d → IsDesignOfText text e → AreAlikeDesigns d e
+one_design text d e named other =
+    let same : named.contents ≡ other.contents = let both : Ok named.contents ≡ Ok other.contents = sym named.read ∙ other.read in cc in
+    designs_alike d e other.contents (rw same at named.says) other.says
+
+-- the first net that is cut off is one, in whatever design of the text
+one_cut_off : (text : List ℕ) (id id' t t' : ℕ) → IsCutOffText text id t → IsCutOffText text id' t' → (id ≡ id') × (t ≡ t')
+one_cut_off text id id' t t' cut other =
+    let alike = one_design text cut.design other.design cut.named other.named in
+    first_cut_off-once other.design.grid other.design.nets id id' t t'
+    (IsFirstCutOff-alike cut.design.grid other.design.grid other.design.nets id t alike.grids (rw alike.nets at cut.first)) other.first
+
+-- a text is refused for one cause
+pub refused_once : (text : List ℕ) (r x : Refusal) → IsRefusedFor text r → IsRefusedFor text x → r ≡ x
+refused_once text NoCommand x h k = absurd h
+refused_once text Unread x h k = absurd h
+refused_once text NoMemory x h k = absurd h
+refused_once text r NoCommand h k = absurd k
+refused_once text r Unread h k = absurd k
+refused_once text r NoMemory h k = absurd k
+refused_once text (Input fault) (Input other) h k = let same : Err fault ≡ Err other = sym h ∙ k in cc
+refused_once text (Input fault) Unbuilt h k = let same : Err fault ≡ Ok k.named.contents = sym h ∙ k.named.read in cc
+refused_once text (Input fault) (Unreachable id t) h k = let same : Err fault ≡ Ok k.named.contents = sym h ∙ k.named.read in cc
+refused_once text Unbuilt (Input fault) h k = let same : Err fault ≡ Ok h.named.contents = sym k ∙ h.named.read in cc
+refused_once text Unbuilt Unbuilt h k = refl
+refused_once text Unbuilt (Unreachable id t) h k = absurd (h.large (subst AreSmall (one_design text k.design h.design k.named h.named).nets k.small))
+refused_once text (Unreachable id t) (Input fault) h k = let same : Err fault ≡ Ok h.named.contents = sym k ∙ h.named.read in cc
+refused_once text (Unreachable id t) Unbuilt h k = absurd (k.large (subst AreSmall (one_design text h.design k.design h.named k.named).nets h.small))
+refused_once text (Unreachable id t) (Unreachable id' t') h k = let same = one_cut_off text id id' t t' h k in cc
+
+-- a text that names a design of small and reachable nets is not refused
+pub not_refused : (text : List ℕ) (d : Design) (r : Refusal) → IsDesignOfText text d → AreSmall d.nets → AreReachable d.grid d.nets → IsRefusedFor text r → ⊥
+not_refused text d NoCommand named small reachable h = h
+not_refused text d Unread named small reachable h = h
+not_refused text d NoMemory named small reachable h = h
+not_refused text d (Input fault) named small reachable h = let same : Err fault ≡ Ok named.contents = sym h ∙ named.read in cc
+not_refused text d Unbuilt named small reachable h = h.large (subst AreSmall (one_design text d h.design named h.named).nets small)
+not_refused text d (Unreachable id t) named small reachable h =
+    let alike = one_design text h.design d h.named named in
+    cut_off-unreachable d.grid d.nets id t (IsFirstCutOff-alike h.design.grid d.grid d.nets id t alike.grids (rw alike.nets at h.first)) reachable
+
+-- the cause of each refusal
+pub its_cause : {Z : Type 0} (words : List (String Z)) (before after : Told) (r : Refusal) → (r ≡ NoCommand → IsNoCommand words) → (IsTextRefusal r → IsInputRefused words before r) → (r ≡ Unread → InputFailed before after) → IsCause words before after r
+its_cause words before after NoCommand no_command of_text unread = no_command refl
+its_cause words before after Unbuilt no_command of_text unread = of_text tt
+its_cause words before after (Input fault) no_command of_text unread = of_text tt
+its_cause words before after (Unreachable id terminal) no_command of_text unread = of_text tt
+its_cause words before after Unread no_command of_text unread = unread refl
+its_cause words before after NoMemory no_command of_text unread = tt
+
+-- a refusal that is for neither the words nor a failed read is for what the text says, or want of memory
+pub text_or_memory : (r : Refusal) → (r ≡ NoCommand → ⊥) → (r ≡ Unread → ⊥) → IsTextRefusal r ⊎ (r ≡ NoMemory)
+text_or_memory NoCommand a b = absurd (a refl)
+text_or_memory Unbuilt a b = inl tt
+text_or_memory (Input fault) a b = inl tt
+text_or_memory (Unreachable id terminal) a b = inl tt
+text_or_memory Unread a b = absurd (b refl)
+text_or_memory NoMemory a b = inr refl
