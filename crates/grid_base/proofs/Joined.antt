@@ -1,6 +1,6 @@
 -- What joins a set of vertices.
-use Rattle.std.proofs.Common.{◌≡◌, ℕ, List, [], ◌∷◌, refl, sym, ◌∙◌, subst, All}
-use Rattle.std.proofs.lemmas.List.Elements.{All-contains, All-cons, All-nil}
+use Rattle.std.proofs.Common.{◌≡◌, ℕ, ◌<◌, List, [], ◌∷◌, length, refl, sym, ◌∙◌, subst, All, arith}
+use Rattle.std.proofs.lemmas.List.Elements.{All-contains, All-cons, All-nil, All-head}
 use Rattle.grid_base.specs.declared.piece.Piece.{Piece}
 use Rattle.grid_base.specs.declared.size.Size.{Size}
 use Rattle.grid_base.specs.declared.vertex.Vertex.{Vertex}
@@ -36,3 +36,9 @@ pub JoinsList-from_one : (s : Size) (pieces : List Piece) (terminals : List Vert
 JoinsList-from_one s pieces terminals root reached =
     Joins-from_one s (InPieces pieces) (InVertices terminals) root
     (λ v at. All-contains (λ (t : Vertex). WalkBetween s (InPieces pieces) root t.0) terminals (record { 0 = v }) reached at)
+
+-- every list of pieces joins fewer than two terminals
+pub JoinsList-few : (s : Size) (pieces : List Piece) (terminals : List Vertex) → length terminals < 2 → All (λ (t : Vertex). IsVertex s t.0) terminals → JoinsList s pieces terminals
+JoinsList-few s pieces [] few vertices = λ a b at_a at_b. absurd (omega (arith, at_a.1))
+JoinsList-few s pieces (a ∷ []) few vertices = JoinsList-alone s pieces a (All-head (λ (t : Vertex). IsVertex s t.0) a [] vertices)
+JoinsList-few s pieces (a ∷ b ∷ rest) few vertices = absurd (omega (arith, few))

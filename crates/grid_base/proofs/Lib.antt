@@ -1,4 +1,6 @@
+pub mod Extents
 pub mod Joined
+pub mod Lists
 pub mod Pieces
 pub mod Places
 pub mod Runs

@@ -1,5 +1,6 @@
 -- The numbers of vertices, edges and vias. In definitions a vertex is its number.
-use Rattle.std.specs.Prelude.{◌≡◌, ℕ, ◌+◌, ◌-◌, ◌*◌, ◌/◌, ◌%◌, ◌<◌, ◌==◌, ◌⊎◌, cond}
+use Rattle.std.specs.Prelude.{◌≡◌, ℕ, ◌+◌, ◌*◌, ◌/◌, ◌%◌, ◌<◌, ◌==◌, ◌⊎◌, cond}
+use Rattle.std.specs.Int.{abs_diff}
 use Rattle.grid_base.specs.declared.piece.Piece.{Piece}
 use Rattle.grid_base.specs.declared.piece.Piece.TheVariants.{Edge, Via}
 use Rattle.grid_base.specs.declared.place.Place.{Place}
@@ -76,13 +77,9 @@ Goes s p a b = IsPiece s p × (near_end p ≡ a) × (far_end s p ≡ b)
 abbrev pub Connects : Size → Piece → ℕ → ℕ → Type 0
 Connects s p a b = Goes s p a b ⊎ Goes s p b a
 
--- how far apart two numbers are
-abbrev pub difference : ℕ → ℕ → ℕ
-difference m n = (m - n) + (n - m)
-
 -- the grid distance of two places: the sum of the differences of column, row and layer
 abbrev pub distance : Place → Place → ℕ
-distance p q = difference p.col q.col + difference p.row q.row + difference p.layer q.layer
+distance p q = abs_diff p.col q.col + abs_diff p.row q.row + abs_diff p.layer q.layer
 
 -- two vertices at distance 1: they differ by one step in exactly one of column, row and layer
 abbrev pub AreNeighbours : Size → ℕ → ℕ → Type 0

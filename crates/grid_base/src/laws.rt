@@ -26,7 +26,8 @@ pub fn walks_are_an_equivalence(size: &Size, pieces: &[Piece], a: Vertex, b: Ver
 
 /// Without pieces no two vertices are joined.
 pub fn no_pieces_join_no_two(size: &Size, a: Vertex, b: Vertex)
-    ensures { WalkBetween size.now (InPieces []) a.0 b.0 → a.0 ≡ b.0 }
+    ensures walk { WalkBetween size.now (InPieces []) a.0 b.0 → a.0 ≡ b.0 }
+    ensures joined { JoinsList size.now [] (a ∷ b ∷ []) → a.0 ≡ b.0 }
 {}
 
 /// What some pieces join is joined with more pieces too.
