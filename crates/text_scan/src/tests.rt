@@ -1,3 +1,5 @@
+//! Tokens and numbers of worked texts.
+
 use super::*;
 use std::test::Fail;
 
