@@ -1,5 +1,6 @@
 pub mod Runs
-pub mod Silent
+pub mod Faults
+pub mod Places
 pub mod Marks
 pub mod Quiet
 pub mod Pens

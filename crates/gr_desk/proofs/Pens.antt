@@ -9,7 +9,7 @@ use Rattle.gr_desk.specs.Told.{Told}
 use Rattle.gr_desk.specs.Runs.{Adds}
 use Rattle.gr_desk.specs.Causes.{Rose}
 use Rattle.gr_desk.proofs.Runs.{adds-refl, adds-then}
-use Rattle.gr_desk.specs.Pens.{PenTold, IsPut, IsHeldBack, IsCutOff, Puts, Ends}
+use Rattle.gr_desk.specs.Pens.{PenTold, IsPut, IsHeldBack, IsPartlyPut, Puts, Ends}
 
 -- nothing is put
 pub puts-refl : (p : PenTold) → Puts p p []
@@ -44,11 +44,11 @@ pub puts-whole : {A : Type 0} {a b : PenTold} (text : A → List ℕ) (ps : List
 puts-whole {a = a} {b = b} text ps i whole puts = subst (λ qs. Puts a b (flat_map text qs)) (take_all i ps whole) puts
 
 -- a count that rose since later rose since earlier
-rose-earlier : (a b c : ℕ) → a ≤ b → Rose b c → Rose a c
+pub rose-earlier : (a b c : ℕ) → a ≤ b → Rose b c → Rose a c
 rose-earlier a b c early rose = omega (arith, early, rose)
 
 -- what is cut off stays so, whatever is put behind it
-cut_off-more : (start : Told) (p q : PenTold) (text bytes : List ℕ) → q.port ≡ p.port → q.told ≡ p.told → IsCutOff start p text → IsCutOff start q (text ++ bytes)
+cut_off-more : (start : Told) (p q : PenTold) (text bytes : List ℕ) → q.port ≡ p.port → q.told ≡ p.told → IsPartlyPut start p text → IsPartlyPut start q (text ++ bytes)
 cut_off-more start p q text bytes same_port same_told cut = (
   cut.0,
   cut.1 ++ bytes,
@@ -119,7 +119,7 @@ puts-written p q bytes r well same_port failed empty ends = record {
 }
 
 -- a text that was cut off ends with a failure
-pub ends-cut_off : {T E : Type 0} (start : Told) (p : PenTold) (text : List ℕ) (e : E) → IsCutOff start p text → Ends {T = T} start p.told p.port text (Err e)
+pub ends-cut_off : {T E : Type 0} (start : Told) (p : PenTold) (text : List ℕ) (e : E) → IsPartlyPut start p text → Ends {T = T} start p.told p.port text (Err e)
 ends-cut_off start p text e cut = record {
   all = tt;
   part = (length cut.0, subst (Adds start p.told p.port) (sym (ap (take (length cut.0)) cut.3 ∙ take-append_seam cut.0 cut.1)) cut.2);

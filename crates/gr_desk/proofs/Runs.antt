@@ -6,30 +6,25 @@ use Rattle.std.specs.declared.option.Option.{Option}
 use Rattle.std.specs.Io.KnownBytes.{Appends, Consumes, Keeps}
 use Rattle.gr_desk.specs.declared.port.Port.{Port}
 use Rattle.gr_desk.specs.Told.{Told, PortTold}
-use Rattle.gr_desk.specs.Calls.{KeepsOthers, IsOrderlyRead, IsOrderlyWrite, Reads, Writes}
+use Rattle.gr_desk.specs.Calls.{KeepsOthers, Strays, IsOrderlyRead, IsOrderlyWrite, Reads, Writes}
 use Rattle.gr_desk.specs.Runs.{MayStray, Takes, Adds}
 
 -- bytes appended in two turns
-pub appends-then : (a b c : Option (List ℕ)) (xs ys : List ℕ) → Appends a b xs → Appends b c ys → Appends a c (xs ++ ys)
+appends-then : (a b c : Option (List ℕ)) (xs ys : List ℕ) → Appends a b xs → Appends b c ys → Appends a c (xs ++ ys)
 appends-then None b c xs ys h k = tt
 appends-then (Some x) None c xs ys h k = absurd h
 appends-then (Some x) (Some y) None xs ys h k = absurd k
 appends-then (Some x) (Some y) (Some z) xs ys h k = k ∙ ap (λ l. l ++ ys) h ∙ append_assoc x xs ys
 
 -- bytes consumed in two turns
-pub consumes-then : (a b c : Option (List ℕ)) (xs ys : List ℕ) → Consumes a b xs → Consumes b c ys → Consumes a c (xs ++ ys)
+consumes-then : (a b c : Option (List ℕ)) (xs ys : List ℕ) → Consumes a b xs → Consumes b c ys → Consumes a c (xs ++ ys)
 consumes-then None b c xs ys h k = tt
 consumes-then (Some x) None c xs ys h k = absurd h
 consumes-then (Some x) (Some y) None xs ys h k = absurd k
 consumes-then (Some x) (Some y) (Some z) xs ys h k = h ∙ ap (λ l. xs ++ l) k ∙ sym (append_assoc xs ys z)
 
--- known bytes that stay are consumed by nothing, and appended to by nothing
-pub consumes-nothing : (a b : Option (List ℕ)) → Keeps a b → Consumes a b []
-consumes-nothing None b k = tt
-consumes-nothing (Some x) None k = absurd k
-consumes-nothing (Some x) (Some y) k = sym k
-
-pub appends-nothing : (a b : Option (List ℕ)) → Keeps a b → Appends a b []
+-- known bytes that stay are appended to by nothing
+appends-nothing : (a b : Option (List ℕ)) → Keeps a b → Appends a b []
 appends-nothing None b k = tt
 appends-nothing (Some x) None k = absurd k
 appends-nothing (Some x) (Some y) k = k ∙ sym (append-nil x)
@@ -39,28 +34,20 @@ keeps_itself None = tt
 keeps_itself (Some x) = refl
 
 -- what no call at a port changes stays over two runs
-pub keeps_others-then : (a b c : Told) (port : Port) → KeepsOthers a b port → KeepsOthers b c port → KeepsOthers a c port
+keeps_others-then : (a b c : Told) (port : Port) → KeepsOthers a b port → KeepsOthers b c port → KeepsOthers a c port
 keeps_others-then a b c port h k = record {
   files = k.files ∙ h.files;
   ports = λ p other. k.ports p other ∙ h.ports p other;
 }
 
--- the flag over two runs whose calls are in order together
-pub may_stray-then : (P Q : Type 0) (a b c : Option Bool) → (P → Q) → MayStray P a b → MayStray Q b c → MayStray P a c
+-- the flag over one call, and over two runs whose calls are in order together
+may_stray-call : {P : Type 0} {a b : Option Bool} → Strays P a b → MayStray P a b
+may_stray-call h = record { kept = h.kept; stays = h.stays }
+
+may_stray-then : (P Q : Type 0) (a b c : Option Bool) → (P → Q) → MayStray P a b → MayStray Q b c → MayStray P a c
 may_stray-then P Q a b c same h k = record {
   kept = λ orderly. k.kept (same orderly) ∙ h.kept orderly;
   stays = λ set. k.stays (h.stays set);
-}
-
--- no read
-pub takes-refl : (t : Told) (port : Port) → Takes t t port []
-takes-refl t port = record {
-  taken = consumes-nothing _ _ (keeps_itself (t.ports port).rest);
-  only = refl;
-  others = record { files = refl; ports = λ p other. refl };
-  stray = record { kept = λ orderly. refl; stays = λ set. set };
-  later = omega arith;
-  still = refl;
 }
 
 -- two runs of reads
@@ -80,7 +67,7 @@ takes-read a b port n buf h = record {
   taken = h.bytes.0;
   only = h.only;
   others = h.others;
-  stray = record { kept = h.stray.kept; stays = h.stray.stays };
+  stray = may_stray-call h.stray;
   later = h.cause.later;
   still = h.still;
 }
@@ -113,7 +100,7 @@ adds-write a b port n bytes h = record {
   added = h.appended;
   only = h.only;
   others = h.others;
-  stray = record { kept = h.stray.kept; stays = h.stray.stays };
+  stray = may_stray-call h.stray;
   later = h.cause.later;
   still = h.still;
 }

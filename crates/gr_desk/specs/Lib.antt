@@ -4,6 +4,8 @@ pub mod Told
 pub mod Calls
 pub mod Runs
 pub mod Untold
+pub mod OpenFiles
+pub mod LentFiles
 pub mod Files
 pub mod Slot
 pub mod Memory

@@ -1,5 +1,5 @@
 -- A desk in memory: what it tells, and which of its calls fail.
-use Rattle.std.specs.Prelude.{◌≡◌, ◌==◌, ◌&&◌, ◌+◌, ◌*◌, ◌^◌, ◌-◌, not, if◌then◌else◌, min, ℕ, List, [], Bool, Some, None, find, slice_get, slice_index, slice_set, string_bytes, option_map, String}
+use Rattle.std.specs.Prelude.{◌≡◌, ◌==◌, ◌&&◌, ◌+◌, ◌*◌, ◌^◌, ◌-◌, not, if◌then◌else◌, min, ℕ, List, [], Bool, Some, None, find, slice_get, slice_index, slice_set, string_bytes, option_map, String, Vec, replicate, false}
 use Rattle.std.specs.List.{list_any}
 use Rattle.std.specs.declared.option.Option.{Option}
 use Rattle.std.specs.declared.alloc.Global.{Global}
@@ -9,7 +9,7 @@ use Rattle.gr_desk.specs.declared.fail.Fail.{Fail}
 use Rattle.gr_desk.specs.declared.state.State.TheVariants.{Fresh}
 use Rattle.gr_desk.specs.declared.memory.MemDesk.{MemDesk}
 use Rattle.gr_desk.specs.Ports.{number, call_number}
-use Rattle.gr_desk.specs.Files.{bytes_under}
+use Rattle.gr_desk.specs.Files.{File, bytes_under}
 use Rattle.gr_desk.specs.Slot.{port_told}
 use Rattle.gr_desk.specs.Told.{Told, PortTold}
 
@@ -23,8 +23,8 @@ told_of s = record {
   files = bytes_under s.files.items;
   ports = λ p. port_told s.files.items (expected_of s.names.items p) (slice_get s.slots (number p));
   strayed = Some s.strayed;
-  in_faults = s.in_faults;
-  out_faults = s.out_faults;
+  in_faults = s.faults.in_faults;
+  out_faults = s.faults.out_faults;
 }
 
 -- a port at which nothing was done
@@ -36,6 +36,17 @@ untouched expected = record {
   expected = Some expected;
   state = Some Fresh;
 }
+
+-- a desk at which nothing was done, over these files, of which these calls are to fail, and which expects these names
+pub record IsNewDesk (s : MemDesk) (over : List File) (listed : Vec Fail Global) (expecting : List (Port × String Global)) : Type 0 where
+  pub files : (told_of s).files ≡ bytes_under over
+  pub ports : (p : Port) → (told_of s).ports p ≡ untouched (expected_of expecting p)
+  pub strayed : (told_of s).strayed ≡ Some false
+  pub in_faults : (told_of s).in_faults ≡ 0
+  pub out_faults : (told_of s).out_faults ≡ 0
+  pub failing : s.failing ≡ listed
+  pub calls : s.calls ≡ replicate 28 0
+  pub starved : s.starved ≡ 0
 
 -- where calls of one kind at one port are counted
 abbrev pub call_place : Port → CallKind → ℕ

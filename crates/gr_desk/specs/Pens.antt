@@ -23,13 +23,13 @@ IsHeldBack start pen text =
     (out : List ℕ) × Went start pen out × (text ≡ out ++ pen.held) × (pen.told.out_faults ≡ start.out_faults)
 
 -- a write failed, and some part from the front of a text went to the port
-abbrev pub IsCutOff : Told → PenTold → List ℕ → Type 0
-IsCutOff start pen text =
+abbrev pub IsPartlyPut : Told → PenTold → List ℕ → Type 0
+IsPartlyPut start pen text =
     (out rest : List ℕ) × Went start pen out × (text ≡ out ++ rest) × Rose start.out_faults pen.told.out_faults
 
 -- where a text stands that was put with the pen since the desk told `start`
 abbrev pub IsPut : Told → PenTold → List ℕ → Type 0
-IsPut start pen text = (pen.failed ≡ false → IsHeldBack start pen text) × (pen.failed ≡ true → IsCutOff start pen text)
+IsPut start pen text = (pen.failed ≡ false → IsHeldBack start pen text) × (pen.failed ≡ true → IsPartlyPut start pen text)
 
 -- whatever text was put with the pen before, it is followed by these bytes
 pub record Puts (before after : PenTold) (bytes : List ℕ) : Type 0 where

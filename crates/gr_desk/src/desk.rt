@@ -1,5 +1,6 @@
-// A desk: what the program reads from and writes to.
-ghost use Rattle.std.specs.Prelude.{◌≡◌, ◌≢◌, ◌<◌, ℕ, length, OnOk};
+//! A desk: what the program reads from and writes to.
+
+ghost use Rattle.std.specs.Prelude.{◌≢◌, ◌<◌, length, OnOk};
 ghost use Rattle.std.specs.Io.{ReadsAtMost, WritesAtMost};
 ghost use Rattle.gr_desk.specs.Told.{Told};
 ghost use Rattle.gr_desk.specs.Calls.{Opens, Creates, Reads, Writes};

@@ -1,4 +1,5 @@
-// Calls of a desk in memory that are to fail.
+//! Calls of a desk in memory that are to fail.
+
 ghost use Rattle.std.specs.Prelude.{◌≡◌, ◌<◌};
 ghost use Rattle.gr_desk.specs.Ports.{call_number};
 

@@ -1,4 +1,5 @@
-// Why a port could not be read whole.
+//! Why a port could not be read whole.
+
 use thiserror::Error;
 
 /// Why `read_port` has no bytes to give.

@@ -17,9 +17,11 @@ mod desk;
 mod fail;
 mod failed;
 mod fault;
+mod fault_counts;
 mod held;
 mod memory;
 mod never_fails;
+mod open_files;
 mod pen;
 mod port;
 mod reading;
@@ -38,7 +40,7 @@ pub use pen::Pen;
 pub use port::Port;
 pub use real::RealDesk;
 pub use state::State;
-pub use whole::{PIECE, read_port, write_all};
+pub use whole::{READ_SIZE, read_port, write_all};
 
 #[cfg(test)]
 mod tests;

@@ -1,15 +1,16 @@
-// A desk in memory.
-ghost use Rattle.std.specs.Prelude.{◌≡◌, ◌≢◌, ◌≤◌, ◌<◌, ◌+◌, ◌-◌, ◌^◌, ◌↔◌, ◌||◌, not, min, length, replicate, true, false, IsTrue, is_none, is_err, IsErr, OnOk, IfOk, IfSome, string_bytes, option_map, find, ◌==◌, if◌then◌else◌};
+//! A desk in memory.
+
+ghost use Rattle.std.specs.Prelude.{◌≡◌, ◌≢◌, ◌<◌, ◌+◌, ◌-◌, ◌^◌, ◌↔◌, ◌||◌, not, min, length, [], IsTrue, is_none, is_err, IsErr, OnOk, IfOk, IfSome, string_bytes, option_map, find, ◌==◌, if◌then◌else◌};
 ghost use Rattle.gr_desk.specs.Ports.{number};
 ghost use Rattle.std.specs.Io.{ReadsAtMost, WritesAtMost};
 ghost use Rattle.gr_desk.specs.Calls.{Opens, Creates, Reads, Writes, IsOrderlyOpen, IsOrderlyCreate, IsOrderlyRead, IsOrderlyWrite};
-ghost use Rattle.gr_desk.specs.Causes.{Rose};
 ghost use Rattle.gr_desk.specs.Files.{position_of, bytes_under};
-ghost use Rattle.gr_desk.specs.Memory.{told_of, is_listed, expected_of, untouched, Counts, starved_after};
+ghost use Rattle.gr_desk.specs.Memory.{told_of, is_listed, expected_of, IsNewDesk, Counts, starved_after};
 
 use crate::desk::Desk;
 use crate::fail::{CallKind, Fail};
 use crate::failed::Failed;
+use crate::fault_counts::FaultCounts;
 use crate::port::Port;
 use crate::reading::find_file;
 use crate::slot::Slot;
@@ -32,22 +33,14 @@ pub struct MemDesk {
     slots: [Slot; 7],
     calls: [u64; 28],
     strayed: bool,
-    in_faults: u64,
-    out_faults: u64,
+    faults: FaultCounts,
     starved: u64,
 }
 
 impl MemDesk {
     /// A desk over these files, of which the listed calls fail. It expects no name.
     pub fn new(alloc: Global, files: Vec<(String, Vec<u8>)>, failing: Vec<Fail>) -> MemDesk
-        ensures files { (told_of result).files ≡ bytes_under files.items }
-        ensures ports { (p : Port) → (told_of result).ports p ≡ untouched None }
-        ensures strayed { (told_of result).strayed ≡ Some false }
-        ensures in_faults { (told_of result).in_faults ≡ 0 }
-        ensures out_faults { (told_of result).out_faults ≡ 0 }
-        ensures failing { result.failing ≡ failing }
-        ensures calls { result.calls ≡ replicate 28 0 }
-        ensures starved { result.starved ≡ 0 }
+        ensures { IsNewDesk result files.items failing [] }
     {
         MemDesk::expecting(alloc, files, failing, Vec::new(alloc))
     }
@@ -59,14 +52,7 @@ impl MemDesk {
         failing: Vec<Fail>,
         names: Vec<(Port, String)>,
     ) -> MemDesk
-        ensures files { (told_of result).files ≡ bytes_under files.items }
-        ensures ports { (p : Port) → (told_of result).ports p ≡ untouched (expected_of names.items p) }
-        ensures strayed { (told_of result).strayed ≡ Some false }
-        ensures in_faults { (told_of result).in_faults ≡ 0 }
-        ensures out_faults { (told_of result).out_faults ≡ 0 }
-        ensures failing { result.failing ≡ failing }
-        ensures calls { result.calls ≡ replicate 28 0 }
-        ensures starved { result.starved ≡ 0 }
+        ensures { IsNewDesk result files.items failing names.items }
     {
         MemDesk {
             alloc,
@@ -84,8 +70,7 @@ impl MemDesk {
             ],
             calls: [0; 28],
             strayed: false,
-            in_faults: 0,
-            out_faults: 0,
+            faults: FaultCounts::none(),
             starved: 0,
         }
     }
@@ -111,15 +96,16 @@ impl MemDesk {
         self.strayed
     }
 
-    // Counts a call; whether it is listed as failing.
-    fn count(&mut self, port: Port, kind: CallKind) -> bool
+    // Begins a call that is in order or not; whether it is listed as failing.
+    fn begin(&mut self, port: Port, kind: CallKind, orderly: bool) -> bool
         ensures listed { result ≡ is_listed self.old port kind }
-        ensures counted { self.new ≡ record self.old { calls = self.new.calls } }
+        ensures begun { self.new ≡ record self.old { calls = self.new.calls; strayed = self.old.strayed || not orderly } }
         ensures calls { Counts self.old self.new port kind }
     {
         let listed = self.is_listed(port, kind);
         let place = port.number() * 4 + kind.number();
         self.calls[place] = self.calls[place].saturating_add(1).min(CALLS_COUNTED);
+        self.strayed = self.strayed || !orderly;
         listed
     }
 
@@ -179,12 +165,6 @@ impl MemDesk {
         matches!(port, Port::Report) || (port.is_output() && self.is_in(port, State::Ready))
     }
 
-    fn mark(&mut self, orderly: bool)
-        ensures { self.new ≡ record self.old { strayed = self.old.strayed || not orderly } }
-    {
-        self.strayed = self.strayed || !orderly;
-    }
-
     // The file of that name, where the call is not listed as failing.
     fn file_unless(&self, listed: bool, name: &str) -> Option<usize>
         ensures { result ≡ (if listed then None else position_of self.now.files.items name.now) }
@@ -205,29 +185,13 @@ impl MemDesk {
         }
         String::from_str(self.alloc, name).ok()
     }
+}
 
-    fn in_fault(&mut self) -> Failed
-        ensures kept { self.new ≡ record self.old { in_faults = self.new.in_faults } }
-        ensures later { self.old.in_faults ≤ self.new.in_faults }
-        ensures rose { Rose self.old.in_faults self.new.in_faults }
-    {
-        self.in_faults = self.in_faults.saturating_add(1);
-        Failed
-    }
-
-    // A create or a write failed, and for want of memory where it starves.
-    fn out_fault(&mut self, starves: bool) -> Failed
-        ensures kept { self.new ≡ record self.old { out_faults = self.new.out_faults; starved = self.new.starved } }
-        ensures later { self.old.out_faults ≤ self.new.out_faults }
-        ensures rose { Rose self.old.out_faults self.new.out_faults }
-        ensures starved { self.new.starved ≡ (if starves then min (self.old.starved + 1) (2 ^ 64 - 1) else self.old.starved) }
-    {
-        self.out_faults = self.out_faults.saturating_add(1);
-        if starves {
-            self.starved = self.starved.saturating_add(1);
-        }
-        Failed
-    }
+// The count, with one more if it is so; it stands still at its last value.
+fn one_more_if(more: bool, count: u64) -> u64
+    ensures { result ≡ (if more then min (count + 1) (2 ^ 64 - 1) else count) }
+{
+    if more { count.saturating_add(1) } else { count }
 }
 
 impl Desk for MemDesk {
@@ -240,13 +204,12 @@ impl Desk for MemDesk {
         ensures starved { self.new.starved ≡ self.old.starved }
     {
         let orderly = self.opens_in_order(port, name);
-        self.mark(orderly);
-        let listed = self.count(port, CallKind::Open);
+        let listed = self.begin(port, CallKind::Open, orderly);
         let file = self.file_unless(listed, name);
         if self.slots[port.number()].open(file) {
             return Ok(());
         }
-        Err(self.in_fault())
+        Err(self.faults.count_in())
     }
 
     fn create(&mut self, port: Port, name: &str) -> Result<(), Failed>
@@ -256,13 +219,13 @@ impl Desk for MemDesk {
         ensures starved { self.new.starved ≡ starved_after self.old port CallKind.Create (is_err result) }
     {
         let orderly = self.creates_in_order(port, name);
-        self.mark(orderly);
-        let listed = self.count(port, CallKind::Create);
+        let listed = self.begin(port, CallKind::Create, orderly);
         let target = self.copy_unless(listed, name);
         if self.slots[port.number()].create(target) {
             return Ok(());
         }
-        Err(self.out_fault(!listed))
+        self.starved = one_more_if(!listed, self.starved);
+        Err(self.faults.count_out())
     }
 
     fn read(&mut self, port: Port, buf: &mut [u8]) -> Result<usize, Failed>
@@ -273,9 +236,8 @@ impl Desk for MemDesk {
         ensures starved { self.new.starved ≡ self.old.starved }
     {
         let orderly = self.reads_in_order(port);
-        self.mark(orderly);
-        if self.count(port, CallKind::Read) {
-            return Err(self.in_fault());
+        if self.begin(port, CallKind::Read, orderly) {
+            return Err(self.faults.count_in());
         }
         Ok(self.slots[port.number()].read(&self.files, buf))
     }
@@ -290,13 +252,13 @@ impl Desk for MemDesk {
         ensures starved { self.new.starved ≡ starved_after self.old port CallKind.Write (is_err result) }
     {
         let orderly = self.writes_in_order(port);
-        self.mark(orderly);
-        if self.count(port, CallKind::Write) {
-            return Err(self.out_fault(false));
+        if self.begin(port, CallKind::Write, orderly) {
+            return Err(self.faults.count_out());
         }
         if self.slots[port.number()].write(bytes) {
             return Ok(bytes.len());
         }
-        Err(self.out_fault(true))
+        self.starved = one_more_if(true, self.starved);
+        Err(self.faults.count_out())
     }
 }

@@ -1,4 +1,5 @@
-// A desk that never fails.
+//! A desk that never fails.
+
 ghost use Rattle.gr_desk.specs.NeverFails.{told_by};
 ghost use Rattle.std.specs.Prelude.{◌≡◌, []};
 

@@ -1,4 +1,5 @@
-// The ports that bytes come from and go to.
+//! The ports that bytes come from and go to.
+
 ghost use Rattle.std.specs.Prelude.{◌≡◌, ◌<◌};
 ghost use Rattle.gr_desk.specs.Ports.{is_input, is_output, number};
 

@@ -1,4 +1,5 @@
-// Named bytes in memory, and how far one of them was read.
+//! Named bytes in memory, and how far one of them was read.
+
 ghost use Rattle.std.specs.Prelude.{◌≡◌, ◌<◌, ◌≤◌, ◌+◌, ◌^◌, ◌++◌, [], length, take};
 ghost use Rattle.gr_desk.specs.Files.{bytes_at, position_of, left_of};
 

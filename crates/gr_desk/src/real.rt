@@ -1,10 +1,17 @@
-// The desk over files and standard output.
-ghost use Rattle.std.specs.Prelude.{◌≡◌, ◌<◌, ◌≤◌, length, IfSome};
-ghost use Rattle.gr_desk.specs.Causes.{Rose};
+//! The desk over files and standard output.
+
+ghost use Rattle.std.specs.Prelude.{◌≡◌, ◌≢◌, ◌<◌, None, IsNone, IsErr, OnOk, OnErr, IfOk, is_some, length, option_and_then};
+ghost use Rattle.std.specs.Io.{ReadsAtMost, WritesAtMost};
+ghost use Rattle.std.specs.Io.KnownBytes.{ReadConsumes, WriteAppends};
+ghost use Rattle.gr_desk.specs.declared.port.Port.TheVariants.{Report};
+ghost use Rattle.gr_desk.specs.Calls.{Opens, Creates, Reads, Writes};
+ghost use Rattle.gr_desk.specs.OpenFiles.{file_at, told_at, GivesFile, KeepsFiles};
 ghost use Rattle.gr_desk.specs.Untold.{untold};
 
 use crate::desk::Desk;
 use crate::failed::Failed;
+use crate::fault_counts::FaultCounts;
+use crate::open_files::OpenFiles;
 use crate::port::Port;
 use std::io::{Read, Write};
 use std::rt::Files;
@@ -17,189 +24,128 @@ use std::{fs, io};
 #[derive(Drop)]
 pub struct RealDesk<'a, R: Files + Print> {
     rt: &'a R,
-    input: Option<R::File>,
-    routes_in: Option<R::File>,
-    cert_in: Option<R::File>,
-    routes_out: Option<R::File>,
-    cert_out: Option<R::File>,
-    design_out: Option<R::File>,
-    in_faults: u64,
-    out_faults: u64,
+    files: OpenFiles<R::File>,
+    faults: FaultCounts,
 }
 
-fn read_file<F: Read>(file: &mut Option<F>, buf: &mut [u8]) -> Option<usize>
-    ensures { IfSome result (λ n. n ≤ length buf.new) }
+// A read from the file, if there is one.
+fn read_file<F: Read>(file: &mut Option<F>, buf: &mut [u8]) -> Result<usize, Failed>
+    ensures bound { ReadsAtMost result buf.new }
+    ensures bytes { ReadConsumes (option_and_then F.remaining file.old) (option_and_then F.remaining file.new) result buf.new }
+    ensures no_file { IsNone file.old → IsErr result }
+    ensures still { is_some file.new ≡ is_some file.old }
 {
     match file {
-        None => None,
-        Some(file) => file.read(buf).ok(),
+        None => Err(Failed),
+        Some(file) => match file.read(buf) {
+            Ok(n) => Ok(n),
+            Err(_) => Err(Failed),
+        },
     }
 }
 
-fn write_file<F: Write>(file: &mut Option<F>, bytes: &[u8]) -> Option<usize>
-    ensures { IfSome result (λ n. (n ≤ length bytes.now) × (0 < length bytes.now → 0 < n)) }
+// A write to the file, if there is one.
+fn write_file<F: Write>(file: &mut Option<F>, bytes: &[u8]) -> Result<usize, Failed>
+    ensures bound { WritesAtMost result bytes.now }
+    ensures some { 0 < length bytes.now → OnOk result (result ≢ Ok 0) }
+    ensures bytes { WriteAppends (option_and_then F.contents file.old) (option_and_then F.contents file.new) result bytes.now }
+    ensures no_file { IsNone file.old → IsErr result }
+    ensures still { is_some file.new ≡ is_some file.old }
 {
     match file {
-        None => None,
-        Some(file) => taken(file.write(bytes).ok(), bytes),
+        None => Err(Failed),
+        Some(file) => taken(file.write(bytes), bytes),
     }
 }
 
-// A count that can be that of a write: within the bytes, and not 0 where there are some.
-fn taken(count: Option<usize>, bytes: &[u8]) -> Option<usize>
-    ensures { IfSome result (λ n. (n ≤ length bytes.now) × (0 < length bytes.now → 0 < n)) }
+// What a write took; one that took nothing of some bytes failed.
+fn taken(count: io::Result<usize>, bytes: &[u8]) -> Result<usize, Failed>
+    ensures count { IfOk result (λ n. count ≡ Ok n) }
+    ensures some { 0 < length bytes.now → OnOk result (result ≢ Ok 0) }
+    ensures failed { OnErr result (IfOk count (λ n. n ≡ 0)) }
 {
     match count {
-        Some(n) => {
-            if n <= bytes.len() && (n > 0 || bytes.len() == 0) {
-                Some(n)
-            } else {
-                None
-            }
-        }
-        None => None,
+        Ok(n) if n > 0 || bytes.is_empty() => Ok(n),
+        _ => Err(Failed),
     }
 }
 
 impl<'a, R: Files + Print> RealDesk<'a, R> {
     /// A desk with no file open.
     pub fn new(rt: &'a R) -> RealDesk<'a, R>
-        ensures in_faults { result.in_faults ≡ 0 }
-        ensures out_faults { result.out_faults ≡ 0 }
+        ensures files { (p : Port) → file_at result.files p ≡ None }
+        ensures in_faults { result.faults.in_faults ≡ 0 }
+        ensures out_faults { result.faults.out_faults ≡ 0 }
     {
         RealDesk {
             rt,
-            input: None,
-            routes_in: None,
-            cert_in: None,
-            routes_out: None,
-            cert_out: None,
-            design_out: None,
-            in_faults: 0,
-            out_faults: 0,
+            files: OpenFiles::none(),
+            faults: FaultCounts::none(),
         }
-    }
-
-    fn put(&mut self, port: Port, file: R::File) -> bool
-        ensures in_faults { self.new.in_faults ≡ self.old.in_faults }
-        ensures out_faults { self.new.out_faults ≡ self.old.out_faults }
-    {
-        let file = Some(file);
-        match port {
-            Port::In => self.input = file,
-            Port::RoutesIn => self.routes_in = file,
-            Port::CertIn => self.cert_in = file,
-            Port::RoutesOut => self.routes_out = file,
-            Port::CertOut => self.cert_out = file,
-            Port::DesignOut => self.design_out = file,
-            Port::Report => return false,
-        }
-        true
-    }
-
-    fn open_at(&mut self, port: Port, name: &str) -> bool
-        ensures in_faults { self.new.in_faults ≡ self.old.in_faults }
-        ensures out_faults { self.new.out_faults ≡ self.old.out_faults }
-    {
-        match fs::open(self.rt, name) {
-            Ok(file) => self.put(port, file),
-            Err(_) => false,
-        }
-    }
-
-    fn create_at(&mut self, port: Port, name: &str) -> bool
-        ensures in_faults { self.new.in_faults ≡ self.old.in_faults }
-        ensures out_faults { self.new.out_faults ≡ self.old.out_faults }
-    {
-        // The report is no file: nothing of that name is to be emptied.
-        if matches!(port, Port::Report) {
-            return false;
-        }
-        match fs::create(self.rt, name) {
-            Ok(file) => self.put(port, file),
-            Err(_) => false,
-        }
-    }
-
-    fn read_at(&mut self, port: Port, buf: &mut [u8]) -> Option<usize>
-        ensures count { IfSome result (λ n. n ≤ length buf.new) }
-        ensures in_faults { self.new.in_faults ≡ self.old.in_faults }
-        ensures out_faults { self.new.out_faults ≡ self.old.out_faults }
-    {
-        match port {
-            Port::In => read_file(&mut self.input, buf),
-            Port::RoutesIn => read_file(&mut self.routes_in, buf),
-            Port::CertIn => read_file(&mut self.cert_in, buf),
-            Port::RoutesOut => read_file(&mut self.routes_out, buf),
-            Port::CertOut => read_file(&mut self.cert_out, buf),
-            Port::DesignOut => read_file(&mut self.design_out, buf),
-            Port::Report => None,
-        }
-    }
-
-    fn write_at(&mut self, port: Port, bytes: &[u8]) -> Option<usize>
-        ensures count { IfSome result (λ n. (n ≤ length bytes.now) × (0 < length bytes.now → 0 < n)) }
-        ensures in_faults { self.new.in_faults ≡ self.old.in_faults }
-        ensures out_faults { self.new.out_faults ≡ self.old.out_faults }
-    {
-        match port {
-            Port::In => write_file(&mut self.input, bytes),
-            Port::RoutesIn => write_file(&mut self.routes_in, bytes),
-            Port::CertIn => write_file(&mut self.cert_in, bytes),
-            Port::RoutesOut => write_file(&mut self.routes_out, bytes),
-            Port::CertOut => write_file(&mut self.cert_out, bytes),
-            Port::DesignOut => write_file(&mut self.design_out, bytes),
-            Port::Report => taken(io::writer(self.rt).write(bytes).ok(), bytes),
-        }
-    }
-
-    fn in_fault(&mut self) -> Failed
-        ensures later { self.old.in_faults ≤ self.new.in_faults }
-        ensures rose { Rose self.old.in_faults self.new.in_faults }
-        ensures out_faults { self.new.out_faults ≡ self.old.out_faults }
-    {
-        self.in_faults = self.in_faults.saturating_add(1);
-        Failed
-    }
-
-    fn out_fault(&mut self) -> Failed
-        ensures in_faults { self.new.in_faults ≡ self.old.in_faults }
-        ensures later { self.old.out_faults ≤ self.new.out_faults }
-        ensures rose { Rose self.old.out_faults self.new.out_faults }
-    {
-        self.out_faults = self.out_faults.saturating_add(1);
-        Failed
     }
 }
 
 impl<'a, R: Files + Print> Desk for RealDesk<'a, R> {
-    ghost told = { λ s. untold s.in_faults s.out_faults };
+    ghost told = { λ s. untold s.faults };
 
-    fn open(&mut self, port: Port, name: &str) -> Result<(), Failed> {
-        if self.open_at(port, name) {
-            return Ok(());
-        }
-        Err(self.in_fault())
-    }
-
-    fn create(&mut self, port: Port, name: &str) -> Result<(), Failed> {
-        if self.create_at(port, name) {
-            return Ok(());
-        }
-        Err(self.out_fault())
-    }
-
-    fn read(&mut self, port: Port, buf: &mut [u8]) -> Result<usize, Failed> {
-        match self.read_at(port, buf) {
-            Some(count) => Ok(count),
-            None => Err(self.in_fault()),
+    fn open(&mut self, port: Port, name: &str) -> Result<(), Failed>
+        ensures does { Opens (untold self.old.faults) (untold self.new.faults) port name.now result }
+        ensures file { GivesFile self.old.files self.new.files port result }
+    {
+        match fs::open(self.rt, name) {
+            Ok(file) if !matches!(port, Port::Report) => {
+                *self.files.at_mut(port) = Some(file);
+                Ok(())
+            }
+            _ => Err(self.faults.count_in()),
         }
     }
 
-    fn write(&mut self, port: Port, bytes: &[u8]) -> Result<usize, Failed> {
-        match self.write_at(port, bytes) {
-            Some(count) => Ok(count),
-            None => Err(self.out_fault()),
+    fn create(&mut self, port: Port, name: &str) -> Result<(), Failed>
+        ensures does { Creates (untold self.old.faults) (untold self.new.faults) port name.now result }
+        ensures file { GivesFile self.old.files self.new.files port result }
+    {
+        // The report is no file: nothing of that name is to be emptied.
+        if matches!(port, Port::Report) {
+            return Err(self.faults.count_out());
+        }
+        match fs::create(self.rt, name) {
+            Ok(file) => {
+                *self.files.at_mut(port) = Some(file);
+                Ok(())
+            }
+            Err(_) => Err(self.faults.count_out()),
+        }
+    }
+
+    fn read(&mut self, port: Port, buf: &mut [u8]) -> Result<usize, Failed>
+        ensures bound { ReadsAtMost result buf.new }
+        ensures does { Reads (untold self.old.faults) (untold self.new.faults) port result buf.new }
+        ensures bytes { ReadConsumes (told_at R.File.remaining self.old.files port) (told_at R.File.remaining self.new.files port) result buf.new }
+        ensures no_file { IsNone (file_at self.old.files port) → IsErr result }
+        ensures files { KeepsFiles self.old.files self.new.files port }
+    {
+        match read_file(self.files.at_mut(port), buf) {
+            Ok(count) => Ok(count),
+            Err(Failed) => Err(self.faults.count_in()),
+        }
+    }
+
+    fn write(&mut self, port: Port, bytes: &[u8]) -> Result<usize, Failed>
+        ensures bound { WritesAtMost result bytes.now }
+        ensures some { 0 < length bytes.now → OnOk result (result ≢ Ok 0) }
+        ensures does { Writes (untold self.old.faults) (untold self.new.faults) port result bytes.now }
+        ensures bytes { port ≢ Report → WriteAppends (told_at R.File.contents self.old.files port) (told_at R.File.contents self.new.files port) result bytes.now }
+        ensures no_file { port ≢ Report → IsNone (file_at self.old.files port) → IsErr result }
+        ensures files { KeepsFiles self.old.files self.new.files port }
+    {
+        let written = match port {
+            Port::Report => taken(io::writer(self.rt).write(bytes), bytes),
+            _ => write_file(self.files.at_mut(port), bytes),
+        };
+        match written {
+            Ok(n) => Ok(n),
+            Err(Failed) => Err(self.faults.count_out()),
         }
     }
 }

@@ -1,4 +1,5 @@
-// One port of a desk in memory.
+//! One port of a desk in memory.
+
 ghost use Rattle.std.specs.Prelude.{◌≡◌, ◌<◌, ◌≤◌, ◌++◌, [], length, take, IsTrue, false, is_some, IfSome, IfNone};
 ghost use Rattle.gr_desk.specs.Files.{left_of};
 ghost use Rattle.gr_desk.specs.Slot.{IsUntouched, IsCreated, opened_slot};

@@ -1,7 +1,10 @@
-// What no clause says: worked examples, and each public call once on its way to an answer.
+//! What no clause says: worked examples, and each public call once on its way to an answer.
+
 ghost use Rattle.std.specs.Prelude.{◌<◌, ◌^◌};
 
-use crate::{CallKind, Desk, MemDesk, NeverFails, Port, PortFault, RealDesk, read_port, write_all};
+use crate::{
+    CallKind, Desk, Failed, MemDesk, NeverFails, Port, PortFault, RealDesk, read_port, write_all,
+};
 use std::alloc::{AllocError, Global};
 use std::fs;
 use std::test::Fail;
@@ -27,44 +30,75 @@ fn plain(rt: &HostRuntime) -> Result<MemDesk, AllocError> {
     Ok(MemDesk::new(rt.alloc(), files(rt.alloc())?, Vec::new(rt.alloc())))
 }
 
-fn read_whole<D: Desk>(alloc: Global, desk: &mut D, limit: u64) -> Result<Vec<u8>, PortFault>
+fn read_whole<D: Desk>(
+    alloc: Global,
+    desk: &mut D,
+    name: &str,
+    limit: u64,
+) -> Result<Vec<u8>, PortFault>
     requires { limit < 2 ^ 32 }
 {
-    desk.open(Port::In, "a.gr").map_err(|_| PortFault::Failed)?;
+    desk.open(Port::In, name).map_err(|_| PortFault::Failed)?;
     read_port(alloc, desk, Port::In, limit)
+}
+
+fn write_whole<D: Desk>(desk: &mut D, name: &str, text: &[u8]) -> Result<(), Failed> {
+    desk.create(Port::RoutesOut, name)?;
+    write_all(desk, Port::RoutesOut, text)
 }
 
 #[test]
 fn eleven_bytes_are_read_within_a_limit_of_eleven(rt: HostRuntime) -> Result<(), Fail> {
     let mut desk = plain(&rt)?;
-    let text = read_whole(rt.alloc(), &mut desk, 11)?;
+    let text = read_whole(rt.alloc(), &mut desk, "a.gr", 11)?;
     assert_eq!(rt; text.as_slice(), b"hello world".as_slice());
     let mut desk = plain(&rt)?;
-    assert!(rt; read_whole(rt.alloc(), &mut desk, 10).is_err_and(|e| e == PortFault::TooLong));
+    assert!(rt;
+        read_whole(rt.alloc(), &mut desk, "a.gr", 10).is_err_and(|e| e == PortFault::TooLong)
+    );
     let mut desk = NeverFails::new(files(rt.alloc())?);
-    let text = read_whole(rt.alloc(), &mut desk, 11)?;
+    let text = read_whole(rt.alloc(), &mut desk, "a.gr", 11)?;
     assert_eq!(rt; text.as_slice(), b"hello world".as_slice());
     Ok(())
 }
 
 #[test]
-fn listed_calls_fail(rt: HostRuntime) -> Result<(), Fail> {
+fn a_listed_open_and_a_listed_read_fail(rt: HostRuntime) -> Result<(), Fail> {
     let mut desk = failing(&rt, Port::In, CallKind::Open, 1)?;
-    assert!(rt; desk.open(Port::In, "a.gr").is_ok());
-    assert!(rt; desk.open(Port::In, "a.gr").is_err());
-    assert!(rt; desk.open(Port::In, "a.gr").is_ok());
-    assert!(rt; desk.open(Port::In, "b.gr").is_err());
+    for (name, opens) in [
+        ("a.gr", true),
+        ("a.gr", false),
+        ("a.gr", true),
+        ("b.gr", false),
+    ] {
+        assert_eq!(rt; desk.open(Port::In, name).is_ok(), opens);
+    }
     let mut desk = failing(&rt, Port::In, CallKind::Read, 0)?;
-    assert!(rt; read_whole(rt.alloc(), &mut desk, 11).is_err_and(|e| e == PortFault::Failed));
+    assert!(rt;
+        read_whole(rt.alloc(), &mut desk, "a.gr", 11).is_err_and(|e| e == PortFault::Failed)
+    );
+    Ok(())
+}
+
+#[test]
+fn a_create_that_fails_keeps_what_was_written(rt: HostRuntime) -> Result<(), Fail> {
     let mut desk = failing(&rt, Port::RoutesOut, CallKind::Create, 1)?;
-    assert!(rt; desk.create(Port::RoutesOut, "a.routes").is_ok());
-    assert!(rt; write_all(&mut desk, Port::RoutesOut, b"a 0\n!\n").is_ok());
-    assert!(rt; desk.create(Port::RoutesOut, "b.routes").is_err());
+    assert!(rt; write_whole(&mut desk, "a.routes", b"a 0\n!\n").is_ok());
+    assert!(rt; write_whole(&mut desk, "b.routes", b"b 0\n!\n").is_err());
     assert_eq!(rt; desk.written(Port::RoutesOut), b"a 0\n!\n".as_slice());
+    Ok(())
+}
+
+#[test]
+fn a_write_that_fails_writes_nothing(rt: HostRuntime) -> Result<(), Fail> {
     let mut desk = failing(&rt, Port::Report, CallKind::Write, 0)?;
-    assert!(rt; write_all(&mut desk, Port::Report, b"nets 1\n").is_err());
-    assert_eq!(rt; desk.written(Port::Report).len(), 0);
-    assert!(rt; write_all(&mut desk, Port::Report, b"nets 1\n").is_ok());
+    for (writes, length) in [(false, 0), (true, 7)] {
+        assert_eq!(rt;
+            write_all(&mut desk, Port::Report, b"nets 1\n").is_ok(),
+            writes
+        );
+        assert_eq!(rt; desk.written(Port::Report).len(), length);
+    }
     assert_eq!(rt; desk.written(Port::Report), b"nets 1\n".as_slice());
     assert_eq!(rt; desk.starved(), 0);
     Ok(())
@@ -83,16 +117,28 @@ fn a_name_that_is_not_expected_strays(rt: HostRuntime) -> Result<(), Fail> {
     Ok(())
 }
 
+// The second text is shorter than the first: a create empties its file, and an open reads anew.
 #[test]
 fn files_and_standard_output_are_reached(rt: HostRuntime) -> Result<(), Fail> {
     let mut desk = RealDesk::new(&rt);
-    desk.create(Port::RoutesOut, "desk_test.txt")?;
-    write_all(&mut desk, Port::RoutesOut, b"one net\n")?;
-    desk.open(Port::In, "desk_test.txt")?;
-    let text = read_port(rt.alloc(), &mut desk, Port::In, 100)?;
-    assert_eq!(rt; text.as_slice(), b"one net\n".as_slice());
-    write_all(&mut desk, Port::Report, text.as_slice())?;
+    for text in [b"two nets\n".as_slice(), b"one net\n".as_slice()] {
+        write_whole(&mut desk, "desk_test.txt", text)?;
+        let read = read_whole(rt.alloc(), &mut desk, "desk_test.txt", 100)?;
+        assert_eq!(rt; read.as_slice(), text);
+    }
+    write_all(&mut desk, Port::Report, b"one net\n")?;
     assert!(rt; desk.open(Port::RoutesIn, "no such file").is_err());
     fs::remove_file(&rt, "desk_test.txt")?;
+    Ok(())
+}
+
+// A device's own fault is the desk's: a folder opens and then fails to be read, and a full device takes nothing.
+#[test]
+fn a_device_that_fails_is_a_failed_call(rt: HostRuntime) -> Result<(), Fail> {
+    let mut desk = RealDesk::new(&rt);
+    desk.open(Port::CertIn, ".")?;
+    assert!(rt; read_port(rt.alloc(), &mut desk, Port::CertIn, 100).is_err());
+    desk.create(Port::CertOut, "/dev/full")?;
+    assert!(rt; write_all(&mut desk, Port::CertOut, b"one net\n").is_err());
     Ok(())
 }

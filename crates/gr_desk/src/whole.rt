@@ -1,4 +1,5 @@
-// Reading a port whole, and writing a text whole.
+//! Reading a port whole, and writing a text whole.
+
 ghost use Rattle.std.specs.Prelude.{◌≡◌, ◌≢◌, ◌<◌, ◌≤◌, ◌+◌, ◌^◌, length, IfOk, OnOk, OnErr, IsErrOf, Err};
 ghost use Rattle.std.specs.Io.KnownBytes.{IsAtEnd};
 ghost use Rattle.gr_desk.specs.Causes.{Rose};
@@ -11,7 +12,7 @@ use crate::port::Port;
 use std::alloc::{AllocError, AllocFailed, Global};
 
 /// How many bytes `read_port` asks for at a time.
-pub const PIECE: usize = 4096;
+pub const READ_SIZE: usize = 4096;
 
 /// All that is left to be read at `port`, if that is at most `limit` bytes.
 ///
@@ -35,8 +36,8 @@ pub fn read_port<D: Desk>(
 {
     let mut all: Vec<u8> = Vec::new(alloc);
     while all.len() as u64 <= limit {
-        let mut room = [0u8; PIECE];
-        let want = (limit as usize + 1 - all.len()).min(PIECE);
+        let mut room = [0u8; READ_SIZE];
+        let want = (limit as usize + 1 - all.len()).min(READ_SIZE);
         let count = match desk.read(port, &mut room[..want]) {
             Err(Failed) => return Err(PortFault::Failed),
             Ok(count) => count,
