@@ -21,7 +21,7 @@ next_inside s near true inside room = (ltb-true _ _ room, inside.1, inside.2)
 next_inside s near false inside room = (inside.0, ltb-true _ _ room, inside.2)
 
 -- a number that belongs to an edge is one of a piece
-is_edge-IsPiece : (s : Size) (e : EdgeNumber) → is_edge s e.0 ≡ true → IsPiece s (Edge e)
+pub is_edge-IsPiece : (s : Size) (e : EdgeNumber) → is_edge s e.0 ≡ true → IsPiece s (Edge e)
 is_edge-IsPiece s e is =
     let parts = and_parts _ _ is in
     let vertex = ltb-true _ _ parts.0 in (vertex, next_inside s (place_at s (e.0 / 2)) _ (place_at-inside s (e.0 / 2) vertex) parts.1)

@@ -1,5 +1,5 @@
 -- Grounds by labels.
-use Rattle.std.proofs.Common.{◌≡◌, ℕ, zero, suc, ◌<◌, ◌⊎◌, List, [], ◌∷◌, ◌++◌, length, get_or, refl, sym, ◌∙◌, ap, subst, inl, inr, ⊎_elim, arith}
+use Rattle.std.proofs.Common.{◌≡◌, ℕ, ◌<◌, List, [], ◌∷◌, ◌++◌, length, get_or, refl, sym, ◌∙◌, ap, subst, ⊎_elim, arith}
 use Rattle.std.proofs.lemmas.Option.{same_Some, slice_get_within, slice_get_read, slice_get-get_or, slice_get_cases, get_or_from_slice_get}
 use Rattle.grid_base.specs.declared.piece.Piece.{Piece}
 use Rattle.grid_base.specs.declared.piece.Piece.TheVariants.{Edge, Via}
@@ -14,11 +14,12 @@ use Rattle.grid_graph.specs.declared.ground.Ground.TheVariants.{Open, WithChoked
 use Rattle.grid_graph.specs.declared.ground_error.GroundError.{GroundError}
 use Rattle.grid_graph.specs.declared.ground_error.GroundError.TheVariants.{Unreachable, NoMemory}
 use Rattle.grid_graph.specs.declared.net_spec.NetSpec.{NetSpec}
-use Rattle.grid_graph.specs.Apart.{AreAlike, IsApart}
+use Rattle.grid_graph.specs.Apart.{HaveOneLabel, IsApart}
 use Rattle.grid_graph.specs.Grids.{Allows}
 use Rattle.grid_graph.specs.Grounds.{JoinsTerminals, IsGround, IsCutOff, IsCause, IsFirstCause}
 use Rattle.grid_graph.specs.Labels.{AreLabels}
 use Rattle.grid_graph.specs.Lists.{At}
+pub use Rattle.grid_base.proofs.Lists.{At-push_cases}
 
 -- a member of a list stands at some place
 place_of_member : (terminals : List Vertex) (a : ℕ) → InVertices terminals a → (k : ℕ) × (k < length terminals) × At terminals k (record { 0 = a })
@@ -28,7 +29,7 @@ member_from_place : (terminals : List Vertex) (k : ℕ) (v : Vertex) → At term
 member_from_place terminals k v at = (k, slice_get_within terminals k v at, get_or_from_slice_get terminals k v v at)
 
 -- terminals of one label are joined
-pub joins_alike : (s : Size) (F : Piece → Type 0) (labels : List ℕ) (terminals : List Vertex) → AreLabels s F labels → ((i : ℕ) (v : Vertex) → At terminals i v → IsVertex s v.0) → AreAlike labels terminals (length terminals) → Joins s F (InVertices terminals)
+pub joins_alike : (s : Size) (F : Piece → Type 0) (labels : List ℕ) (terminals : List Vertex) → AreLabels s F labels → ((i : ℕ) (v : Vertex) → At terminals i v → IsVertex s v.0) → HaveOneLabel labels terminals (length terminals) → Joins s F (InVertices terminals)
 joins_alike s F labels terminals right vertex alike a b a_in b_in =
     let at_a = place_of_member terminals a a_in in
     let at_b = place_of_member terminals b b_in in
@@ -79,13 +80,6 @@ pub first_cause : (g : Grid) (nets : List NetSpec) (place : ℕ) (n : NetSpec) (
 first_cause g nets place n (Unreachable id terminal) at cause earlier =
     record { place = place; net = n; stands = at; cut_off = cause; earlier = earlier }
 first_cause g nets place n NoMemory at cause earlier = tt
-
--- what stands in a list where one more was pushed
-pub At-push_cases : {X : Type 0} (xs : List X) (x y : X) (k : ℕ) → At (xs ++ x ∷ []) k y → At xs k y ⊎ ((k ≡ length xs) × (y ≡ x))
-At-push_cases [] x y zero at = inr (refl, sym (same_Some _ _ at))
-At-push_cases [] x y (suc k) at = cc
-At-push_cases (z ∷ xs) x y zero at = inl at
-At-push_cases (z ∷ xs) x y (suc k) at = ⊎_elim (λ old. inl old) (λ last. inr (ap suc last.0, last.1)) (At-push_cases xs x y k at)
 
 -- a net that was read from the list
 pub net_read : (nets list : List NetSpec) (place : ℕ) (spec n : NetSpec) → list ≡ nets → place < length nets → spec ≡ get_or list place spec → At nets place n → spec ≡ n

@@ -4,7 +4,7 @@ use Rattle.std.proofs.lemmas.Bool.{cases_eq}
 use Rattle.std.proofs.lemmas.List.{get_or-set_same, get_or-set_other, length-replicate, get_or-replicate}
 use Rattle.std.proofs.lemmas.List.Elements.{Contains-push, Contains-push_cases}
 use Rattle.std.proofs.Math.ListN.{length-set}
-use Rattle.std.proofs.lemmas.Option.{same_Some, slice_get_within}
+use Rattle.std.proofs.lemmas.Option.{same_Some}
 use Rattle.grid_graph.specs.Lists.{At}
 use Rattle.grid_graph.specs.Neighbours.{steps}
 use Rattle.grid_graph.proofs.Neighbours.{connects_step}
@@ -131,7 +131,7 @@ PassedBelow-none s F labels from n here passed k to by below at allowed =
 pub passed_all : (s : Size) (F : Piece → Type 0) (labels : List ℕ) (from : Vertex) → PassedBelow s F labels from 6 → (w : ℕ) → AreLinked s F from.0 w → slice_index labels w ≡ slice_index labels from.0
 passed_all s F labels from passed w link =
     let step = connects_step s link.piece from.0 w link.connects in
-    passed step.0 (record { 0 = w }) link.piece (slice_get_within (steps s from.0) step.0 _ step.1) step.1 link.in_set
+    passed step.0 (record { 0 = w }) link.piece step.1 step.2 link.in_set
 
 no_wait : (v : ℕ) → InVertices [] v → ⊥
 no_wait v waits = omega (arith, waits.1)

@@ -1,5 +1,5 @@
 -- The neighbours of a vertex are those that a piece connects with it.
-use Rattle.std.proofs.Common.{◌≡◌, ℕ, zero, suc, ◌+◌, ◌-◌, ◌*◌, ◌<◌, Bool, true, false, ltb, List, [], ◌∷◌, Option, Some, None, slice_get, get_or, drop, length, Contains, IfSome, refl, sym, ◌∙◌, ap, subst, inl, inr, ⊎_elim, arith}
+use Rattle.std.proofs.Common.{◌≡◌, ℕ, zero, suc, ◌+◌, ◌-◌, ◌*◌, ◌<◌, Bool, true, false, ltb, List, [], ◌∷◌, Option, Some, None, slice_get, get_or, drop, length, Contains, IfSome, All, refl, sym, ◌∙◌, ap, subst, inl, inr, ⊎_elim, arith}
 use Rattle.grid_base.specs.declared.piece.Piece.{Piece}
 use Rattle.grid_base.specs.declared.size.Size.{Size}
 use Rattle.grid_base.specs.declared.vertex.Vertex.{Vertex}
@@ -8,10 +8,11 @@ use Rattle.grid_base.proofs.Pieces.{near_end-to_next_col, near_end-to_next_row, 
 use Rattle.grid_base.proofs.Places.{place_at-inside, place_at-number, vertex_number-place}
 use Rattle.std.proofs.lemmas.Bool.{ltb-true, lt-ltb}
 use Rattle.std.proofs.lemmas.List.{at_drop_more}
-use Rattle.std.proofs.lemmas.Option.{same_Some, slice_get-get_or}
+use Rattle.std.proofs.lemmas.List.Elements.{All-from_recursion}
+use Rattle.std.proofs.lemmas.Option.{same_Some, slice_get_within, slice_get-get_or, get_or_from_slice_get}
 use Rattle.grid_base.specs.declared.place.Place.{Place}
 use Rattle.grid_graph.specs.Lists.{At}
-use Rattle.grid_graph.specs.Neighbours.{step, west, east, south, north, down, up, steps, present, neighbours}
+use Rattle.grid_graph.specs.Neighbours.{LeadsFrom, step, west, east, south, north, down, up, steps, present, neighbours}
 
 -- east of a vertex that isn't in the last column
 pub goes_east : (s : Size) (v : ℕ) → IsVertex s v → col_of s v + 1 < s.cols → Goes s (to_next_col v) v (v + 1)
@@ -73,11 +74,6 @@ place_down s v vertex there =
     number_down s (col_of s v) (row_of s v) (layer_of s v - 1) ∙ rw (one_less _ there, vertex_number-place s v) refl in
     rw (sym number) (place_at-number s (col_of s v) (row_of s v) (layer_of s v - 1) inside.0 inside.1)
 
--- what a step says: the piece connects the vertex with the one that it leads to
-abbrev pub LeadsFrom : Size → ℕ → Option (Vertex × Piece) → Type 0
-LeadsFrom s v None = Unit {0}
-LeadsFrom s v (Some x) = Connects s x.1 v x.0.0
-
 by_test : (s : Size) (v : ℕ) (inside : Bool) (w : ℕ) (p : Piece) → (inside ≡ true → Connects s p v w) → LeadsFrom s v (step inside w p)
 by_test s v true w p connects = connects refl
 by_test s v false w p connects = tt
@@ -121,15 +117,20 @@ down_leads s v vertex =
 pub up_leads : (s : Size) (v : ℕ) → IsVertex s v → LeadsFrom s v (up s v)
 up_leads s v vertex = by_test s v _ _ _ (λ test. inl (goes_up s v vertex (ltb-true _ _ test)))
 
--- each step leads to a neighbour
+-- each of the six steps leads to a neighbour
+pub all_lead : (s : Size) (v : ℕ) → IsVertex s v → All (LeadsFrom s v) (steps s v)
+all_lead s v vertex =
+    All-from_recursion (LeadsFrom s v) (steps s v)
+    (west_leads s v vertex, (east_leads s v vertex, (south_leads s v vertex, (north_leads s v vertex, (down_leads s v vertex, (up_leads s v vertex, tt))))))
+
+-- the same by its place
 pub steps_lead : (s : Size) (v k : ℕ) (x : Option (Vertex × Piece)) → IsVertex s v → At (steps s v) k x → LeadsFrom s v x
-steps_lead s v zero x vertex at = subst (LeadsFrom s v) (same_Some _ _ at) (west_leads s v vertex)
-steps_lead s v (suc zero) x vertex at = subst (LeadsFrom s v) (same_Some _ _ at) (east_leads s v vertex)
-steps_lead s v (suc (suc zero)) x vertex at = subst (LeadsFrom s v) (same_Some _ _ at) (south_leads s v vertex)
-steps_lead s v (suc (suc (suc zero))) x vertex at = subst (LeadsFrom s v) (same_Some _ _ at) (north_leads s v vertex)
-steps_lead s v (suc (suc (suc (suc zero)))) x vertex at = subst (LeadsFrom s v) (same_Some _ _ at) (down_leads s v vertex)
-steps_lead s v (suc (suc (suc (suc (suc zero))))) x vertex at = subst (LeadsFrom s v) (same_Some _ _ at) (up_leads s v vertex)
-steps_lead s v (suc (suc (suc (suc (suc (suc k)))))) x vertex at = cc
+steps_lead s v k x vertex at =
+    subst (LeadsFrom s v) (get_or_from_slice_get (steps s v) k x x at) (all_lead s v vertex k x (slice_get_within (steps s v) k x at))
+
+-- the step at a place connects the vertex with the one that it leads to
+pub step_connects : (s : Size) (v k : ℕ) (w : Vertex) (p : Piece) → IsVertex s v → At (steps s v) k (Some (w, p)) → Connects s p v w.0
+step_connects s v k w p vertex at = steps_lead s v k (Some (w, p)) vertex at
 
 step_there : (inside : Bool) (w : ℕ) (p : Piece) → inside ≡ true → step inside w p ≡ Some (record { 0 = w }, p)
 step_there true w p is = refl
@@ -140,23 +141,23 @@ step_to : (inside : Bool) (u w : ℕ) (p : ℕ → Piece) → inside ≡ true �
 step_to inside u w p there same =
     subst (λ (x : ℕ). Some (step inside u (p u)) ≡ Some (Some (record { 0 = x }, p x))) same (ap (λ (o : Option (Vertex × Piece)). Some o) (step_there inside u (p u) there))
 
--- the step that leads to the other end of a piece
+-- one of the six steps leads to the other end of a piece
 abbrev pub HasStep : Size → ℕ → ℕ → Piece → Type 0
-HasStep s v w p = (k : ℕ) × At (steps s v) k (Some (record { 0 = w }, p))
+HasStep s v w p = (k : ℕ) × (k < 6) × At (steps s v) k (Some (record { 0 = w }, p))
 
 east_step : (s : Size) (v w : ℕ) → Goes s (to_next_col v) v w → HasStep s v w (to_next_col v)
 east_step s v w goes =
     let inside = rw (far_place-to_next_col s v) at goes.0.1 in
-    (1, step_to _ (v + 1) w (λ _. to_next_col v) (lt-ltb _ _ inside.0) (sym (far_end-to_next_col s v) ∙ goes.2))
+    (1, omega arith, step_to _ (v + 1) w (λ _. to_next_col v) (lt-ltb _ _ inside.0) (sym (far_end-to_next_col s v) ∙ goes.2))
 
 north_step : (s : Size) (v w : ℕ) → Goes s (to_next_row v) v w → HasStep s v w (to_next_row v)
 north_step s v w goes =
     let inside = rw (far_place-to_next_row s v) at goes.0.1 in
-    (3, step_to _ (v + s.cols) w (λ _. to_next_row v) (lt-ltb _ _ inside.1) (sym (far_end-to_next_row s v) ∙ goes.2))
+    (3, omega arith, step_to _ (v + s.cols) w (λ _. to_next_row v) (lt-ltb _ _ inside.1) (sym (far_end-to_next_row s v) ∙ goes.2))
 
 up_step : (s : Size) (v w : ℕ) → Goes s (to_next_layer v) v w → HasStep s v w (to_next_layer v)
 up_step s v w goes =
-    (5, step_to _ (v + s.cols * s.rows) w (λ _. to_next_layer v) (lt-ltb _ _ goes.0.1.2) (sym (far_end-to_next_layer s v) ∙ goes.2))
+    (5, omega arith, step_to _ (v + s.cols * s.rows) w (λ _. to_next_layer v) (lt-ltb _ _ goes.0.1.2) (sym (far_end-to_next_layer s v) ∙ goes.2))
 
 -- the place that a piece arrives at
 arrives_at : (s : Size) (p : Piece) (v w : ℕ) → Goes s p w v → place_at s v ≡ far_place s p
@@ -172,19 +173,19 @@ west_step : (s : Size) (v w : ℕ) → Goes s (to_next_col w) w v → HasStep s 
 west_step s v w goes =
     let there = positive _ _ (ap (λ (q : Place). q.col) (arrives_at s (to_next_col w) v w goes ∙ far_place-to_next_col s w)) in
     let back = less_back v w 1 (sym (far_end-to_next_col s w) ∙ goes.2) in
-    (0, step_to _ (v - 1) w to_next_col (lt-ltb _ _ there) back)
+    (0, omega arith, step_to _ (v - 1) w to_next_col (lt-ltb _ _ there) back)
 
 south_step : (s : Size) (v w : ℕ) → Goes s (to_next_row w) w v → HasStep s v w (to_next_row w)
 south_step s v w goes =
     let there = positive _ _ (ap (λ (q : Place). q.row) (arrives_at s (to_next_row w) v w goes ∙ far_place-to_next_row s w)) in
     let back = less_back v w s.cols (sym (far_end-to_next_row s w) ∙ goes.2) in
-    (2, step_to _ (v - s.cols) w to_next_row (lt-ltb _ _ there) back)
+    (2, omega arith, step_to _ (v - s.cols) w to_next_row (lt-ltb _ _ there) back)
 
 down_step : (s : Size) (v w : ℕ) → Goes s (to_next_layer w) w v → HasStep s v w (to_next_layer w)
 down_step s v w goes =
     let there = positive _ _ (ap (λ (q : Place). q.layer) (arrives_at s (to_next_layer w) v w goes)) in
     let back = less_back v w (s.cols * s.rows) (sym (far_end-to_next_layer s w) ∙ goes.2) in
-    (4, step_to _ (v - s.cols * s.rows) w to_next_layer (lt-ltb _ _ there) back)
+    (4, omega arith, step_to _ (v - s.cols * s.rows) w to_next_layer (lt-ltb _ _ there) back)
 
 -- a piece by its kind: what holds of the three that go from its near end holds of it
 by_near : (near : ℕ) (P : Piece → Type 0) → P (to_next_col near) → P (to_next_row near) → P (to_next_layer near) → (p : Piece) → near_end p ≡ near → P p
@@ -204,6 +205,12 @@ step_in s p v w goes =
 pub connects_step : (s : Size) (p : Piece) (v w : ℕ) → Connects s p v w → HasStep s v w p
 connects_step s p v w connects = ⊎_elim (step_out s p v w) (step_in s p v w) connects
 
+-- and stands in the list of the six
+pub connects_listed : (s : Size) (p : Piece) (v : ℕ) (w : Vertex) → Connects s p v w.0 → Contains (steps s v) (Some (w, p))
+connects_listed s p v w connects =
+    let found = connects_step s p v w.0 connects in
+    (found.0, found.1, get_or_from_slice_get (steps s v) found.0 (Some (w, p)) (Some (w, p)) found.2)
+
 -- a step that was read from a table of the steps
 pub step_read : (s : Size) (v k : ℕ) (table : List (Option (Vertex × Piece))) (x : Option (Vertex × Piece)) → table ≡ steps s v → k < 6 → get_or table k None ≡ x → At (steps s v) k x
 step_read s v k table x is within read =
@@ -221,7 +228,7 @@ present_contains (Some y ∷ xs) (suc k) x at = let found = present_contains xs 
 pub connects_neighbour : (s : Size) (p : Piece) (v : ℕ) (w : Vertex) → Connects s p v w.0 → Contains (neighbours s v) (w, p)
 connects_neighbour s p v w connects =
     let found = connects_step s p v w.0 connects in
-    present_contains (steps s v) found.0 (w, p) found.1
+    present_contains (steps s v) found.0 (w, p) found.2
 
 next_at : {X : Type 0} (x : X) (ys : List X) (n : ℕ) → 0 < n → slice_get (x ∷ ys) n ≡ slice_get ys (n - 1)
 next_at x ys zero positive = absurd (omega (arith, positive))

@@ -1,5 +1,6 @@
 -- Words for a grid: capacities, kinds, demands, tiles, and what a ground allows.
 use Rattle.std.specs.Prelude.{ℕ, ◌+◌, ◌*◌, ◌/◌, ◌≡◌, ◌≢◌, ◌≤◌, ◌<◌, ℤ, Option, cond, ltb, slice_index}
+use Rattle.std.specs.Option.{option_zip}
 use Rattle.grid_base.specs.declared.piece.Piece.{Piece}
 use Rattle.grid_base.specs.declared.piece.Piece.TheVariants.{Edge, Via}
 use Rattle.grid_base.specs.Numbers.{vertices, col_of, row_of, layer_of, IsPiece}
@@ -11,7 +12,7 @@ use Rattle.grid_graph.specs.declared.kind.Kind.{Kind}
 use Rattle.grid_graph.specs.declared.kind.Kind.TheVariants as kinds
 use Rattle.grid_graph.specs.Capacities.{layer_capacity, demand}
 use Rattle.grid_graph.specs.GridLimits.{IsLayout}
-use Rattle.grid_graph.specs.Tiles.{tile_index, written_position, both}
+use Rattle.grid_graph.specs.Tiles.{tile_index, written_position}
 
 -- the parts keep the limits
 abbrev pub IsGridParts : GridParts → Type 0
@@ -27,15 +28,14 @@ pub record HasParts (g : Grid) (p : GridParts) : Type 0 where
   pub origin : g.origin ≡ p.origin
   pub tile : g.tile ≡ p.tile
 
+-- what a grid was made of
+abbrev pub parts_of : Grid → GridParts
+parts_of g =
+    record { size = g.size; vertical = g.vertical; horizontal = g.horizontal; widths = g.widths; spacings = g.spacings; origin = g.origin; tile = g.tile }
+
 -- two grids that may differ in their edges' capacities alone
-pub record SameButCapacities (g h : Grid) : Type 0 where
-  pub size : h.size ≡ g.size
-  pub vertical : h.vertical.items ≡ g.vertical.items
-  pub horizontal : h.horizontal.items ≡ g.horizontal.items
-  pub widths : h.widths.items ≡ g.widths.items
-  pub spacings : h.spacings.items ≡ g.spacings.items
-  pub origin : h.origin ≡ g.origin
-  pub tile : h.tile ≡ g.tile
+abbrev pub SameButCapacities : Grid → Grid → Type 0
+SameButCapacities g h = HasParts h (parts_of g)
 
 -- there are twice as many edge numbers as vertices; one that belongs to no edge counts as a wall
 abbrev pub IsEdgeNumber : Grid → ℕ → Type 0
@@ -63,7 +63,7 @@ demand_on g width e = let layer = layer_of g.size (e / 2) in demand width (slice
 
 -- the column and the row of the tile of a position, upper borders included
 abbrev pub tile_of : Grid → ℤ → ℤ → Option (ℕ × ℕ)
-tile_of g x y = both (tile_index g.origin.0 g.tile.0 g.size.cols x) (tile_index g.origin.1 g.tile.1 g.size.rows y)
+tile_of g x y = option_zip (tile_index g.origin.0 g.tile.0 g.size.cols x) (tile_index g.origin.1 g.tile.1 g.size.rows y)
 
 -- the position written for a vertex
 abbrev pub position_of : Grid → ℕ → ℤ × ℤ

@@ -1,13 +1,18 @@
 -- The neighbours of a vertex, in order.
-use Rattle.std.specs.Prelude.{ℕ, ◌+◌, ◌-◌, ◌*◌, Bool, List, [], ◌∷◌, Option, Some, None, cond, ltb}
+use Rattle.std.specs.Prelude.{ℕ, ◌+◌, ◌-◌, ◌*◌, Bool, List, [], ◌∷◌, Option, Some, None, IfSome, cond, ltb}
+use Rattle.std.specs.List.{filter_map}
 use Rattle.grid_base.specs.declared.piece.Piece.{Piece}
 use Rattle.grid_base.specs.declared.size.Size.{Size}
 use Rattle.grid_base.specs.declared.vertex.Vertex.{Vertex}
-use Rattle.grid_base.specs.Numbers.{col_of, row_of, layer_of, to_next_col, to_next_row, to_next_layer}
+use Rattle.grid_base.specs.Numbers.{col_of, row_of, layer_of, to_next_col, to_next_row, to_next_layer, Connects}
 
 -- a step to the vertex w by the piece p, where it stays inside the grid
 abbrev pub step : Bool → ℕ → Piece → Option (Vertex × Piece)
 step inside w p = cond inside (Some (record { 0 = w }, p)) None
+
+-- where the step is there, its piece connects the vertex v with the one that it leads to
+abbrev pub LeadsFrom : Size → ℕ → Option (Vertex × Piece) → Type 0
+LeadsFrom s v found = IfSome found (λ x. Connects s x.1 v x.0.0)
 
 -- to the column before
 abbrev pub west : Size → ℕ → Option (Vertex × Piece)
@@ -39,9 +44,7 @@ steps s v = west s v ∷ east s v ∷ south s v ∷ north s v ∷ down s v ∷ u
 
 -- those that are there
 abbrev pub present : {X : Type 0} → List (Option X) → List X
-present [] = []
-present (None ∷ xs) = present xs
-present (Some x ∷ xs) = x ∷ present xs
+present xs = filter_map (λ x. x) xs
 
 -- the neighbours of a vertex with the pieces that lead there: west, east, south, north, down, up
 abbrev pub neighbours : Size → ℕ → List (Vertex × Piece)

@@ -1,4 +1,4 @@
--- A vertex with its place, and what it keeps within the numbers of the machine.
+-- A vertex with its place.
 use Rattle.std.specs.Prelude.{ℕ, ◌≡◌}
 use Rattle.grid_base.specs.declared.place.Place.{Place}
 use Rattle.grid_base.specs.declared.size.Size.{Size}

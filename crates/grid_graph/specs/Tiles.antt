@@ -13,9 +13,3 @@ tile_index origin tile count x = cond (int_lt x origin) None (tile_at (nat_abs t
 -- the position that is written for a tile: its lower border and half its size, rounded down
 abbrev pub written_position : ℤ → ℤ → ℕ → ℤ
 written_position origin tile index = origin +ℤ pos (index * nat_abs tile + nat_abs tile / 2)
-
--- a column and a row, where there are both
-abbrev pub both : Option ℕ → Option ℕ → Option (ℕ × ℕ)
-both (Some col) (Some row) = Some (col, row)
-both (Some col) None = None
-both None row = None

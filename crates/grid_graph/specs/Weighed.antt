@@ -23,5 +23,5 @@ abbrev pub ArePieces : Size → List (Piece × ℕ) → Type 0
 ArePieces s pieces = (p : Piece) → IsAllowed pieces p → IsPiece s p
 
 -- no weight is above the limit
-abbrev pub AreSmall : List (Piece × ℕ) → Type 0
-AreSmall pieces = (p : Piece) (weight : ℕ) → Weighs pieces p weight → weight ≤ 2 ^ 38
+abbrev pub AreWithinLimit : List (Piece × ℕ) → Type 0
+AreWithinLimit pieces = (p : Piece) (weight : ℕ) → Weighs pieces p weight → weight ≤ 2 ^ 38

@@ -1,11 +1,11 @@
 //! Capacities before any adjustment.
 
-ghost use Rattle.std.specs.Prelude.{◌≡◌, ℕ, ◌*◌, ◌≤◌, ◌^◌, length, slice_index, IfOk};
-ghost use Rattle.grid_base.specs.Numbers.{vertices};
+ghost use Rattle.std.specs.Prelude.{◌≡◌, ℕ, ◌*◌, ◌/◌, ◌≤◌, ◌^◌, cond, length, slice_index, IfOk};
+ghost use Rattle.grid_base.specs.Numbers.{vertices, layer_of};
 ghost use Rattle.grid_graph.specs.Capacities.{is_edge, layer_capacity};
 ghost use Rattle.grid_graph.specs.GridLimits.{IsPerLayer, IsCapacities};
 
-use grid_base::{Edge, Piece, Size, Vertex};
+use grid_base::{Edge, Piece, Size};
 use std::alloc::{AllocError, Global};
 
 /// The capacity of the edge number's layer in its direction, and 0 where there is no edge.
@@ -14,14 +14,38 @@ pub fn first_capacity(size: Size, vertical: &[u32], horizontal: &[u32], e: u32) 
     requires horizontal { length horizontal.now ≡ size.layers }
     ensures { result ≡ layer_capacity size vertical.now horizontal.now e }
 {
-    if !size.is_piece(Piece::Edge(Edge(e))) {
+    let layer = layer_of_edge(size, e);
+    if layer >= size.layers() {
         return 0;
     }
-    let layer = size.place_of(Vertex(e / 2)).layer as usize;
     if e % 2 == 0 {
-        horizontal[layer]
+        where_edge(size, e, horizontal[layer as usize])
     } else {
-        vertical[layer]
+        where_edge(size, e, vertical[layer as usize])
+    }
+}
+
+/// The layer of an edge number. One that is past the last vertex has one past the last layer.
+fn layer_of_edge(size: Size, e: u32) -> u32
+    ensures { result ≡ layer_of size (e / 2) }
+{
+    e / 2 / (size.cols() * size.rows())
+}
+
+/// The layer's capacity where the number belongs to an edge, and 0 where it doesn't.
+///
+/// Most layers have capacity in one direction alone, so half of all edge numbers are answered without the divisions that
+/// tell an edge.
+fn where_edge(size: Size, e: u32, of_layer: u32) -> u32
+    ensures { result ≡ cond (is_edge size e) of_layer 0 }
+{
+    if of_layer == 0 {
+        return 0;
+    }
+    if size.is_piece(Piece::Edge(Edge(e))) {
+        of_layer
+    } else {
+        0
     }
 }
 

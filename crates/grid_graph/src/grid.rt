@@ -7,7 +7,7 @@ use crate::grid_parts::GridParts;
 use crate::grid_refusal::GridRefusal;
 use crate::ground::Ground;
 use crate::kind::Kind;
-use crate::steps::nth_step;
+use crate::steps::{nth_step, steps};
 use crate::tiles::{tile_index, written_position};
 use grid_base::{Edge, Piece, Size, Vertex};
 use std::alloc::Global;
@@ -28,12 +28,12 @@ pub struct Grid {
 }
 
 impl Grid {
-    ghost use Rattle.std.specs.Prelude.{◌≡◌, ◌≢◌, ◌≤◌, ◌<◌, ◌↔◌, ℕ, Contains, IfOk, IfSome, IsTrue, slice_get, slice_index, pos, ◌<ℤ◌, ◌^◌};
+    ghost use Rattle.std.specs.Prelude.{◌≡◌, ◌≢◌, ◌≤◌, ◌<◌, ◌↔◌, ℕ, Some, All, Contains, IfOk, IfSome, IsTrue, slice_get, slice_index, pos, ◌<ℤ◌, ◌^◌};
     ghost use Rattle.grid_base.specs.Numbers.{IsVertex, IsPiece, Connects};
     ghost use Rattle.grid_graph.specs.Capacities.{layer_capacity};
     ghost use Rattle.grid_graph.specs.GridLimits.{IsPosition};
     ghost use Rattle.grid_graph.specs.Grids as grids;
-    ghost use Rattle.grid_graph.specs.Neighbours.{neighbours};
+    ghost use Rattle.grid_graph.specs.Neighbours.{LeadsFrom, steps, neighbours};
 
     /// A grid in which each edge has its layer's capacity in its direction.
     pub fn new(alloc: Global, parts: GridParts) -> Result<Grid, GridRefusal>
@@ -160,6 +160,17 @@ impl Grid {
         ensures { result ≡ slice_index self.now.spacings.items layer }
     {
         self.spacings[layer as usize]
+    }
+
+    /// The six steps from a vertex, each to a neighbour by the piece that leads there, walls included. The order is
+    /// west, east, south, north, down, up; `None` is a step that leaves the grid.
+    pub fn neighbours(&self, v: Vertex) -> [Option<(Vertex, Piece)>; 6]
+        requires { IsVertex self.now.size v.0 }
+        ensures value { result ≡ steps self.now.size v.0 }
+        ensures connects { All (LeadsFrom self.now.size v.0) result }
+        ensures every { (w : Vertex) (p : Piece) → Connects self.now.size p v.0 w.0 → Contains result (Some (w, p)) }
+    {
+        steps(self.size, v)
     }
 
     /// The i-th neighbour of a vertex with the piece that leads there, walls included. The order is west, east,

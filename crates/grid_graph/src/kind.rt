@@ -7,6 +7,6 @@ pub enum Kind {
     Open,
     /// The layer has capacity in the edge's direction, but an adjustment left none to this edge.
     Choked,
-    /// There is no edge, or the layer has no capacity in its direction. No route uses it.
+    /// There is no edge, or neither its layer in its direction nor an adjustment gives it capacity. No route uses it.
     Wall,
 }

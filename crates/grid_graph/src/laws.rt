@@ -1,11 +1,18 @@
 //! What the words of the contracts amount to. Nothing is computed here: the contract is a law.
 
 ghost use Rattle.std.specs.Prelude.{ℕ};
-ghost use Rattle.grid_base.specs.Numbers.{IsVertex};
+ghost use Rattle.grid_base.specs.declared.piece.Piece.{Piece};
+ghost use Rattle.grid_base.specs.Numbers.{IsVertex, IsPiece};
 ghost use Rattle.grid_graph.specs.declared.grid.Grid.{Grid};
 ghost use Rattle.grid_graph.specs.GridLimits.{IsPosition};
-ghost use Rattle.grid_graph.specs.Grids.{position_of};
+ghost use Rattle.grid_graph.specs.declared.ground.Ground.{Ground};
+ghost use Rattle.grid_graph.specs.Grids.{Allows, position_of};
 ghost use Rattle.grid_graph.specs.Near.{IsNear};
+
+/// What a ground allows is a piece of the grid: no number that belongs to no piece, and so nothing that leads outside.
+pub fn allowed_are_pieces()
+    ensures { (g : Grid) (over : Ground) (p : Piece) → Allows g over p → IsPiece g.size p }
+{}
 
 /// The position written for a vertex of a near grid is within the range of the numbers of a design,
 /// so that `Grid::position_of` may be called for each vertex of such a grid.

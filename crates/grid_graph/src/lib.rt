@@ -39,7 +39,7 @@ pub use grid_refusal::GridRefusal;
 pub use ground::Ground;
 pub use ground_error::GroundError;
 pub use kind::Kind;
-pub use laws::near_positions_fit;
+pub use laws::{allowed_are_pieces, near_positions_fit};
 pub use limits::{MAX_CAPACITY, MAX_DEMAND, MAX_NETS, MAX_NUMBER, MAX_PINS, MAX_WEIGHT};
 pub use name::Name;
 pub use net_spec::NetSpec;

@@ -7,7 +7,7 @@ pub trait Weights {
     ghost use Rattle.std.specs.Prelude.{◌≡◌, ◌↔◌, ◌≤◌, ◌^◌, ℕ, List, IsTrue};
     ghost use Rattle.grid_base.specs.declared.piece.Piece.{Piece};
     ghost use Rattle.grid_base.specs.declared.size.Size.{Size};
-    ghost use Rattle.grid_graph.specs.Weighed.{Weighs, IsAllowed, NoPieceTwice, ArePieces, AreSmall};
+    ghost use Rattle.grid_graph.specs.Weighed.{Weighs, IsAllowed, NoPieceTwice, ArePieces, AreWithinLimit};
 
     ghost size: { Self → Size };
 
@@ -26,5 +26,5 @@ pub trait Weights {
 
     ghost inside: { (x : Self) → ArePieces (size x) (pieces x) };
 
-    ghost small: { (x : Self) → AreSmall (pieces x) };
+    ghost small: { (x : Self) → AreWithinLimit (pieces x) };
 }
