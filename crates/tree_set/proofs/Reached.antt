@@ -18,12 +18,12 @@ use Rattle.grid_base.proofs.Walks.{WalkBetween-refl, WalkBetween-link, closed_un
 use Rattle.grid_base.proofs.Joined.{Joins-from_one, JoinsList-from_one}
 use Rattle.grid_graph.specs.Labels.{WaitsWith}
 use Rattle.grid_graph.proofs.Waiting.{pushed_cases, pushed_keeps, popped_waits, popped_waited}
-use Rattle.tree_set.specs.Reached.{Has, AreReached, Spreads}
+use Rattle.tree_set.specs.Reached.{Has, KeepsReached, AreReached, Spreads}
 
 -- a vertex was added to a set
 pub record Adds (old new : BTreeSet ℕ) (to : ℕ) : Type 0 where
   pub ordered : IsOrdered nat_cmp new
-  pub keeps : (v : ℕ) → Has old v → Has new v
+  pub keeps : KeepsReached old new
   pub has : Has new to
   pub only : (v : ℕ) → Has new v → Has old v ⊎ (v ≡ to)
 

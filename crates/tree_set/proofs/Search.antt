@@ -9,17 +9,17 @@ use Rattle.std.proofs.lemmas.List.Sorted.{searchable_from_sorted}
 use Rattle.std.proofs.lemmas.Map.Keys.{Less-from_sorted}
 use Rattle.grid_base.specs.declared.piece.Piece.{Piece}
 use Rattle.grid_base.specs.contracts.piece.PieceOrd.TheImpl as ord
-use Rattle.grid_base.specs.contracts.piece.PieceOrd.TheImpl.Laws.{total-law}
+use Rattle.grid_base.specs.contracts.piece.PieceOrd.TheImpl.Laws.{total-law, matches_eq-law}
 use Rattle.tree_set.specs.Order.{piece_cmp, IsRising}
-use Rattle.tree_set.proofs.Order.{piece_cmp-derived, piece_cmp-total, piece_eq-ties, same_piece, equal-equivalence}
+use Rattle.tree_set.proofs.Order.{piece_cmp-derived, piece_cmp-total, same_piece, equal-equivalence}
 
 -- pieces that compare as equal are the same
-pub same_from_cmp : (p q : Piece) → piece_cmp p q ≡ Equal → p ≡ q
-same_from_cmp p q tied = same_piece p q (piece_eq-ties p q ∙ ap is_eq tied)
+same_from_cmp : (p q : Piece) → ord.ghosts.cmp p q ≡ Equal → p ≡ q
+same_from_cmp p q tied = same_piece p q (matches_eq-law p q ∙ ap is_eq tied)
 
 -- a piece compares as equal to itself
 tied_to_itself : (p : Piece) → is_eq (ord.ghosts.cmp p p) ≡ true
-tied_to_itself p = ap is_eq (piece_cmp-derived p p) ∙ sym (piece_eq-ties p p) ∙ equal-equivalence.refl p
+tied_to_itself p = sym (matches_eq-law p p) ∙ equal-equivalence.refl p
 
 -- a rising list is sorted by the derived order
 pub IsSorted-rising : (ps : List Piece) → IsRising ps → IsSorted ord.ghosts.cmp ps
@@ -31,7 +31,7 @@ IsSorted-rising ps up k d low high =
 
 pub found_by_search : (ps : List Piece) (p : Piece) (r : Result ℕ ℕ) → IsRising ps → IsSearchInRange r (length ps) → IsBinarySearchResult (λ q. ord.ghosts.cmp q p) ps r → (is_ok r ≡ true) ↔ Contains ps p
 found_by_search ps p (Ok i) up within at =
-    (λ _. (i, within, same_from_cmp _ p (sym (piece_cmp-derived _ p) ∙ at p)), λ _. refl)
+    (λ _. (i, within, same_from_cmp _ p (at p)), λ _. refl)
 found_by_search ps p (Err i) up within at =
     let parted = at (searchable_from_sorted total-law (λ (q : Piece). q) ps p (IsSorted-rising ps up)) in
     let tied = tied_to_itself p in (

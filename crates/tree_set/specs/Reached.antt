@@ -11,6 +11,10 @@ use Rattle.grid_base.specs.Walks.{AreLinked, Joins}
 abbrev pub Has : BTreeSet ℕ → ℕ → Type 0
 Has reached v = IsTrue (contains nat_cmp reached v)
 
+-- what was reached stays so
+abbrev pub KeepsReached : BTreeSet ℕ → BTreeSet ℕ → Type 0
+KeepsReached old new = (v : ℕ) → Has old v → Has new v
+
 -- F joins all that were reached, and each is linked only to others that were, unless it waits
 pub record AreReached (s : Size) (F : Piece → Type 0) (reached : BTreeSet ℕ) (Waits : ℕ → Type 0) : Type 0 where
   pub ordered : IsOrdered nat_cmp reached

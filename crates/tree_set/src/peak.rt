@@ -57,7 +57,8 @@ fn is_fuller(grid: &Grid, loads: &[u64], edge: Edge, other: Edge) -> bool
     requires room { (e : ℕ) → slice_index loads.now e ≤ 2 ^ 62 }
     requires edge { grids.IsEdgeNumber grid.now edge.0 }
     requires other { grids.IsEdgeNumber grid.now other.0 }
-    ensures { IsTrue result ↔ (slice_index loads.now other.0 * grids.capacity grid.now edge.0 < slice_index loads.now edge.0 * grids.capacity grid.now other.0) }
+    ensures { IsTrue result
+        ↔ (slice_index loads.now other.0 * grids.capacity grid.now edge.0 < slice_index loads.now edge.0 * grids.capacity grid.now other.0) }
 {
     let load = u128::from(loads[edge.0 as usize]);
     let other_load = u128::from(loads[other.0 as usize]);

@@ -5,7 +5,7 @@ ghost use Rattle.std.specs.BTreeSet.{btree_set_len};
 ghost use Rattle.grid_base.specs.Numbers.{IsVertex, IsPiece};
 ghost use Rattle.grid_base.specs.Walks.{WalkBetween, InPieces, InVertices};
 ghost use Rattle.grid_graph.specs.Labels.{WaitsWith};
-ghost use Rattle.tree_set.specs.Reached.{Has, AreReached, Spreads};
+ghost use Rattle.tree_set.specs.Reached.{Has, KeepsReached, AreReached, Spreads};
 ghost use Rattle.tree_set.specs.Routings.{ArePieces};
 
 use crate::touching::{other_end, touching};
@@ -44,7 +44,7 @@ fn spread_all(
     requires before { AreReached size (InPieces tree.now) reached.old (InVertices waiting.old.items) }
     ensures idle { OnOk result (waiting.new.items ≡ []) }
     ensures after { OnOk result (AreReached size (InPieces tree.now) reached.new (InVertices waiting.new.items)) }
-    ensures kept { OnOk result ((v : ℕ) → Has reached.old v → Has reached.new v) }
+    ensures kept { OnOk result (KeepsReached reached.old reached.new) }
 {
     while let Some(from) = waiting.pop() {
         spread(size, tree, reached, waiting, from)?;
@@ -63,7 +63,7 @@ fn spread(
     requires pieces { ArePieces size tree.now }
     requires before { AreReached size (InPieces tree.now) reached.old (WaitsWith waiting.old.items from) }
     ensures after { OnOk result (AreReached size (InPieces tree.now) reached.new (InVertices waiting.new.items)) }
-    ensures kept { OnOk result ((v : ℕ) → Has reached.old v → Has reached.new v) }
+    ensures kept { OnOk result (KeepsReached reached.old reached.new) }
     ensures count { OnOk result (btree_set_len reached.new + length waiting.old.items ≡ btree_set_len reached.old + length waiting.new.items) }
 {
     for by in &touching(size, from) {
@@ -88,7 +88,7 @@ fn spread_by(
     requires before { AreReached size (InPieces tree.now) reached.old (WaitsWith waiting.old.items from) }
     ensures after { OnOk result (AreReached size (InPieces tree.now) reached.new (WaitsWith waiting.new.items from)) }
     ensures spread { OnOk result (Spreads size reached.new from.0 by) }
-    ensures kept { OnOk result ((v : ℕ) → Has reached.old v → Has reached.new v) }
+    ensures kept { OnOk result (KeepsReached reached.old reached.new) }
     ensures count { OnOk result (btree_set_len reached.new + length waiting.old.items ≡ btree_set_len reached.old + length waiting.new.items) }
 {
     let Some(to) = other_end(size, by, from) else {

@@ -11,7 +11,7 @@ use crate::{
     Fraction, MAX_DENOMINATOR, Measure, NUMERATOR_LIMIT, Tree, add_load, inside, joins, measure_of,
 };
 use grid_base::{Edge, Piece, Size, Vertex, Via};
-use grid_graph::{Design, Grid, GridParts, GridRefusal, Ground, Name, NetSpec, Nets, Terms};
+use grid_graph::{Design, Grid, GridParts, Ground, MAX_CAPACITY, Name, NetSpec, Nets, Terms};
 use std::alloc::{AllocError, Global};
 use std::test::Fail;
 
@@ -33,7 +33,7 @@ fn a_list_with_repeats_is_a_rising_set(rt: HostRuntime) -> Result<(), Fail> {
     ];
     assert_eq!(rt; tree.pieces(), want.as_slice());
     assert!(rt; tree.contains(Piece::Via(Via(0))) && !tree.contains(Piece::Edge(Edge(0))));
-    let again = tree.copy().map_err(|_| "memory")?;
+    let again = tree.copy()?;
     assert_eq!(rt; again.pieces(), want.as_slice());
     Ok(())
 }
@@ -54,20 +54,23 @@ fn fractions_are_reduced_and_compared_by_both_numbers(rt: HostRuntime) {
     let bound = Fraction::of(5234, 11613);
     assert!(rt; bound.less_or_equal(&half) && !half.less_or_equal(&bound));
     assert!(rt; none.less_or_equal(&bound) && half.less_or_equal(&half));
-    let most = Fraction::of((1 << 70) - 1, 1 << 57);
+    let most = Fraction::of(NUMERATOR_LIMIT - 1, MAX_DENOMINATOR);
     assert!(rt; half.less_or_equal(&most) && !most.less_or_equal(&half));
 }
 
-/// A grid of layers of width and spacing 1, with tiles of 10 by 10.
+/// A grid of layers of width and spacing 1, with tiles of 10 by 10: its columns, rows and layers, the capacities of the
+/// edges along y and along x, and an edge that is choked.
 fn plain_grid(
     alloc: Global,
-    size: Size,
-    vertical: u32,
-    horizontal: u32,
-) -> Result<Grid, GridRefusal>
-    requires vertical { vertical ≤ 100 }
-    requires horizontal { horizontal ≤ 100 }
-{
+    size: (u32, u32, u32),
+    capacities: (u32, u32),
+    choked: Option<u32>,
+) -> Result<Grid, Fail> {
+    let size = Size::new(size.0, size.1, size.2).ok_or("size")?;
+    let (vertical, horizontal) = capacities;
+    if vertical > MAX_CAPACITY || horizontal > MAX_CAPACITY {
+        return Err(Fail::new("no such capacity"));
+    }
     let layers = size.layers() as usize;
     let parts = GridParts {
         size,
@@ -78,7 +81,13 @@ fn plain_grid(
         origin: (0, 0),
         tile: (10, 10),
     };
-    Grid::new(alloc, parts)
+    let mut grid = Grid::new(alloc, parts)?;
+    if let Some(e) = choked {
+        if grid.size().is_piece(Piece::Edge(Edge(e))) {
+            grid.adjust(Edge(e), 0);
+        }
+    }
+    Ok(grid)
 }
 
 fn is_narrow(grid: &Grid) -> bool
@@ -113,8 +122,7 @@ const ROW: [Piece; 2] = [Piece::Edge(Edge(0)), Piece::Edge(Edge(2))];
 
 #[test]
 fn the_demand_is_added_once_on_each_edge(rt: HostRuntime) -> Result<(), Fail> {
-    let size = Size::new(3, 1, 2).ok_or("size")?;
-    let grid = plain_grid(rt.alloc(), size, 0, 4).map_err(|_| "memory")?;
+    let grid = plain_grid(rt.alloc(), (3, 1, 2), (0, 4), None)?;
     let pieces = [
         Piece::Edge(Edge(2)),
         Piece::Via(Via(0)),
@@ -130,8 +138,7 @@ fn the_demand_is_added_once_on_each_edge(rt: HostRuntime) -> Result<(), Fail> {
 
 #[test]
 fn a_tree_is_inside_where_every_piece_is_allowed(rt: HostRuntime) -> Result<(), Fail> {
-    let size = Size::new(3, 1, 1).ok_or("size")?;
-    let grid = plain_grid(rt.alloc(), size, 0, 4).map_err(|_| "memory")?;
+    let grid = plain_grid(rt.alloc(), (3, 1, 1), (0, 4), None)?;
     let row = Tree::of(ROW.to_vec(rt.alloc())?);
     assert!(rt; inside(&grid, Ground::Open, &row));
     let wall = Tree::of(vec![in rt.alloc(); Piece::Edge(Edge(0)), Piece::Edge(Edge(1))]?);
@@ -156,7 +163,7 @@ fn are_joined(
     if !are_pieces(size, &tree) || !are_vertices(size, terminals) {
         return Err(Fail::new("no piece or no vertex"));
     }
-    Ok(joins(alloc, size, &tree, terminals).map_err(|_| "memory")?)
+    Ok(joins(alloc, size, &tree, terminals)?)
 }
 
 #[test]
@@ -250,49 +257,15 @@ fn measure_equal(
     {
         return Err(Fail::new("no such trees"));
     }
-    Ok(measure_of(alloc, &design, trees.as_slice()).map_err(|_| "memory")?)
+    Ok(measure_of(alloc, &design, trees.as_slice())?)
 }
 
-fn measure(overflow: u64, wirelength: u64, peak: Option<(u128, u128)>) -> Option<Measure> {
-    let peak = match peak {
-        Some((num, den)) if num < NUMERATOR_LIMIT && 1 <= den && den <= MAX_DENOMINATOR => {
-            Some(Fraction::of(num, den))
-        }
-        Some(_) => return None,
-        None => None,
-    };
-    Some(Measure {
-        overflow,
-        wirelength,
-        peak,
-    })
-}
+/// What is measured: the overflow, the wirelength, and the two numbers of the peak.
+type Numbers = (u64, u64, Option<(u128, u128)>);
 
 #[test]
-fn three_equal_nets_on_two_edges_overflow_both(rt: HostRuntime) -> Result<(), Fail> {
-    let size = Size::new(3, 1, 1).ok_or("size")?;
-    let grid = plain_grid(rt.alloc(), size, 0, 4).map_err(|_| "memory")?;
-    let three = measure_equal(rt.alloc(), grid, 3, (0, 2), ROW.as_slice())?;
-    assert_eq!(rt; Some(three), measure(4, 6, Some((3, 2))));
-    let grid = plain_grid(rt.alloc(), size, 0, 4).map_err(|_| "memory")?;
-    let one = measure_equal(rt.alloc(), grid, 1, (0, 2), ROW.as_slice())?;
-    assert_eq!(rt; Some(one), measure(0, 2, Some((1, 2))));
-    Ok(())
-}
-
-#[test]
-fn without_nets_there_is_no_load(rt: HostRuntime) -> Result<(), Fail> {
-    let size = Size::new(3, 1, 1).ok_or("size")?;
-    let grid = plain_grid(rt.alloc(), size, 0, 4).map_err(|_| "memory")?;
-    let none = measure_equal(rt.alloc(), grid, 0, (0, 2), ROW.as_slice())?;
-    assert_eq!(rt; Some(none), measure(0, 0, Some((0, 1))));
-    Ok(())
-}
-
-#[test]
-fn a_cycle_counts_each_edge_once(rt: HostRuntime) -> Result<(), Fail> {
-    let size = Size::new(2, 2, 1).ok_or("size")?;
-    let grid = plain_grid(rt.alloc(), size, 2, 2).map_err(|_| "memory")?;
+fn equal_nets_have_the_measures_that_were_worked_out(rt: HostRuntime) -> Result<(), Fail> {
+    let alloc = rt.alloc();
     let cycle = [
         Piece::Edge(Edge(0)),
         Piece::Edge(Edge(3)),
@@ -300,33 +273,98 @@ fn a_cycle_counts_each_edge_once(rt: HostRuntime) -> Result<(), Fail> {
         Piece::Edge(Edge(4)),
         Piece::Edge(Edge(0)),
     ];
-    let measured = measure_equal(rt.alloc(), grid, 1, (0, 3), cycle.as_slice())?;
-    assert_eq!(rt; Some(measured), measure(0, 4, Some((1, 1))));
-    Ok(())
-}
-
-#[test]
-fn without_open_edges_there_is_no_peak(rt: HostRuntime) -> Result<(), Fail> {
-    let size = Size::new(1, 1, 2).ok_or("size")?;
-    let grid = plain_grid(rt.alloc(), size, 4, 4).map_err(|_| "memory")?;
     let via = [Piece::Via(Via(0))];
-    let measured = measure_equal(rt.alloc(), grid, 1, (0, 1), via.as_slice())?;
-    assert_eq!(rt; Some(measured), measure(0, 1, None));
-    let size = Size::new(2, 1, 2).ok_or("size")?;
-    let grid = plain_grid(rt.alloc(), size, 4, 4).map_err(|_| "memory")?;
-    let measured = measure_equal(rt.alloc(), grid, 1, (0, 2), via.as_slice())?;
-    assert_eq!(rt; Some(measured), measure(0, 1, Some((0, 1))));
-    Ok(())
-}
-
-#[test]
-fn a_choked_edge_overflows_and_has_no_part_in_the_peak(rt: HostRuntime) -> Result<(), Fail> {
-    let size = Size::new(3, 1, 1).ok_or("size")?;
-    let mut grid = plain_grid(rt.alloc(), size, 0, 4).map_err(|_| "memory")?;
-    if grid.size().is_piece(Piece::Edge(Edge(0))) {
-        grid.adjust(Edge(0), 0);
+    let row = ROW.as_slice();
+    let cases: [(
+        &str,
+        (u32, u32, u32),
+        (u32, u32),
+        Option<u32>,
+        u32,
+        (u32, u32),
+        &[Piece],
+        Numbers,
+    ); 7] = [
+        (
+            "one net fits",
+            (3, 1, 1),
+            (0, 4),
+            None,
+            1,
+            (0, 2),
+            row,
+            (0, 2, Some((1, 2))),
+        ),
+        (
+            "three nets overflow both edges",
+            (3, 1, 1),
+            (0, 4),
+            None,
+            3,
+            (0, 2),
+            row,
+            (4, 6, Some((3, 2))),
+        ),
+        (
+            "without nets there is no load",
+            (3, 1, 1),
+            (0, 4),
+            None,
+            0,
+            (0, 2),
+            row,
+            (0, 0, Some((0, 1))),
+        ),
+        (
+            "a cycle counts each edge once",
+            (2, 2, 1),
+            (2, 2),
+            None,
+            1,
+            (0, 3),
+            cycle.as_slice(),
+            (0, 4, Some((1, 1))),
+        ),
+        (
+            "without open edges there is no peak",
+            (1, 1, 2),
+            (4, 4),
+            None,
+            1,
+            (0, 1),
+            via.as_slice(),
+            (0, 1, None),
+        ),
+        (
+            "vias load no edge",
+            (2, 1, 2),
+            (4, 4),
+            None,
+            1,
+            (0, 2),
+            via.as_slice(),
+            (0, 1, Some((0, 1))),
+        ),
+        (
+            "a choked edge overflows and has no part in the peak",
+            (3, 1, 1),
+            (0, 4),
+            Some(0),
+            1,
+            (0, 2),
+            row,
+            (2, 2, Some((1, 2))),
+        ),
+    ];
+    for (shows, size, capacities, choked, count, ends, pieces, numbers) in cases {
+        let grid = plain_grid(alloc, size, capacities, choked)?;
+        let measure = measure_equal(alloc, grid, count, ends, pieces)?;
+        let peak = measure.peak.map(|f: Fraction| (f.num, f.den));
+        assert_eq!(rt;
+            (measure.overflow, measure.wirelength, peak),
+            numbers,
+            "{shows}"
+        );
     }
-    let measured = measure_equal(rt.alloc(), grid, 1, (0, 2), ROW.as_slice())?;
-    assert_eq!(rt; Some(measured), measure(2, 2, Some((1, 2))));
     Ok(())
 }
