@@ -1,8 +1,7 @@
 -- Adjusting a grid step by step.
-use Rattle.std.proofs.Common.{◌≡◌, ◌≢◌, ℕ, ◌+◌, ◌-◌, ◌<◌, ◌≤◌, ◌^◌, true, false, ◌==◌, List, [], ◌∷◌, ◌++◌, length, Option, Some, None, Ok, refl, sym, ap, ◌∙◌, ⊎_elim, arith, eq-eqb, ne_eqb}
-use Rattle.std.specs.Option.{unwrap_or}
+use Rattle.std.proofs.Common.{◌≡◌, ◌≢◌, ℕ, ◌+◌, ◌-◌, ◌<◌, ◌≤◌, ◌^◌, true, false, ◌==◌, List, [], ◌∷◌, ◌++◌, length, arith, Option, Some, None, Ok, refl, sym, ap, ◌∙◌, ⊎_elim, eq-eqb, ne_eqb}
+use Rattle.std.specs.Option.{unwrap_or, option_or}
 use Rattle.std.proofs.lemmas.Bool.{cases_eq}
-use Rattle.std.proofs.lemmas.List.{length_push}
 use Rattle.text_scan.specs.Tokens.{Token}
 use Rattle.grid_graph.specs.declared.grid.Grid.{Grid}
 use Rattle.grid_graph.specs.Grids.{capacity, SameButCapacities}
@@ -11,39 +10,40 @@ use Rattle.ispd_reader.specs.declared.input_error.InputError.TheVariants as erro
 use Rattle.ispd_reader.specs.Parsing.{Rest, Read, ◌>>=◌, Refuses, parts_at}
 use Rattle.ispd_reader.specs.Numbers.{count_at}
 use Rattle.ispd_reader.specs.Header.{Extent}
-use Rattle.ispd_reader.specs.Adjustments.{Adjustment, or_else, level_where, last_level, adjustment_at, more_adjustments_at, counted_adjustments_at, adjustments_at}
+use Rattle.ispd_reader.specs.Adjustments.{Adjustment, level_where, last_level, adjustment_at, adjustments_at}
 use Rattle.ispd_reader.specs.Adjusted.{IsAdjusted, IsAdjustedBy}
-use Rattle.ispd_reader.proofs.InTurn.{goes_on, ends, is_done}
+use Rattle.text_scan.proofs.Parts.{with_parts}
+use Rattle.ispd_reader.proofs.InTurn.{begins, goes_on, ends, is_done}
 
 -- no token is left
 pub no_adjustments : (e : Extent) (rest : Rest) → rest.tokens ≡ [] → adjustments_at e rest ≡ Ok ([], rest)
 unfolding adjustments_at
-no_adjustments e rest h = ap (λ ts. counted_adjustments_at e ts rest) h
+no_adjustments e rest h = let none : (length rest.tokens == 0) ≡ true = ap (λ (ts : List Token). length ts == 0) h in rw none refl
 
-counted : (e : Extent) (ts : List Token) (rest : Rest) → (ts ≡ [] → ⊥) → counted_adjustments_at e ts rest ≡ (count_at (2 ^ 23) rest >>= λ count. more_adjustments_at e count.0 count.1)
-counted e [] rest h = absurd (h refl)
-counted e (t ∷ ts) rest h = refl
+some_left : (ts : List Token) → (ts ≡ [] → ⊥) → (length ts == 0) ≡ false
+some_left [] h = absurd (h refl)
+some_left (t ∷ ts) h = ne_eqb (length (t ∷ ts)) 0 (λ e. omega (arith, e))
 
 -- a token is left
-pub some_adjustments : (e : Extent) (rest : Rest) → (rest.tokens ≡ [] → ⊥) → adjustments_at e rest ≡ (count_at (2 ^ 23) rest >>= λ count. more_adjustments_at e count.0 count.1)
+pub some_adjustments : (e : Extent) (rest : Rest) → (rest.tokens ≡ [] → ⊥) → adjustments_at e rest ≡ (count_at (2 ^ 23) rest >>= λ count. parts_at (adjustment_at e) 0 count.0 count.1)
 unfolding adjustments_at
-some_adjustments e rest h = counted e rest.tokens rest h
+some_adjustments e rest h = let some : (length rest.tokens == 0) ≡ false = some_left rest.tokens h in rw some refl
 
-or_else_none : (x : Option ℕ) → or_else None x ≡ or_else x None
-or_else_none None = refl
-or_else_none (Some x) = refl
+option_or_none : (x : Option ℕ) → option_or None x ≡ option_or x None
+option_or_none None = refl
+option_or_none (Some x) = refl
 
-or_else_assoc : (x y z : Option ℕ) → or_else (or_else x y) z ≡ or_else x (or_else y z)
-or_else_assoc None y z = refl
-or_else_assoc (Some x) y z = refl
+option_or_assoc : (x y z : Option ℕ) → option_or (option_or x y) z ≡ option_or x (option_or y z)
+option_or_assoc None y z = refl
+option_or_assoc (Some x) y z = refl
 
-unwrap_or_else : (x y : Option ℕ) (d : ℕ) → unwrap_or (or_else x y) d ≡ unwrap_or x (unwrap_or y d)
-unwrap_or_else None y d = refl
-unwrap_or_else (Some x) y d = refl
+unwrap_or-option_or : (x y : Option ℕ) (d : ℕ) → unwrap_or (option_or x y) d ≡ unwrap_or x (unwrap_or y d)
+unwrap_or-option_or None y d = refl
+unwrap_or-option_or (Some x) y d = refl
 
-last_level-push : (e : ℕ) (done : List Adjustment) (a : Adjustment) → last_level e (done ++ a ∷ []) ≡ or_else (level_where e a.edge a.level) (last_level e done)
-last_level-push e [] a = or_else_none (level_where e a.edge a.level)
-last_level-push e (b ∷ bs) a = ap (λ x. or_else x (level_where e b.edge b.level)) (last_level-push e bs a) ∙ or_else_assoc (level_where e a.edge a.level) (last_level e bs) (level_where e b.edge b.level)
+last_level-push : (e : ℕ) (done : List Adjustment) (a : Adjustment) → last_level e (done ++ a ∷ []) ≡ option_or (level_where e a.edge a.level) (last_level e done)
+last_level-push e [] a = option_or_none (level_where e a.edge a.level)
+last_level-push e (b ∷ bs) a = ap (λ x. option_or x (level_where e b.edge b.level)) (last_level-push e bs a) ∙ option_or_assoc (level_where e a.edge a.level) (last_level e bs) (level_where e b.edge b.level)
 
 -- nothing changes
 pub SameButCapacities-refl : (g : Grid) → SameButCapacities g g
@@ -67,26 +67,22 @@ IsAdjusted-none g = record { levels = λ e. refl; kept = SameButCapacities-refl 
 IsAdjusted-push : (old now new : Grid) (done : List Adjustment) (a : Adjustment) → IsAdjusted old now done → IsAdjustedBy now new a → IsAdjusted old new (done ++ a ∷ [])
 IsAdjusted-push old now new done a so_far step = record {
   levels = λ e. step.levels e ∙ ap (λ d. unwrap_or (level_where e a.edge a.level) d) (so_far.levels e)
-      ∙ sym (ap (λ x. unwrap_or x (capacity old e)) (last_level-push e done a) ∙ unwrap_or_else (level_where e a.edge a.level) (last_level e done) (capacity old e));
+      ∙ sym (ap (λ x. unwrap_or x (capacity old e)) (last_level-push e done a) ∙ unwrap_or-option_or (level_where e a.edge a.level) (last_level e done) (capacity old e));
   kept = SameButCapacities-trans old now new so_far.kept step.kept;
 }
 
 -- the adjustments that were made so far, in a grid of this size
 pub record AreAdjustments (old now : Grid) (e : Extent) (first rest : Rest) (count i : ℕ) : Type 0 where
   pub done : List Adjustment
-  pub long : length done ≡ i
-  pub reading : parts_at (λ before. adjustment_at e (length before)) done (count - i) rest ≡ adjustments_at e first
+  pub reading : with_parts done (parts_at (adjustment_at e) i (count - i) rest) ≡ adjustments_at e first
   pub adjusted : IsAdjusted old now done
 
 -- before the first
 pub no_adjustment_yet : (g : Grid) (e : Extent) (first rest : Rest) (count : ℕ) → (first.tokens ≡ [] → ⊥) → count_at (2 ^ 23) first ≡ Ok (count, rest) → AreAdjustments g g e first rest count 0
-unfolding more_adjustments_at
 no_adjustment_yet g e first rest count some read =
-    let n : count - 0 ≡ count = omega arith in
     record {
       done = [];
-      long = refl;
-      reading = rw n (sym (some_adjustments e first some ∙ ap (λ (r : Read ℕ). r >>= λ count. more_adjustments_at e count.0 count.1) read));
+      reading = begins (adjustment_at e) count rest ∙ sym (some_adjustments e first some ∙ ap (λ (r : Read ℕ). r >>= λ count. parts_at (adjustment_at e) 0 count.0 count.1) read);
       adjusted = IsAdjusted-none g;
     }
 
@@ -94,27 +90,21 @@ no_adjustment_yet g e first rest count some read =
 pub one_more_adjustment : (old now new : Grid) (e : Extent) (first rest after : Rest) (count i : ℕ) (a : Adjustment) → i < count → AreAdjustments old now e first rest count i → adjustment_at e i rest ≡ Ok (a, after) → IsAdjustedBy now new a →
     AreAdjustments old new e first after count (i + 1)
 one_more_adjustment old now new e first rest after count i a lt so_far read step =
-    let part = λ (before : List Adjustment). adjustment_at e (length before) in
-    let one : part so_far.done rest ≡ Ok (a, after) = rw so_far.long read in
     record {
       done = so_far.done ++ a ∷ [];
-      long = omega (arith, so_far.long, length_push so_far.done a);
-      reading = goes_on part so_far.done count i rest a after (adjustments_at e first) lt one so_far.reading;
+      reading = goes_on (adjustment_at e) so_far.done count i rest a after (adjustments_at e first) lt read so_far.reading;
       adjusted = IsAdjusted-push old now new so_far.done a so_far.adjusted step;
     }
 
 -- the next one is refused
 pub adjustment_refused : (old now : Grid) (e : Extent) (first rest : Rest) (count i : ℕ) (error : InputError) → i < count → AreAdjustments old now e first rest count i → Refuses error (adjustment_at e i rest) → Refuses error (adjustments_at e first)
 adjustment_refused old now e first rest count i error lt so_far refused =
-    let part = λ (before : List Adjustment). adjustment_at e (length before) in
-    let one : Refuses error (part so_far.done rest) = rw so_far.long refused in
-    ends part error so_far.done count i rest (adjustments_at e first) lt one so_far.reading
+    ends (adjustment_at e) error so_far.done count i rest (adjustments_at e first) lt refused so_far.reading
 
 -- all are made
 pub all_adjusted : (old now : Grid) (e : Extent) (first rest : Rest) (count i : ℕ) → count ≤ i → AreAdjustments old now e first rest count i → (adjustments : List Adjustment) × (adjustments_at e first ≡ Ok (adjustments, rest)) × IsAdjusted old now adjustments
 all_adjusted old now e first rest count i le so_far =
-    let part = λ (before : List Adjustment). adjustment_at e (length before) in
-    (so_far.done, is_done part so_far.done count i rest (adjustments_at e first) le so_far.reading, so_far.adjusted)
+    (so_far.done, is_done (adjustment_at e) so_far.done count i rest (adjustments_at e first) le so_far.reading, so_far.adjusted)
 
 -- an adjustment of one edge
 pub one_edge : (old new : Grid) (x level : ℕ) → capacity new x ≡ level → ((e : ℕ) → e ≢ x → capacity new e ≡ capacity old e) → (e : ℕ) → capacity new e ≡ unwrap_or (level_where e (Some x) level) (capacity old e)
@@ -127,4 +117,4 @@ one_edge old new x level here others e = ⊎_elim
 pub count_refused : (e : Extent) (first : Rest) (error : InputError) → (first.tokens ≡ [] → ⊥) → Refuses error (count_at (2 ^ 23) first) → Refuses error (adjustments_at e first)
 count_refused e first errors.NoMemory some refused = tt
 count_refused e first (errors.Input fault) some refused =
-    some_adjustments e first some ∙ ap (λ (r : Read ℕ). r >>= λ count. more_adjustments_at e count.0 count.1) refused
+    some_adjustments e first some ∙ ap (λ (r : Read ℕ). r >>= λ count. parts_at (adjustment_at e) 0 count.0 count.1) refused

@@ -1,5 +1,5 @@
 -- A text determines its design.
-use Rattle.std.proofs.Common.{◌≡◌, ℕ, List, [], ◌∷◌, refl, sym, ◌∙◌, ap, subst}
+use Rattle.std.proofs.Common.{Ok, ◌≡◌, ℕ, List, [], ◌∷◌, refl, sym, ◌∙◌, ap, subst}
 use Rattle.std.specs.Option.{unwrap_or}
 use Rattle.std.proofs.Math.Bridge.{le_prop}
 use Rattle.grid_base.specs.Limits.{IsGridSize}
@@ -11,7 +11,7 @@ use Rattle.grid_graph.specs.declared.net_spec.NetSpec.{NetSpec}
 use Rattle.grid_graph.specs.Grids.{capacity, first_capacity, demand_on, position_of}
 use Rattle.ispd_reader.specs.Adjustments.{last_level}
 use Rattle.ispd_reader.specs.Alike.{AreAlike, AreAlikeDesigns}
-use Rattle.ispd_reader.specs.Designs.{Contents, IsDesignOf}
+use Rattle.ispd_reader.specs.Designs.{Contents, IsDesignOf, IsDesignOfText}
 use Rattle.ispd_reader.specs.Header.{Layout}
 use Rattle.ispd_reader.specs.Nets.{Net}
 use Rattle.ispd_reader.specs.Views.{layout_of, numbers, net_of, nets_of}
@@ -103,8 +103,8 @@ same_nets (m ∷ ms) (n ∷ ns) same =
     let tail : ms ≡ ns = same_nets ms ns rest in
     cc
 
--- designs of one text are alike
-pub designs_alike : (d e : Design) (c : Contents) → IsDesignOf d c → IsDesignOf e c → AreAlikeDesigns d e
+-- designs of one text's contents are alike
+designs_alike : (d e : Design) (c : Contents) → IsDesignOf d c → IsDesignOf e c → AreAlikeDesigns d e
 designs_alike d e c of_d of_e =
     let layout : layout_of d.grid ≡ layout_of e.grid = of_d.layout ∙ sym of_e.layout in
     record {
@@ -114,3 +114,9 @@ designs_alike d e c of_d of_e =
           ∙ sym (of_e.capacities edge));
       nets = same_nets d.nets e.nets (of_d.nets ∙ sym of_e.nets);
     }
+
+-- designs of one text are alike
+pub one_design : (text : List ℕ) (d e : Design) → IsDesignOfText text d → IsDesignOfText text e → AreAlikeDesigns d e
+one_design text d e named other =
+    let same : named.contents ≡ other.contents = let both : Ok named.contents ≡ Ok other.contents = sym named.read ∙ other.read in cc in
+    designs_alike d e other.contents (rw same at named.says) other.says

@@ -12,7 +12,7 @@ use Rattle.grid_graph.specs.declared.ground.Ground.{Ground}
 use Rattle.grid_graph.specs.declared.ground.Ground.TheVariants.{Open, WithChoked}
 use Rattle.grid_graph.specs.declared.net_spec.NetSpec.{NetSpec}
 use Rattle.grid_graph.specs.Grids.{Allows}
-use Rattle.grid_graph.specs.Grounds.{Reaches, JoinsTerminals, IsGround, IsCutOff, IsFirstCutOff}
+use Rattle.grid_graph.specs.Grounds.{Reaches, JoinsTerminals, IsCutOff, IsFirstCutOff}
 use Rattle.ispd_reader.specs.Alike.{AreAlike}
 
 pub AreAlike-sym : (g h : Grid) → AreAlike g h → AreAlike h g
@@ -44,14 +44,6 @@ joins_too g h over terminals alike joins = λ a b a_in b_in. Reaches-alike g h o
 -- what is joined in one is joined in the other
 pub JoinsTerminals-alike : (g h : Grid) (over : Ground) (terminals : List Vertex) → AreAlike g h → JoinsTerminals g over terminals ↔ JoinsTerminals h over terminals
 JoinsTerminals-alike g h over terminals alike = (joins_too g h over terminals alike, joins_too h g over terminals (AreAlike-sym g h alike))
-
--- a net has the same ground in both
-pub IsGround-alike : (g h : Grid) (terminals : List Vertex) (found : Ground) → AreAlike g h → IsGround g terminals found → IsGround h terminals found
-IsGround-alike g h terminals Open alike is = (JoinsTerminals-alike g h Open terminals alike).0 is
-IsGround-alike g h terminals WithChoked alike is = (
-  λ joins. is.0 ((JoinsTerminals-alike g h Open terminals alike).1 joins),
-  (JoinsTerminals-alike g h WithChoked terminals alike).0 is.1,
-)
 
 -- a net that has none in one has none in the other, for the same terminal
 pub IsCutOff-alike : (g h : Grid) (n : NetSpec) (id terminal : ℕ) → AreAlike g h → IsCutOff g n id terminal → IsCutOff h n id terminal

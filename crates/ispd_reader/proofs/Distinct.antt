@@ -1,5 +1,5 @@
 -- Lists without repeats.
-use Rattle.std.proofs.Common.{◌≡◌, ◌≢◌, ℕ, zero, suc, ◌+◌, ◌<◌, Bool, true, false, cond, not, ◌||◌, ◌==◌, List, [], ◌∷◌, ◌++◌, length, Some, refl, sym, ap, ◌∙◌, inl, inr, ◌⊎◌, ⊎_elim, eq-eqb, ne_eqb, take, get_or}
+use Rattle.std.proofs.Common.{◌≡◌, ◌≢◌, ℕ, zero, suc, ◌+◌, ◌<◌, Bool, true, false, cond, not, ◌||◌, ◌==◌, List, [], ◌∷◌, ◌++◌, length, Some, refl, sym, ap, ◌∙◌, ⊎_elim, eq-eqb, ne_eqb, take, get_or}
 use Rattle.std.specs.List.{list_any, filter}
 use Rattle.std.proofs.lemmas.Bool.{cases_Bool, cases_eq, false≢true}
 use Rattle.std.proofs.lemmas.List.{append-nil, map_push, take_more}
@@ -11,6 +11,7 @@ use Rattle.std.specs.Ordering.{nat_cmp, eq_by_cmp}
 use Rattle.grid_base.specs.declared.vertex.Vertex.{Vertex}
 use Rattle.ispd_reader.specs.Views.{numbers}
 use Rattle.std.proofs.lemmas.Option.{same_Some, slice_get-map}
+use Rattle.grid_base.proofs.Lists.{At-push_cases}
 use Rattle.grid_graph.specs.Lists.{At, HasNoRepeats}
 use Rattle.ispd_reader.specs.Nets.{without_repeats}
 
@@ -59,25 +60,18 @@ any_without_repeats q (x ∷ xs) = ⊎_elim
     rw here (any_filter q x (without_repeats xs) h ∙ any_without_repeats q xs))
     (cases_eq x q)
 
--- what stands in a list with one more element
-pub at_push : {X : Type 0} (xs : List X) (y : X) (i : ℕ) (x : X) → At (xs ++ y ∷ []) i x → At xs i x ⊎ ((i ≡ length xs) × (x ≡ y))
-at_push [] y zero x h = inr (refl, sym (same_Some _ _ h))
-at_push [] y (suc i) x h = absurd (cc)
-at_push (z ∷ xs) y zero x h = inl h
-at_push (z ∷ xs) y (suc i) x h = ⊎_elim (λ (p : At xs i x). inl p) (λ (p : (i ≡ length xs) × (x ≡ y)). inr (ap suc p.0, p.1)) (at_push xs y i x h)
-
 -- one more element, which is not there yet
 pub HasNoRepeats-push : {X : Type 0} (xs : List X) (y : X) → HasNoRepeats xs → ((i : ℕ) (x : X) → At xs i x → x ≢ y) → HasNoRepeats (xs ++ y ∷ [])
 HasNoRepeats-push xs y distinct other i j x at_i at_j = ⊎_elim
     (λ (p : At xs i x). ⊎_elim
     (λ (q : At xs j x). distinct i j x p q)
     (λ (q : (j ≡ length xs) × (x ≡ y)). absurd (other i x p q.1))
-    (at_push xs y j x at_j))
+    (At-push_cases xs y x j at_j))
     (λ (p : (i ≡ length xs) × (x ≡ y)). ⊎_elim
     (λ (q : At xs j x). absurd (other j x q p.1))
     (λ (q : (j ≡ length xs) × (x ≡ y)). p.0 ∙ sym q.0)
-    (at_push xs y j x at_j))
-    (at_push xs y i x at_i)
+    (At-push_cases xs y x j at_j))
+    (At-push_cases xs y x i at_i)
 
 -- what a test finds nowhere stands nowhere
 pub not_at : {X : Type 0} (test : X → Bool) (xs : List X) → list_any test xs ≡ false → (i : ℕ) (x : X) → At xs i x → test x ≡ false

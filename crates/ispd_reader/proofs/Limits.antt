@@ -1,7 +1,7 @@
 -- What is read keeps the limits.
-use Rattle.std.proofs.Common.{◌≡◌, ℕ, zero, suc, ◌+◌, ◌-◌, ◌^◌, ◌<◌, ◌≤◌, List, [], ◌∷◌, ◌++◌, length, get_or, slice_index, Option, Some, None, Result, Ok, Err, refl, sym, ap, ⊎_elim, arith, subst}
-use Rattle.std.proofs.lemmas.List.{length_push, get_or_past}
-use Rattle.std.proofs.lemmas.Option.{slice_get-get_or}
+use Rattle.std.proofs.Common.{◌≡◌, ℕ, zero, suc, ◌+◌, ◌-◌, ◌^◌, ◌<◌, ◌≤◌, List, [], ◌∷◌, length, get_or, slice_index, Option, Some, None, Result, Ok, Err, refl, sym, ap, ⊎_elim, arith, subst}
+use Rattle.std.proofs.lemmas.List.{get_or_past}
+use Rattle.std.proofs.lemmas.Option.{slice_get-get_or, same_Some}
 use Rattle.std.proofs.lemmas.Bool.{cases_lt}
 use Rattle.grid_graph.specs.Lists.{At}
 use Rattle.ispd_reader.specs.declared.input_fault.InputFault.{InputFault}
@@ -14,7 +14,6 @@ use Rattle.ispd_reader.specs.Within.{within}
 use Rattle.ispd_reader.specs.Numbers.{word_at, number_at, number_within, capacity_at, width_at, spacing_at}
 use Rattle.ispd_reader.specs.Header.{capacities_at, widths_at, spacings_at}
 use Rattle.ispd_reader.proofs.Ranges.{within_bounds}
-use Rattle.ispd_reader.proofs.Distinct.{at_push}
 
 -- a part and what follows it
 bind_ok : {A B : Type 0} (r : Result A InputFault) (f : A → Result B InputFault) (y : B) → (r >>= f) ≡ Ok y → (x : A) × (r ≡ Ok x) × (f x ≡ Ok y)
@@ -49,22 +48,26 @@ after_words one two rest part y h =
     let b = bind_ok {A = Unit {0} × Rest} {B = List ℕ × Rest} (word_at two a.0.1) (λ b. part b.1) y a.2 in
     (b.0.1, b.2)
 
+-- what holds of the first and of those behind it
+first_or_later : {A : Type 0} (P : ℕ → A → Type 0) (i : ℕ) (y : A) (ys : List A) → P i y → ((j : ℕ) (x : A) → At ys j x → P (i + 1 + j) x) → (j : ℕ) (x : A) → At (y ∷ ys) j x → P (i + j) x
+first_or_later {A} P i y ys first later zero x at =
+    let k : i + 0 ≡ i = omega arith in
+    rw k (subst (P i) (same_Some _ _ at) first)
+first_or_later {A} P i y ys first later (suc j) x at = let k : i + suc j ≡ i + 1 + j = omega arith in rw k (later j x at)
+
 -- what holds of each part holds of all
-parts_keep : {A : Type 0} (part : List A → Rest → Read A) (P : ℕ → A → Type 0) → ((before : List A) (rest : Rest) (x : A) (after : Rest) → part before rest ≡ Ok (x, after) → P (length before) x) →
-    (before : List A) (n : ℕ) (rest : Rest) (xs : List A) (after : Rest) → parts_at part before n rest ≡ Ok (xs, after) → ((i : ℕ) (x : A) → At before i x → P i x) → ((i : ℕ) (x : A) → At xs i x → P i x) × (length xs ≡ length before + n)
-parts_keep {A} part P keeps before zero rest xs after h each =
-    let same : before ≡ xs = same_first before xs rest after h in
-    let Q : List A → Type 0 = λ ys. (i : ℕ) (x : A) → At ys i x → P i x in
-    (subst Q same each, omega (arith, ap length same))
-parts_keep {A} part P keeps before (suc n) rest xs after h each =
-    let a = bind_ok (part before rest) (λ one. parts_at part (before ++ one.0 ∷ []) n one.1) (xs, after) h in
-    let here : P (length before) a.0.0 = keeps before rest a.0.0 a.0.1 a.1 in
-    let next : (i : ℕ) (x : A) → At (before ++ a.0.0 ∷ []) i x → P i x = λ i x at_i. ⊎_elim
-    (λ (p : At before i x). each i x p)
-    (λ (p : (i ≡ length before) × (x ≡ a.0.0)). let Q : ℕ → Type 0 = λ j. P j x in let R : A → Type 0 = λ y. P (length before) y in subst Q (sym p.0) (subst R (sym p.1) here))
-    (at_push before a.0.0 i x at_i) in
-    let rec = parts_keep part P keeps (before ++ a.0.0 ∷ []) n a.0.1 xs after a.2 next in
-    (rec.0, omega (arith, rec.1, length_push before a.0.0))
+parts_keep : {A : Type 0} (part : ℕ → Rest → Read A) (P : ℕ → A → Type 0) → ((i : ℕ) (rest : Rest) (x : A) (after : Rest) → part i rest ≡ Ok (x, after) → P i x) →
+    (i n : ℕ) (rest : Rest) (xs : List A) (after : Rest) → parts_at part i n rest ≡ Ok (xs, after) → ((j : ℕ) (x : A) → At xs j x → P (i + j) x) × (length xs ≡ n)
+parts_keep {A} part P keeps i zero rest xs after h =
+    let none : [] ≡ xs = same_first [] xs rest after h in
+    (λ j x at_j. absurd (let at_none : At [] j x = subst (λ (ys : List A). At ys j x) (sym none) at_j in cc), sym (ap length none))
+parts_keep {A} part P keeps i (suc n) rest xs after h =
+    let a = bind_ok (part i rest) (λ one. parts_at part (i + 1) n one.1 >>= λ more. Ok (one.0 ∷ more.0, more.1)) (xs, after) h in
+    let b = bind_ok (parts_at part (i + 1) n a.0.1) (λ more. Ok (a.0.0 ∷ more.0, more.1)) (xs, after) a.2 in
+    let whole : a.0.0 ∷ b.0.0 ≡ xs = same_first (a.0.0 ∷ b.0.0) xs b.0.1 after b.2 in
+    let rec = parts_keep part P keeps (i + 1) n a.0.1 b.0.0 b.0.1 b.1 in
+    let each : (j : ℕ) (x : A) → At (a.0.0 ∷ b.0.0) j x → P (i + j) x = first_or_later P i a.0.0 b.0.0 (keeps i rest a.0.0 a.0.1 a.1) rec.0 in
+    (λ j x at_j. each j x (subst (λ (ys : List A). At ys j x) (sym whole) at_j), omega (arith, rec.1, ap length whole))
 
 -- a limit of each element is one at every index
 index_within : (xs : List ℕ) (limit : ℕ) → ((i x : ℕ) → At xs i x → x ≤ limit) → (l : ℕ) → slice_index xs l ≤ limit
@@ -77,16 +80,16 @@ index_within xs limit each l = ⊎_elim
 pub capacities_keep : (direction : Wanted) (layers : ℕ) (rest : Rest) (xs : List ℕ) (after : Rest) → capacities_at direction layers rest ≡ Ok (xs, after) → (length xs ≡ layers) × ((l : ℕ) → slice_index xs l ≤ 2 ^ 18)
 unfolding capacities_at
 capacities_keep direction layers rest xs after h =
-    let b = after_words direction wanted.Capacity rest (λ r. parts_at (λ _. capacity_at) [] layers r) (xs, after) h in
-    let kept = parts_keep (λ _. capacity_at) (λ _ x. x ≤ 2 ^ 18) (λ before r x s e. (number_within_bounds 0 (2 ^ 18) CapacityLimit r x s e).1) [] layers b.0 xs after b.1 (λ i x e. absurd (cc)) in
+    let b = after_words direction wanted.Capacity rest (λ r. parts_at (λ _. capacity_at) 0 layers r) (xs, after) h in
+    let kept = parts_keep (λ _. capacity_at) (λ _ x. x ≤ 2 ^ 18) (λ _ r x s e. (number_within_bounds 0 (2 ^ 18) CapacityLimit r x s e).1) 0 layers b.0 xs after b.1 in
     (omega (arith, kept.1), index_within xs (2 ^ 18) kept.0)
 
 -- the widths of the layers
 pub widths_keep : (layers : ℕ) (rest : Rest) (xs : List ℕ) (after : Rest) → widths_at layers rest ≡ Ok (xs, after) → (length xs ≡ layers) × ((l : ℕ) → slice_index xs l ≤ 1023)
 unfolding widths_at
 widths_keep layers rest xs after h =
-    let b = after_words wanted.Minimum wanted.Width rest (λ r. parts_at (λ _. width_at) [] layers r) (xs, after) h in
-    let kept = parts_keep (λ _. width_at) (λ _ x. x ≤ 1023) (λ before r x s e. (number_within_bounds 0 1023 WidthLimit r x s e).1) [] layers b.0 xs after b.1 (λ i x e. absurd (cc)) in
+    let b = after_words wanted.Minimum wanted.Width rest (λ r. parts_at (λ _. width_at) 0 layers r) (xs, after) h in
+    let kept = parts_keep (λ _. width_at) (λ _ x. x ≤ 1023) (λ _ r x s e. (number_within_bounds 0 1023 WidthLimit r x s e).1) 0 layers b.0 xs after b.1 in
     (omega (arith, kept.1), index_within xs 1023 kept.0)
 
 -- a spacing of a layer of this width
@@ -98,7 +101,7 @@ pub spacings_keep : (widths : List ℕ) (rest : Rest) (xs : List ℕ) (after : R
     (length xs ≡ length widths) × ((l : ℕ) → slice_index xs l ≤ 1023) × ((l : ℕ) → l < length widths → (1 - slice_index widths l ≤ slice_index xs l) × (slice_index xs l ≤ 1023 - slice_index widths l))
 unfolding spacings_at
 spacings_keep widths rest xs after h =
-    let b = after_words wanted.Minimum wanted.Spacing rest (λ r. parts_at (λ before. spacing_at (slice_index widths (length before))) [] (length widths) r) (xs, after) h in
-    let kept = parts_keep (λ before. spacing_at (slice_index widths (length before))) (Fits widths) (λ before r x s e. number_within_bounds (1 - slice_index widths (length before)) (1023 - slice_index widths (length before)) WidthLimit r x s e) [] (length widths) b.0 xs after b.1 (λ i x e. absurd (cc)) in
+    let b = after_words wanted.Minimum wanted.Spacing rest (λ r. parts_at (λ layer. spacing_at (slice_index widths layer)) 0 (length widths) r) (xs, after) h in
+    let kept = parts_keep (λ layer. spacing_at (slice_index widths layer)) (Fits widths) (λ layer r x s e. number_within_bounds (1 - slice_index widths layer) (1023 - slice_index widths layer) WidthLimit r x s e) 0 (length widths) b.0 xs after b.1 in
     let long : length xs ≡ length widths = omega (arith, kept.1) in
-    (long, index_within xs 1023 (λ i x e. omega (arith, (kept.0 i x e).1)), λ l lt. kept.0 l (get_or xs l 0) (slice_get-get_or xs l 0 (omega arith)))
+    (long, index_within xs 1023 (λ i x e. omega (arith, (kept.0 i x e).1)), λ l lt. let k : 0 + l ≡ l = omega arith in rw k at (kept.0 l (get_or xs l 0) (slice_get-get_or xs l 0 (omega arith))))

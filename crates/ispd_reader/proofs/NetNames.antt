@@ -1,10 +1,14 @@
 -- The names and the ids of the nets that are read: what is left after each part are tokens of the text.
-use Rattle.std.proofs.Common.{◌≡◌, ℕ, zero, suc, ◌+◌, ◌-◌, ◌^◌, ◌≤◌, Bool, true, false, cond, nat_lt, List, [], ◌∷◌, ◌++◌, length, Option, Some, None, Result, Ok, Err, ℤ, refl}
+use Rattle.std.proofs.Common.{◌≡◌, ℕ, zero, suc, ◌+◌, ◌-◌, ◌^◌, ◌≤◌, ◌==◌, ◌||◌, Bool, true, false, cond, nat_lt, List, [], ◌∷◌, length, Option, Some, None, Result, Ok, Err, ℤ, map, refl, sym, subst, arith}
 use Rattle.std.specs.Prelude.{IfOk, IsTrue, ⊤}
 use Rattle.std.specs.List.{All, AllByRecursion, slice_index}
-use Rattle.std.proofs.lemmas.List.Elements.{All-nil, All-push}
+use Rattle.std.proofs.lemmas.List.{get_or-map, length-map}
+use Rattle.std.proofs.lemmas.List.Elements.{All-nil, All-cons}
+use Rattle.std.proofs.lemmas.Result.{IfOk-at_ok}
 use Rattle.text_scan.specs.Tokens.{Token, StandsWithin, is_word}
 use Rattle.text_scan.proofs.Tokens.{tokens_stand_within}
+use Rattle.grid_graph.specs.declared.design.Design.{Design}
+use Rattle.grid_graph.specs.declared.net_spec.NetSpec.{NetSpec}
 use Rattle.ispd_reader.specs.declared.input_fault.InputFault.{InputFault}
 use Rattle.ispd_reader.specs.declared.input_fault.InputFault.TheVariants.{GridSize, PinOutside, PinLayer}
 use Rattle.ispd_reader.specs.declared.number.Number.{Number}
@@ -13,18 +17,19 @@ use Rattle.ispd_reader.specs.declared.wanted.Wanted.TheVariants as wanted
 use Rattle.ispd_reader.specs.Parsing.{Rest, rest_of, Read, ◌>>=◌, or_refuse, parts_at}
 use Rattle.ispd_reader.specs.Within.{within}
 use Rattle.ispd_reader.specs.Numbers.{first_token, token_at, word_at, name_at, number_of, number_at, number_within, capacity_at, width_at, spacing_at, side_at, count_at}
-use Rattle.ispd_reader.specs.Header.{Extent, Layout, extent_of, extent_at, capacities_at, widths_at, spacings_at, unused_at, vias_at, origin_at, tile_at, layout_at}
-use Rattle.ispd_reader.specs.Nets.{Net, has_id, tile_of, id_at, net_width_at, pin_at, pins_at, net_at, more_nets_at, nets_at}
+use Rattle.ispd_reader.specs.Header.{Extent, Layout, extent_of, extent_at, capacities_at, widths_at, spacings_at, vias_at, origin_at, tile_at, layout_at}
+use Rattle.ispd_reader.specs.Nets.{Net, tile_of, id_at, net_width_at, pin_at, pins_at, net_at, more_nets_at, nets_at}
 use Rattle.ispd_reader.specs.Adjustments.{adjustments_at}
-use Rattle.ispd_reader.specs.Designs.{Contents, contents_at, contents_of}
+use Rattle.ispd_reader.specs.Views.{net_of}
+use Rattle.ispd_reader.specs.Designs.{Contents, contents_at, contents_of, IsDesignOfText}
 use Rattle.ispd_reader.proofs.Ranges.{within_bounds}
 
 -- the name is a token, and the id a number of 32 bits
-abbrev pub IsNamed : Net → Type 0
+abbrev IsNamed : Net → Type 0
 IsNamed n = IsTrue (is_word n.name) × (n.id ≤ 4294967295)
 
 -- each net of the contents has such a name and id
-abbrev pub HasNamedNets : Contents → Type 0
+abbrev HasNamedNets : Contents → Type 0
 HasNamedNets c = All IsNamed c.nets
 
 -- tokens of a text of so many bytes
@@ -96,11 +101,12 @@ side_left n rest tokens =
 -- ---- parts before the nets
 
 -- parts that each leave tokens leave tokens together
-parts_left : {A : Type 0} (part : List A → Rest → Read A) (n : ℕ) → ((before : List A) (rest : Rest) → AreTokens n rest.tokens → IfOk (part before rest) (Left A n)) →
-    (before : List A) (count : ℕ) (rest : Rest) → AreTokens n rest.tokens → IfOk (parts_at part before count rest) (Left (List A) n)
-parts_left part n each before zero rest tokens = tokens
-parts_left {A} part n each before (suc count) rest tokens =
-    then (Left A n) (Left (List A) n) (part before rest) _ (each before rest tokens) (λ one left. parts_left part n each (before ++ one.0 ∷ []) count one.1 left)
+parts_left : {A : Type 0} (part : ℕ → Rest → Read A) (n : ℕ) → ((i : ℕ) (rest : Rest) → AreTokens n rest.tokens → IfOk (part i rest) (Left A n)) →
+    (i count : ℕ) (rest : Rest) → AreTokens n rest.tokens → IfOk (parts_at part i count rest) (Left (List A) n)
+parts_left part n each i zero rest tokens = tokens
+parts_left {A} part n each i (suc count) rest tokens =
+    then (Left A n) (Left (List A) n) (part i rest) _ (each i rest tokens) (λ one left.
+    then (Left (List A) n) (Left (List A) n) (parts_at part (i + 1) count one.1) _ (parts_left part n each (i + 1) count one.1 left) (λ more behind. behind))
 
 extent_left : (n : ℕ) (rest : Rest) → AreTokens n rest.tokens → IfOk (extent_at rest) (Left Extent n)
 unfolding extent_at
@@ -121,27 +127,25 @@ words_left {A} one two part n follows rest tokens =
 capacities_left : (direction : Wanted) (layers n : ℕ) (rest : Rest) → AreTokens n rest.tokens → IfOk (capacities_at direction layers rest) (Left (List ℕ) n)
 unfolding capacities_at
 capacities_left direction layers n rest tokens =
-    words_left direction wanted.Capacity (λ r. parts_at (λ _. capacity_at) [] layers r) n (λ r left. parts_left (λ _. capacity_at) n (λ _ s more. within_left _ _ _ n s more) [] layers r left) rest tokens
+    words_left direction wanted.Capacity (λ r. parts_at (λ _. capacity_at) 0 layers r) n (λ r left. parts_left (λ _. capacity_at) n (λ _ s more. within_left _ _ _ n s more) 0 layers r left) rest tokens
 
 widths_left : (layers n : ℕ) (rest : Rest) → AreTokens n rest.tokens → IfOk (widths_at layers rest) (Left (List ℕ) n)
 unfolding widths_at
 widths_left layers n rest tokens =
-    words_left wanted.Minimum wanted.Width (λ r. parts_at (λ _. width_at) [] layers r) n (λ r left. parts_left (λ _. width_at) n (λ _ s more. within_left _ _ _ n s more) [] layers r left) rest tokens
+    words_left wanted.Minimum wanted.Width (λ r. parts_at (λ _. width_at) 0 layers r) n (λ r left. parts_left (λ _. width_at) n (λ _ s more. within_left _ _ _ n s more) 0 layers r left) rest tokens
 
 spacings_left : (widths : List ℕ) (n : ℕ) (rest : Rest) → AreTokens n rest.tokens → IfOk (spacings_at widths rest) (Left (List ℕ) n)
 unfolding spacings_at
 spacings_left widths n rest tokens =
-    let part = λ (before : List ℕ). spacing_at (slice_index widths (length before)) in
-    words_left wanted.Minimum wanted.Spacing (λ r. parts_at part [] (length widths) r) n (λ r left. parts_left part n (λ _ s more. within_left _ _ _ n s more) [] (length widths) r left) rest tokens
-
-unused_left : (count n : ℕ) (rest : Rest) → AreTokens n rest.tokens → IfOk (unused_at count rest) (Left (Unit {0}) n)
-unfolding unused_at
-unused_left zero n rest tokens = tokens
-unused_left (suc count) n rest tokens = then _ (Left (Unit {0}) n) (number_at rest) _ (number_left n rest tokens) (λ number left. unused_left count n number.1 left)
+    let part = λ (layer : ℕ). spacing_at (slice_index widths layer) in
+    words_left wanted.Minimum wanted.Spacing (λ r. parts_at part 0 (length widths) r) n (λ r left. parts_left part n (λ _ s more. within_left _ _ _ n s more) 0 (length widths) r left) rest tokens
 
 vias_left : (layers n : ℕ) (rest : Rest) → AreTokens n rest.tokens → IfOk (vias_at layers rest) (Left (Unit {0}) n)
 unfolding vias_at
-vias_left layers n rest tokens = words_left wanted.Via wanted.Spacing (unused_at layers) n (unused_left layers n) rest tokens
+vias_left layers n rest tokens =
+    let unused = λ (r : Rest). parts_at (λ _. number_at) 0 layers r in
+    words_left wanted.Via wanted.Spacing (λ r. unused r >>= λ numbers. Ok (tt, numbers.1)) n
+    (λ r left. then (Left (List Number) n) (Left (Unit {0}) n) (unused r) _ (parts_left (λ _. number_at) n (λ _ s more. number_left n s more) 0 layers r left) (λ numbers behind. behind)) rest tokens
 
 origin_left : (n : ℕ) (rest : Rest) → AreTokens n rest.tokens → IfOk (origin_at rest) (Left (ℤ × ℤ) n)
 unfolding origin_at
@@ -193,7 +197,7 @@ pin_left layout id pin n rest tokens =
 
 pins_left : (layout : Layout) (id count n : ℕ) (rest : Rest) → AreTokens n rest.tokens → IfOk (pins_at layout id count rest) (Left (List ℕ) n)
 unfolding pins_at
-pins_left layout id count n rest tokens = parts_left (λ before. pin_at layout id (length before)) n (λ before r left. pin_left layout id (length before) n r left) [] count rest tokens
+pins_left layout id count n rest tokens = parts_left (pin_at layout id) n (λ pin r left. pin_left layout id pin n r left) 0 count rest tokens
 
 net_left : (layout : Layout) (taken : ℕ → Bool) (pins n : ℕ) (rest : Rest) → AreTokens n rest.tokens → IfOk (net_at layout taken pins rest) (LeftWith (λ x. IsNamed x.0) n)
 unfolding net_at
@@ -205,12 +209,13 @@ net_left layout taken pins n rest tokens =
     then _ P (net_width_at layout count.1) _ (within_left _ _ _ n count.1 three) (λ width four.
     then _ P (pins_at layout id.0 count.0 width.1) _ (pins_left layout id.0 count.0 n width.1 four) (λ places five. ((one.0, two.0), five))))))
 
-more_nets_left : (layout : Layout) (earlier : List Net) (pins count n : ℕ) (rest : Rest) → All IsNamed earlier → AreTokens n rest.tokens → IfOk (more_nets_at layout earlier pins count rest) (LeftWith (All IsNamed) n)
+more_nets_left : (layout : Layout) (taken : ℕ → Bool) (pins count n : ℕ) (rest : Rest) → AreTokens n rest.tokens → IfOk (more_nets_at layout taken pins count rest) (LeftWith (All IsNamed) n)
 unfolding more_nets_at
-more_nets_left layout earlier pins zero n rest named tokens = (named, tokens)
-more_nets_left layout earlier pins (suc count) n rest named tokens =
-    then _ (LeftWith (All IsNamed) n) (net_at layout (has_id earlier) pins rest) _ (net_left layout (has_id earlier) pins n rest tokens) (λ net left.
-    more_nets_left layout (earlier ++ net.0.0 ∷ []) net.0.1 count n net.1 (All-push IsNamed earlier net.0.0 named left.0) left.1)
+more_nets_left layout taken pins zero n rest tokens = (All-nil IsNamed, tokens)
+more_nets_left layout taken pins (suc count) n rest tokens =
+    let P : List Net × Rest → Type 0 = LeftWith (All IsNamed) n in
+    then _ P (net_at layout taken pins rest) _ (net_left layout taken pins n rest tokens) (λ net left.
+    then P P (more_nets_at layout (λ id. id == net.0.0.id || taken id) net.0.1 count net.1) _ (more_nets_left layout (λ id. id == net.0.0.id || taken id) net.0.1 count n net.1 left.1) (λ more behind. (All-cons IsNamed net.0.0 more.0 left.0 behind.0, behind.1)))
 
 nets_left : (layout : Layout) (n : ℕ) (rest : Rest) → AreTokens n rest.tokens → IfOk (nets_at layout rest) (LeftWith (All IsNamed) n)
 unfolding nets_at
@@ -218,7 +223,7 @@ nets_left layout n rest tokens =
     let P : List Net × Rest → Type 0 = LeftWith (All IsNamed) n in
     then _ P (word_at wanted.Num rest) _ (word_left wanted.Num n rest tokens) (λ num one.
     then _ P (word_at wanted.Net num.1) _ (word_left wanted.Net n num.1 one) (λ net two.
-    then _ P (count_at (2 ^ 22) net.1) _ (within_left _ _ _ n net.1 two) (λ count three. more_nets_left layout [] 0 count.0 n count.1 (All-nil IsNamed) three)))
+    then _ P (count_at (2 ^ 22) net.1) _ (within_left _ _ _ n net.1 two) (λ count three. more_nets_left layout (λ _. false) 0 count.0 n count.1 three)))
 
 -- ---- the whole text
 
@@ -230,5 +235,16 @@ parts_named n rest tokens =
     then _ HasNamedNets (adjustments_at layout.0.extent nets.1) _ (anything _) (λ adjustments _. two.0)))
 
 -- each net of a text has a name and an id
-pub contents_named : (text : List ℕ) → IfOk (contents_of text) HasNamedNets
+contents_named : (text : List ℕ) → IfOk (contents_of text) HasNamedNets
 contents_named text = where_false HasNamedNets (nat_lt (2 ^ 30) (length text)) (contents_at (rest_of text)) _ (parts_named (0 + length text) (rest_of text) (tokens_stand_within 0 text))
+
+-- the same of a net of a design
+abbrev pub IsNamedNet : NetSpec → Type 0
+IsNamedNet n = IsTrue (is_word n.name) × (n.id ≤ 4294967295)
+
+-- each net of a design that a text names has such a name and id
+pub design_named : (text : List ℕ) (d : Design) → IsDesignOfText text d → All IsNamedNet d.nets
+design_named text d named = λ k e below.
+    let all : All IsNamed named.contents.nets = IfOk-at_ok HasNamedNets named.read (contents_named text) in
+    let mapped : All IsNamed (map net_of d.nets) = subst (All IsNamed) (sym named.says.nets) all in
+    subst IsNamed (get_or-map net_of d.nets k e (net_of e) below) (mapped k (net_of e) (omega (arith, length-map d.nets net_of, below)))

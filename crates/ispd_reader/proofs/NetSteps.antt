@@ -4,11 +4,12 @@ use mathlib.Core.Path.{fun_ext}
 use Rattle.std.specs.List.{list_any, sum_by, All, filter, slice_get}
 use Rattle.std.specs.Option.{option_map}
 use Rattle.std.proofs.lemmas.Bool.{cases_Bool, cases_eq, false≢true}
-use Rattle.std.proofs.lemmas.List.{map_push, length_push}
+use Rattle.std.proofs.lemmas.List.{map_push, length_push, append-nil}
 use Rattle.std.proofs.lemmas.List.Elements.{All-nil, All-cons, All-head, All-tail, All-filter, All-get_or}
 use Rattle.std.proofs.lemmas.List.Folds.{list_any-append}
 use Rattle.std.proofs.lemmas.List.Sums.{sum_by_push}
 use Rattle.std.proofs.lemmas.Option.{slice_get-map, slice_get_within, get_or_from_slice_get}
+use Rattle.grid_base.proofs.Lists.{At-push_cases}
 use Rattle.grid_base.specs.declared.vertex.Vertex.{Vertex}
 use Rattle.grid_graph.specs.declared.grid.Grid.{Grid}
 use Rattle.grid_graph.specs.declared.net_spec.NetSpec.{NetSpec}
@@ -17,43 +18,43 @@ use Rattle.grid_graph.specs.Lists.{At}
 use Rattle.grid_graph.specs.Nets.{IdsDiffer, IsNet}
 use Rattle.ispd_reader.specs.declared.input_error.InputError.{InputError}
 use Rattle.ispd_reader.specs.declared.input_error.InputError.TheVariants as errors
-use Rattle.ispd_reader.specs.Parsing.{Rest, Read, Refuses}
+use Rattle.text_scan.proofs.Parts.{with_parts, with_parts-one}
+use Rattle.ispd_reader.specs.Parsing.{Rest, Read, ◌>>=◌, Refuses}
 use Rattle.ispd_reader.specs.Header.{Layout}
-use Rattle.ispd_reader.specs.Nets.{Net, greatest, without_repeats, has_id, net_at, more_nets_at}
+use Rattle.ispd_reader.specs.Nets.{Net, greatest, without_repeats, net_at, more_nets_at}
 use Rattle.ispd_reader.specs.Views.{numbers, net_of, nets_of}
-use Rattle.ispd_reader.proofs.Distinct.{at_push, not_at}
+use Rattle.ispd_reader.proofs.Distinct.{not_at}
 
 -- one more net was read
-pub net_goes_on : (layout : Layout) (before : List Net) (pins : ℕ) (taken : ℕ → Bool) (count i : ℕ) (rest : Rest) (net : Net) (more : ℕ) (after : Rest) (total : Read (List Net)) →
-    i < count → ((q : ℕ) → taken q ≡ has_id before q) → net_at layout taken pins rest ≡ Ok ((net, more), after) → more_nets_at layout before pins (count - i) rest ≡ total →
-    more_nets_at layout (before ++ net ∷ []) more (count - (i + 1)) after ≡ total
+pub net_goes_on : (layout : Layout) (before : List Net) (pins : ℕ) (taken new : ℕ → Bool) (count i : ℕ) (rest : Rest) (net : Net) (more : ℕ) (after : Rest) (total : Read (List Net)) →
+    i < count → ((q : ℕ) → new q ≡ (q == net.id || taken q)) → net_at layout taken pins rest ≡ Ok ((net, more), after) → with_parts before (more_nets_at layout taken pins (count - i) rest) ≡ total →
+    with_parts (before ++ net ∷ []) (more_nets_at layout new more (count - (i + 1)) after) ≡ total
 unfolding more_nets_at
-net_goes_on layout before pins taken count i rest net more after total lt same h so_far =
+net_goes_on layout before pins taken new count i rest net more after total lt same h so_far =
     let k : count - i ≡ suc (count - (i + 1)) = omega arith in
-    let ids : taken ≡ has_id before = fun_ext same in
-    let read : net_at layout (has_id before) pins rest ≡ Ok ((net, more), after) = ap (λ (t : ℕ → Bool). net_at layout t pins rest) (sym ids) ∙ h in
-    let one : more_nets_at layout before pins (count - i) rest ≡ more_nets_at layout (before ++ net ∷ []) more (count - (i + 1)) after = rw (k, read) refl in
-    sym one ∙ so_far
+    let ids : new ≡ (λ q. q == net.id || taken q) = fun_ext same in
+    let behind = more_nets_at layout new more (count - (i + 1)) after in
+    let one : more_nets_at layout taken pins (count - i) rest ≡ (behind >>= λ more. Ok (net ∷ more.0, more.1)) = rw (k, h, ids) refl in
+    sym (with_parts-one before net behind) ∙ sym (ap (with_parts before) one) ∙ so_far
 
 -- the next net was refused
 pub net_ends : (e : InputError) (layout : Layout) (before : List Net) (pins : ℕ) (taken : ℕ → Bool) (count i : ℕ) (rest : Rest) (total : Read (List Net)) →
-    i < count → ((q : ℕ) → taken q ≡ has_id before q) → Refuses e (net_at layout taken pins rest) → more_nets_at layout before pins (count - i) rest ≡ total → Refuses e total
+    i < count → Refuses e (net_at layout taken pins rest) → with_parts before (more_nets_at layout taken pins (count - i) rest) ≡ total → Refuses e total
 unfolding more_nets_at
-net_ends errors.NoMemory layout before pins taken count i rest total lt same h so_far = tt
-net_ends (errors.Input fault) layout before pins taken count i rest total lt same h so_far =
+net_ends errors.NoMemory layout before pins taken count i rest total lt h so_far = tt
+net_ends (errors.Input fault) layout before pins taken count i rest total lt h so_far =
     let k : count - i ≡ suc (count - (i + 1)) = omega arith in
-    let ids : taken ≡ has_id before = fun_ext same in
-    let read : net_at layout (has_id before) pins rest ≡ Err fault = ap (λ (t : ℕ → Bool). net_at layout t pins rest) (sym ids) ∙ h in
-    let one : more_nets_at layout before pins (count - i) rest ≡ Err fault = rw (k, read) refl in
-    sym so_far ∙ one
+    let one : more_nets_at layout taken pins (count - i) rest ≡ Err fault = rw (k, h) refl in
+    sym so_far ∙ ap (with_parts before) one
 
 -- all nets were read
-pub nets_done : (layout : Layout) (before : List Net) (pins count i : ℕ) (rest : Rest) (total : Read (List Net)) → count ≤ i → more_nets_at layout before pins (count - i) rest ≡ total → total ≡ Ok (before, rest)
+pub nets_done : (layout : Layout) (before : List Net) (pins : ℕ) (taken : ℕ → Bool) (count i : ℕ) (rest : Rest) (total : Read (List Net)) →
+    count ≤ i → with_parts before (more_nets_at layout taken pins (count - i) rest) ≡ total → total ≡ Ok (before, rest)
 unfolding more_nets_at
-nets_done layout before pins count i rest total le so_far =
+nets_done layout before pins taken count i rest total le so_far =
     let k : count - i ≡ 0 = omega arith in
-    let one : more_nets_at layout before pins (count - i) rest ≡ Ok (before, rest) = rw k refl in
-    sym so_far ∙ one
+    let none : more_nets_at layout taken pins (count - i) rest ≡ Ok ([], rest) = rw k refl in
+    sym so_far ∙ ap (with_parts before) none ∙ ap (λ (nets : List Net). Ok (nets, rest)) (append-nil before)
 
 le_fold : (xs : List ℕ) (a : ℕ) → a ≤ fold max a xs
 le_fold [] a = le_refl a
@@ -92,6 +93,10 @@ All-at P vertices h i v at_i =
     let here : get_or (numbers vertices) i v.0 ≡ v.0 = get_or_from_slice_get (numbers vertices) i v.0 v.0 found in
     subst P here (All-get_or P (numbers vertices) i v.0 (slice_get_within (numbers vertices) i v.0 found) h)
 
+-- a net of these has the id
+abbrev has_id : List Net → ℕ → Bool
+has_id nets id = list_any (λ net. net.id == id) nets
+
 -- the nets that were read so far
 pub record AreNets (g : Grid) (nets : List NetSpec) (taken : ℕ → Bool) (pins count : ℕ) : Type 0 where
   pub taken_ids : (q : ℕ) → taken q ≡ has_id (nets_of nets) q
@@ -126,16 +131,16 @@ net_added g nets old new pins count n more so_far free taken fits enough limit =
           (λ (p : At nets i m). ⊎_elim
           (λ (q : At nets j o). so_far.ids i j m o p q same)
           (λ (q : (j ≡ length nets) × (o ≡ n)). absurd (other_id nets old n i m so_far.taken_ids free p (same ∙ ap (λ (x : NetSpec). x.id) q.1)))
-          (at_push nets n j o at_j))
+          (At-push_cases nets n o j at_j))
           (λ (p : (i ≡ length nets) × (m ≡ n)). ⊎_elim
           (λ (q : At nets j o). absurd (other_id nets old n j o so_far.taken_ids free q (sym same ∙ ap (λ (x : NetSpec). x.id) p.1)))
           (λ (q : (j ≡ length nets) × (o ≡ n)). p.0 ∙ sym q.0)
-          (at_push nets n j o at_j))
-          (at_push nets n i m at_i);
+          (At-push_cases nets n o j at_j))
+          (At-push_cases nets n m i at_i);
       each = λ k o at_k. ⊎_elim
           (λ (p : At nets k o). so_far.each k o p)
           (λ (p : (k ≡ length nets) × (o ≡ n)). let P : NetSpec → Type 0 = λ x. IsNet g x in subst P (sym p.1) fits)
-          (at_push nets n k o at_k);
+          (At-push_cases nets n o k at_k);
       pins_within = omega (arith, so_far.pins_within, sum_by_push (λ (x : NetSpec). length x.terminals) nets n);
       pins_limit = limit;
       long = omega (arith, so_far.long, length_push nets n);

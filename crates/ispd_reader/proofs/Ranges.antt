@@ -1,5 +1,5 @@
 -- Numbers within their limits.
-use Rattle.std.proofs.Common.{◌≡◌, ℕ, ◌*◌, ◌^◌, ◌≤◌, ◌<◌, true, false, ◌↔◌, List, [], ◌∷◌, Option, Some, None, IsSome, IfSome, Ok, ℤ, pos, negsuc, neg_ℤ, refl, sym, ap, ◌∙◌, ⊎_elim, arith, nat_abs, ◌-ℤ◌, ◌≤ℤ◌, int_lt, ltb, eqb}
+use Rattle.std.proofs.Common.{◌≡◌, ℕ, ◌*◌, ◌≤◌, ◌<◌, true, false, ◌↔◌, Option, Some, None, IsSome, IfSome, ℤ, pos, negsuc, refl, sym, ap, ◌∙◌, ⊎_elim, arith, nat_abs, ◌-ℤ◌, ◌≤ℤ◌, int_lt, ltb, eqb}
 use Rattle.std.specs.Option.{option_map}
 use Rattle.std.proofs.lemmas.Bool.{cases_Bool}
 use Rattle.std.proofs.lemmas.Bool.Decides.{nat_tests}
@@ -7,11 +7,8 @@ use Rattle.std.proofs.lemmas.Int.{ints}
 use Rattle.std.proofs.lemmas.Option.{none-some, cond_some}
 use Rattle.std.proofs.lemmas.Nat.{div_below}
 use Rattle.grid_graph.specs.Tiles.{tile_index}
-use Rattle.text_scan.specs.Tokens.{Token}
-use Rattle.text_scan.specs.Numbers.{is_number, is_within, value_of, first_number}
 use Rattle.grid_base.specs.declared.size.Size.{Size}
 use Rattle.grid_base.specs.Limits.{IsGridSize}
-use Rattle.grid_graph.specs.GridLimits.{IsPosition}
 use Rattle.ispd_reader.specs.Within.{within}
 use Rattle.ispd_reader.specs.Header.{Extent, is_size, natural, extent_of}
 use Rattle.ispd_reader.specs.Views.{extent_of_size}
@@ -45,19 +42,6 @@ test_of_size e h =
     let f = h.vertex_limit in
     grind (arith, nat_tests)
 
-first_factor : (a b c n : ℕ) → 1 ≤ b → 1 ≤ c → a * b * c ≤ n → a ≤ n
-first_factor a b c n hb hc h = grind arith
-
-middle_factor : (a b c n : ℕ) → 1 ≤ a → 1 ≤ c → a * b * c ≤ n → b ≤ n
-middle_factor a b c n ha hc h = grind arith
-
--- no part of a grid is larger than the whole
-pub cols_within : (cols rows layers : ℕ) → IsGridSize cols rows layers → cols ≤ 2 ^ 23
-cols_within cols rows layers s = first_factor cols rows layers (2 ^ 23) s.has_row s.has_layer s.vertex_limit
-
-pub rows_within : (cols rows layers : ℕ) → IsGridSize cols rows layers → rows ≤ 2 ^ 23
-rows_within cols rows layers s = middle_factor cols rows layers (2 ^ 23) s.has_col s.has_layer s.vertex_limit
-
 -- numbers that make no size
 pub no_extent : (c r l : ℤ) → (IsGridSize (natural c) (natural r) (natural l) → ⊥) → extent_of c r l ≡ None
 unfolding extent_of
@@ -77,23 +61,6 @@ size_is n m k None limits cols rows layers = sym (no_extent (pos n) (pos m) (pos
 size_is n m k (Some s) limits cols rows layers =
     let same : extent_of_size s ≡ record { cols = n; rows = m; layers = k } = rw (cols, rows, layers) refl in
     ap (λ e. Some e) same ∙ sym (extent_made n m k (limits.0 refl))
-
--- a number that is read is a position
-position_from_test : (z : ℤ) → is_within (neg_ℤ (pos (2 ^ 40))) (pos (2 ^ 40)) z ≡ true → IsPosition z
-position_from_test z h = record { low = grind (arith, ints); high = grind (arith, ints) }
-
-pub position_read : (end : ℕ) (ts : List Token) (value : ℤ) → Ok value ≡ first_number (neg_ℤ (pos (2 ^ 40))) (pos (2 ^ 40)) end ts → IsPosition value
-position_read end [] value h = absurd (cc)
-position_read end (t ∷ ts) value h = ⊎_elim
-    (λ (e : is_number t.bytes ≡ true). ⊎_elim
-    (λ (f : is_within (neg_ℤ (pos (2 ^ 40))) (pos (2 ^ 40)) (value_of t.bytes) ≡ true).
-    let same = rw (e, f) at h in
-    let v : value ≡ value_of t.bytes = cc in
-    position_from_test value (rw v f))
-    (λ (f : is_within (neg_ℤ (pos (2 ^ 40))) (pos (2 ^ 40)) (value_of t.bytes) ≡ false). absurd (let bad = rw (e, f) at h in cc))
-    (cases_Bool (is_within (neg_ℤ (pos (2 ^ 40))) (pos (2 ^ 40)) (value_of t.bytes))))
-    (λ (e : is_number t.bytes ≡ false). absurd (let bad = rw e at h in cc))
-    (cases_Bool (is_number t.bytes))
 
 abs_positive : (t : ℤ) → pos 1 ≤ℤ t → 0 < nat_abs t
 abs_positive (pos n) h = omega (arith, ints)

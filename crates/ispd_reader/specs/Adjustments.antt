@@ -1,6 +1,6 @@
 -- The adjustments of single edges.
 use Rattle.std.specs.Prelude.{ℕ, ◌+◌, ◌-◌, ◌*◌, ◌^◌, ◌==◌, min, List, [], ◌∷◌, length, if◌then◌else◌, ℤ, Option, None, Some, Ok}
-use Rattle.text_scan.specs.Tokens.{Token}
+use Rattle.std.specs.Option.{option_or}
 use Rattle.grid_base.specs.declared.place.Place.{Place}
 use Rattle.grid_base.specs.Numbers.{distance}
 use Rattle.ispd_reader.specs.declared.input_fault.InputFault.TheVariants.{AdjustmentPlace}
@@ -57,24 +57,11 @@ adjustment_at e index rest = do
   level ← capacity_at to.1
   Ok (record { edge = edge; level = level.0 }, level.1)
 
--- so many adjustments
-unfoldable pub more_adjustments_at : Extent → ℕ → Rest → Read (List Adjustment)
-more_adjustments_at e count rest = parts_at (λ before. adjustment_at e (length before)) [] count rest
-
 -- how many adjustments, and the adjustments; none where no token is left
-abbrev pub counted_adjustments_at : Extent → List Token → Rest → Read (List Adjustment)
-counted_adjustments_at e [] rest = Ok ([], rest)
-counted_adjustments_at e (token ∷ tokens) rest = do
-  count ← count_at (2 ^ 23) rest
-  more_adjustments_at e count.0 count.1
-
 unfoldable pub adjustments_at : Extent → Rest → Read (List Adjustment)
-adjustments_at e rest = counted_adjustments_at e rest.tokens rest
-
--- the one, and where there is none the other
-abbrev pub or_else : Option ℕ → Option ℕ → Option ℕ
-or_else None other = other
-or_else (Some x) other = Some x
+adjustments_at e rest = if length rest.tokens == 0 then Ok ([], rest) else do
+  count ← count_at (2 ^ 23) rest
+  parts_at (adjustment_at e) 0 count.0 count.1
 
 -- the level of an adjustment, where this is the edge that it names
 abbrev pub level_where : ℕ → Option ℕ → ℕ → Option ℕ
@@ -84,4 +71,4 @@ level_where e (Some x) level = if x == e then Some level else None
 -- the level of the last adjustment that names the edge
 abbrev pub last_level : ℕ → List Adjustment → Option ℕ
 last_level e [] = None
-last_level e (a ∷ later) = or_else (last_level e later) (level_where e a.edge a.level)
+last_level e (a ∷ later) = option_or (last_level e later) (level_where e a.edge a.level)

@@ -33,3 +33,9 @@ pub record IsDesignOf (d : Design) (c : Contents) : Type 0 where
   pub layout : layout_of d.grid ≡ c.layout
   pub capacities : (e : ℕ) → capacity d.grid e ≡ unwrap_or (last_level e c.adjustments) (first_capacity d.grid e)
   pub nets : map net_of d.nets ≡ c.nets
+
+-- the text names this design: there is no refusal of it, and the design is what it says
+pub record IsDesignOfText (text : List ℕ) (d : Design) : Type 0 where
+  pub contents : Contents
+  pub read : contents_of text ≡ Ok contents
+  pub says : IsDesignOf d contents

@@ -1,5 +1,5 @@
 -- The parts of the text before the nets: the grid, its layers and its tiles.
-use Rattle.std.specs.Prelude.{ℕ, zero, suc, Bool, ◌*◌, ◌^◌, ◌&&◌, List, [], length, slice_index, if◌then◌else◌, nat_le, ℤ, pos, negsuc, Option, None, Some, Ok}
+use Rattle.std.specs.Prelude.{ℕ, Bool, ◌*◌, ◌^◌, ◌&&◌, List, length, slice_index, if◌then◌else◌, nat_le, ℤ, pos, negsuc, Option, None, Some, Ok}
 use Rattle.ispd_reader.specs.declared.input_fault.InputFault.TheVariants.{GridSize}
 use Rattle.ispd_reader.specs.declared.wanted.Wanted.{Wanted}
 use Rattle.ispd_reader.specs.declared.wanted.Wanted.TheVariants as wanted
@@ -52,35 +52,29 @@ unfoldable pub capacities_at : Wanted → ℕ → Rest → Read (List ℕ)
 capacities_at direction layers rest = do
   word ← word_at direction rest
   word ← word_at wanted.Capacity word.1
-  parts_at (λ _. capacity_at) [] layers word.1
+  parts_at (λ _. capacity_at) 0 layers word.1
 
 -- `minimum`, `width`, a width per layer
 unfoldable pub widths_at : ℕ → Rest → Read (List ℕ)
 widths_at layers rest = do
   word ← word_at wanted.Minimum rest
   word ← word_at wanted.Width word.1
-  parts_at (λ _. width_at) [] layers word.1
+  parts_at (λ _. width_at) 0 layers word.1
 
 -- `minimum`, `spacing`, a spacing per layer, for layers of these widths
 unfoldable pub spacings_at : List ℕ → Rest → Read (List ℕ)
 spacings_at widths rest = do
   word ← word_at wanted.Minimum rest
   word ← word_at wanted.Spacing word.1
-  parts_at (λ before. spacing_at (slice_index widths (length before))) [] (length widths) word.1
+  parts_at (λ layer. spacing_at (slice_index widths layer)) 0 (length widths) word.1
 
--- so many numbers, which are not used
-unfoldable pub unused_at : ℕ → Rest → Read (Unit {0})
-unused_at zero rest = Ok (tt, rest)
-unused_at (suc n) rest = do
-  number ← number_at rest
-  unused_at n number.1
-
--- `via`, `spacing`, a number per layer
+-- `via`, `spacing`, a number per layer, which is not used
 unfoldable pub vias_at : ℕ → Rest → Read (Unit {0})
 vias_at layers rest = do
   word ← word_at wanted.Via rest
   word ← word_at wanted.Spacing word.1
-  unused_at layers word.1
+  unused ← parts_at (λ _. number_at) 0 layers word.1
+  Ok (tt, unused.1)
 
 -- the lower left corner: x, y
 unfoldable pub origin_at : Rest → Read (ℤ × ℤ)

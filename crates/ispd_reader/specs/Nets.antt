@@ -1,6 +1,5 @@
 -- The nets and their pins.
-use Rattle.std.specs.Prelude.{ℕ, zero, suc, Bool, not, ◌+◌, ◌-◌, ◌*◌, ◌^◌, ◌==◌, max, List, [], ◌∷◌, ◌++◌, length, fold, filter, if◌then◌else◌, ℤ, Option, Ok, Err}
-use Rattle.std.specs.List.{list_any}
+use Rattle.std.specs.Prelude.{ℕ, zero, suc, Bool, false, not, ◌+◌, ◌-◌, ◌*◌, ◌^◌, ◌==◌, ◌||◌, max, List, [], ◌∷◌, fold, filter, if◌then◌else◌, ℤ, Option, Ok, Err}
 use Rattle.grid_graph.specs.Tiles.{tile_index}
 use Rattle.ispd_reader.specs.declared.input_fault.InputFault.TheVariants.{Range, WidthLimit, DuplicateId, PinOutside, PinLayer}
 use Rattle.ispd_reader.specs.declared.wanted.Wanted.TheVariants as wanted
@@ -24,10 +23,6 @@ vertex_at e col row layer = (layer * e.rows + row) * e.cols + col
 abbrev pub without_repeats : List ℕ → List ℕ
 without_repeats [] = []
 without_repeats (v ∷ vs) = v ∷ filter (λ w. not (w == v)) (without_repeats vs)
-
--- a net of these has the id
-abbrev pub has_id : List Net → ℕ → Bool
-has_id nets id = list_any (λ net. net.id == id) nets
 
 -- the greatest of the layers' spacings
 abbrev pub greatest : List ℕ → ℕ
@@ -61,7 +56,7 @@ pin_at layout id pin rest = do
 
 -- so many pins, which count from 0 within their net
 unfoldable pub pins_at : Layout → ℕ → ℕ → Rest → Read (List ℕ)
-pins_at layout id count rest = parts_at (λ before. pin_at layout id (length before)) [] count rest
+pins_at layout id count rest = parts_at (pin_at layout id) 0 count rest
 
 -- a net, where these ids are taken and there are so many pins, and how many pins there are with it
 unfoldable pub net_at : Layout → (ℕ → Bool) → ℕ → Rest → Read (Net × ℕ)
@@ -73,12 +68,13 @@ net_at layout taken pins rest = do
   places ← pins_at layout id.0 count.0 width.1
   Ok ((record { id = id.0; name = name.0; width = width.0; terminals = without_repeats places.0 }, pins + count.0), places.1)
 
--- so many nets after these, which have so many pins
-unfoldable pub more_nets_at : Layout → List Net → ℕ → ℕ → Rest → Read (List Net)
-more_nets_at layout earlier pins zero rest = Ok (earlier, rest)
-more_nets_at layout earlier pins (suc n) rest = do
-  net ← net_at layout (has_id earlier) pins rest
-  more_nets_at layout (earlier ++ net.0.0 ∷ []) net.0.1 n net.1
+-- so many nets, where these ids are taken and there are so many pins
+unfoldable pub more_nets_at : Layout → (ℕ → Bool) → ℕ → ℕ → Rest → Read (List Net)
+more_nets_at layout taken pins zero rest = Ok ([], rest)
+more_nets_at layout taken pins (suc n) rest = do
+  net ← net_at layout taken pins rest
+  more ← more_nets_at layout (λ id. id == net.0.0.id || taken id) net.0.1 n net.1
+  Ok (net.0.0 ∷ more.0, more.1)
 
 -- `num`, `net`, how many nets, and the nets
 unfoldable pub nets_at : Layout → Rest → Read (List Net)
@@ -86,4 +82,4 @@ nets_at layout rest = do
   word ← word_at wanted.Num rest
   word ← word_at wanted.Net word.1
   count ← count_at (2 ^ 22) word.1
-  more_nets_at layout [] 0 count.0 count.1
+  more_nets_at layout (λ _. false) 0 count.0 count.1

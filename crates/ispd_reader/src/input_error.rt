@@ -2,10 +2,13 @@
 
 ghost use Rattle.std.specs.Prelude.{◌≡◌};
 ghost use Rattle.ispd_reader.specs.declared.input_error.InputError.TheVariants.{Input, NoMemory};
+ghost use Rattle.ispd_reader.specs.Refusals.{refusal_of};
 
 use crate::input_fault::InputFault;
+use crate::wanted::Wanted;
 use grid_graph::GridRefusal;
 use std::alloc::{AllocError, AllocFailed};
+use text_scan::NumberFault;
 use thiserror::Error;
 
 /// Why no design was read.
@@ -24,6 +27,20 @@ impl From<InputFault> for InputError {
 
     fn from(fault: InputFault) -> InputError {
         InputError::Input(fault)
+    }
+}
+
+impl From<NumberFault> for InputError {
+    ghost from_gives = { λ fault e. e ≡ Input (refusal_of fault) };
+
+    fn from(fault: NumberFault) -> InputError {
+        InputError::Input(match fault {
+            NumberFault::OutOfRange { at } => InputFault::Range { at },
+            NumberFault::NotNumber { at } | NumberFault::End { at } => InputFault::Syntax {
+                at,
+                wanted: Wanted::Number,
+            },
+        })
     }
 }
 

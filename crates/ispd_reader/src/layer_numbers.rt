@@ -66,7 +66,7 @@ pub fn spacings(
 }
 
 /// Passes over the spacings of the vias, which are not used.
-#[tactic(auto, unfolding(crate::specs::Header::vias_at, crate::specs::Header::unused_at))]
+#[tactic(auto, unfolding(crate::specs::Header::vias_at))]
 pub fn skip_vias(tokens: &mut TokensLeft<'_>, layers: u32) -> Result<(), InputError>
     ensures { Reads (λ _. tt) result tokens.new (vias_at layers tokens.old) }
 {

@@ -33,7 +33,7 @@ mod wanted;
 pub use input_error::InputError;
 pub use input_fault::InputFault;
 pub use laws::{designs_of_a_text_are_alike, names_of_a_design};
-pub use reading::read_design;
+pub use reading::{MAX_BYTES, read_design};
 pub use wanted::Wanted;
 
 #[cfg(test)]

@@ -1,8 +1,8 @@
 //! Reading a design.
 
-ghost use Rattle.std.specs.Prelude.{◌≡◌, IfOk, IfErr, Ok};
+ghost use Rattle.std.specs.Prelude.{IfOk, IfErr};
 ghost use Rattle.ispd_reader.specs.Parsing.{Refuses};
-ghost use Rattle.ispd_reader.specs.Designs.{Contents, contents_of, IsDesignOf};
+ghost use Rattle.ispd_reader.specs.Designs.{contents_of, IsDesignOfText};
 
 use crate::adjustments::adjust;
 use crate::header::parts;
@@ -14,13 +14,13 @@ use grid_graph::{Design, Grid};
 use std::alloc::Global;
 
 /// The most bytes of a text.
-const MAX_BYTES: usize = 1 << 30;
+pub const MAX_BYTES: usize = 1 << 30;
 
 /// The design that a text in the ISPD 2008 input format names. `Input` says what is wrong with the
 /// text, at the first place in the order of reading.
 #[tactic(auto, using(crate::proofs::Whole::layout_refused))]
 pub fn read_design(alloc: Global, bytes: &[u8]) -> Result<Design, InputError>
-    ensures design { IfOk result (λ d. (c : Contents) × (contents_of bytes.now ≡ Ok c) × IsDesignOf d c) }
+    ensures design { IfOk result (λ d. IsDesignOfText bytes.now d) }
     ensures refusal { IfErr result (λ e. Refuses e (contents_of bytes.now)) }
 {
     if bytes.len() > MAX_BYTES {

@@ -4,7 +4,6 @@ ghost use Rattle.std.specs.Prelude.{◌≡◌, ◌↔◌, [], IsTrue, IfOk};
 ghost use Rattle.grid_graph.specs.GridLimits.{IsPosition};
 ghost use Rattle.ispd_reader.specs.Parsing.{Reads, rest_of};
 ghost use Rattle.ispd_reader.specs.Numbers.{word_at, name_at, number_at};
-ghost use Rattle.ispd_reader.specs.Refusals.{refusal_of};
 
 use crate::input_error::InputError;
 use crate::input_fault::InputFault;
@@ -12,7 +11,7 @@ use crate::number::Number;
 use crate::wanted::Wanted;
 use grid_graph::MAX_NUMBER;
 use std::marker::Model;
-use text_scan::{NumberFault, Scanner};
+use text_scan::Scanner;
 
 /// The tokens of a text that are left to be read, with their places in it.
 #[derive(Drop)]
@@ -88,10 +87,8 @@ impl<'a> TokensLeft<'a> {
     {
         self.scanner.peek();
         let at = self.scanner.place();
-        match self.scanner.number(-MAX_NUMBER, MAX_NUMBER) {
-            Ok(value) => Ok(Number { value, at }),
-            Err(fault) => Err(InputError::Input(refusal(fault))),
-        }
+        let value = self.scanner.number(-MAX_NUMBER, MAX_NUMBER)?;
+        Ok(Number { value, at })
     }
 
     // The refusal where the text ends too early.
@@ -102,18 +99,5 @@ impl<'a> TokensLeft<'a> {
             at: self.bytes.len(),
             wanted,
         })
-    }
-}
-
-// The refusal of a token that is no number in the range.
-fn refusal(fault: NumberFault) -> InputFault
-    ensures { result ≡ refusal_of fault }
-{
-    match fault {
-        NumberFault::OutOfRange { at } => InputFault::Range { at },
-        NumberFault::NotNumber { at } | NumberFault::End { at } => InputFault::Syntax {
-            at,
-            wanted: Wanted::Number,
-        },
     }
 }

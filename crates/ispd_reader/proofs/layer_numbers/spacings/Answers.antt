@@ -1,4 +1,4 @@
-use Rattle.std.proofs.Common.{◌≡◌, ℕ, List, length, slice_index, arith, Ok}
+use Rattle.std.proofs.Common.{ℕ, length, slice_index, arith}
 use Rattle.std.proofs.lemmas.List.{length_push}
 use Rattle.ispd_reader.specs.Numbers.{spacing_at}
 use Rattle.ispd_reader.specs.Header.{spacings_at}
@@ -8,9 +8,8 @@ use Rattle.ispd_reader.proofs.layer_numbers.spacings.Goals as goal
 pub loop-width-preserved : goal.loop-width-preserved
 loop-width-preserved c =
     let widths = c.args.widths.now in
-    let part = λ (before : List ℕ). spacing_at (slice_index widths (length before)) in
-    let one : part c.loop-width.spacings.items c.loop-width.tokens ≡ Ok (c.in_ok-spacing.field-0, c.spacing.new.tokens) = rw c.loop-width.invariant.0 c.in_ok-spacing.ensures in
+    let part = λ (layer : ℕ). spacing_at (slice_index widths layer) in
     rw c.in_ok-push.ensures.items (
       omega (arith, length_push c.loop-width.spacings.items c.in_ok-spacing.field-0, c.loop-width.invariant.0),
-      goes_on part c.loop-width.spacings.items (length widths) c.loop-width.width-index c.loop-width.tokens c.in_ok-spacing.field-0 c.spacing.new.tokens (spacings_at widths c.args.tokens.now) c.loop-width-test.true one c.loop-width.invariant.1,
+      goes_on part c.loop-width.spacings.items (length widths) c.loop-width.width-index c.loop-width.tokens c.in_ok-spacing.field-0 c.spacing.new.tokens (spacings_at widths c.args.tokens.now) c.loop-width-test.true c.in_ok-spacing.ensures c.loop-width.invariant.1,
     )

@@ -1,6 +1,7 @@
 use Rattle.std.proofs.Common.{◌≡◌, ◌-◌, ◌≤◌, ◌^◌}
 use Rattle.std.specs.Ordering.{nat_cmp}
 use Rattle.std.specs.BTreeSet.{contains}
+use Rattle.text_scan.proofs.Parts.{with_parts}
 use Rattle.ispd_reader.specs.Nets.{more_nets_at, nets_at}
 use Rattle.ispd_reader.specs.Views.{layout_of, nets_of}
 use Rattle.ispd_reader.proofs.NetSteps.{AreNets}
@@ -8,6 +9,6 @@ use Rattle.ispd_reader.proofs.nets.nets.Given as goal
 
 abbrev pub invariant-loop : goal.invariant-loop
 invariant-loop l =
-    (more_nets_at (layout_of l.grid) (nets_of l.nets.items) l.pins (l.count - l.counter) l.tokens ≡ nets_at (layout_of l.grid) l.fn.tokens)
+    (with_parts (nets_of l.nets.items) (more_nets_at (layout_of l.grid) (contains nat_cmp l.taken) l.pins (l.count - l.counter) l.tokens) ≡ nets_at (layout_of l.grid) l.fn.tokens)
     × AreNets l.grid l.nets.items (contains nat_cmp l.taken) l.pins l.counter
     × (l.count ≤ 2 ^ 22)

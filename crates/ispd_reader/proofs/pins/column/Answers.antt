@@ -1,6 +1,7 @@
 use Rattle.std.proofs.Common.{◌≡◌, rules}
+use Rattle.grid_base.proofs.Extents.{cols_within}
 use Rattle.grid_graph.specs.Tiles.{tile_index}
-use Rattle.ispd_reader.proofs.Ranges.{cols_within, tile_below}
+use Rattle.ispd_reader.proofs.Ranges.{tile_below}
 use Rattle.ispd_reader.proofs.pins.column.Goals as goal
 
 pub tile_index-requires-clause-many : goal.tile_index-requires-clause-many

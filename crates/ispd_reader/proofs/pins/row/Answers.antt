@@ -1,6 +1,7 @@
 use Rattle.std.proofs.Common.{◌≡◌, rules}
+use Rattle.grid_base.proofs.Extents.{rows_within}
 use Rattle.grid_graph.specs.Tiles.{tile_index}
-use Rattle.ispd_reader.proofs.Ranges.{rows_within, tile_below}
+use Rattle.ispd_reader.proofs.Ranges.{tile_below}
 use Rattle.ispd_reader.proofs.pins.row.Goals as goal
 
 pub tile_index-requires-clause-many : goal.tile_index-requires-clause-many

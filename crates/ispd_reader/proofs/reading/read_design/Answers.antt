@@ -39,8 +39,8 @@ returns-clause-design c =
     let one = rw c.of-tokens.ensures at c.in_ok-parts.ensures.parts in
     let two = rw made at c.in_ok-nets.ensures.nets in
     let three = rw same at j.1 in
-    let read = design_read c.in_ok-grid.grid c.adjust.new.grid parts j.0 c.in_ok-grid.ensures.parts c.in_ok-grid.ensures.capacities j.2 in (
-      record { layout = layout_of_parts parts; nets = nets_of c.in_ok-nets.nets; adjustments = j.0 },
-      short_text text c.if-bytes-gt-MAX_BYTES.false ∙ all_read (rest_of text) (layout_of_parts parts) c.parts.new.tokens (nets_of c.in_ok-nets.nets) c.nets.new.tokens j.0 c.adjust.new.tokens one two three,
-      record { layout = read.0; capacities = read.1; nets = refl },
-    )
+    let read = design_read c.in_ok-grid.grid c.adjust.new.grid parts j.0 c.in_ok-grid.ensures.parts c.in_ok-grid.ensures.capacities j.2 in record {
+      contents = record { layout = layout_of_parts parts; nets = nets_of c.in_ok-nets.nets; adjustments = j.0 };
+      read = short_text text c.if-bytes-gt-MAX_BYTES.false ∙ all_read (rest_of text) (layout_of_parts parts) c.parts.new.tokens (nets_of c.in_ok-nets.nets) c.nets.new.tokens j.0 c.adjust.new.tokens one two three;
+      says = record { layout = read.0; capacities = read.1; nets = refl };
+    }

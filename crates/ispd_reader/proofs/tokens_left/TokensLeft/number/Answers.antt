@@ -1,25 +1,15 @@
-use Rattle.std.proofs.Common.{length, rules, w64}
+use Rattle.std.proofs.Common.{rules, SFits, w64}
 use Rattle.std.proofs.lemmas.Int.{to_z-of_z}
-use mir.Val.{SFits}
-use Rattle.text_scan.specs.Reading.{tokens_left}
+use Rattle.std.proofs.lemmas.Result.{err_from_is_err_and}
 use Rattle.ispd_reader.proofs.Places.{number_step, number_step_refused}
-use Rattle.ispd_reader.proofs.Ranges.{position_read}
 use Rattle.ispd_reader.proofs.tokens_left.TokensLeft.number.Goals as goal
-use Rattle.ispd_reader.proofs.tokens_left.TokensLeft.number.Goals.{in-Ok, in-Err}
+
+pub returns-in_err-value-clause-number : goal.returns-in_err-value-clause-number
+returns-in_err-value-clause-number c =
+    let p = err_from_is_err_and c.from_residual.result c.from_residual.ensures.1 in
+    rw (p.1, p.2, ← c.self.view_is) (number_step_refused c.self.inside.scanner c.peek.new.self c.self.inside.bytes.now c.in_err-value.field-0.0 c.self.invariant c.peek.ensures.passed c.peek.ensures.tokens c.in_err-value.ensures.answer)
 
 pub returns-clause-number : goal.returns-clause-number
-returns-clause-number c = rw (← c.self.view_is) (elim c.match-number.branch [
-  | in-Ok w ↦
-      let fits : SFits w64 w.in-Ok.value = search rules in
-      rw w.result-is (rw to_z-of_z (number_step c.self.inside.scanner c.peek.new.self c.number.new.self c.self.inside.bytes.now w.in-Ok.value c.place-at.result c.self.invariant c.peek.ensures.passed c.peek.ensures.tokens c.number.ensures.tokens c.place-at.ensures.place w.in-Ok.ensures.answer))
-  | in-Err w ↦
-      rw (w.result-is, w.refusal.ensures) (number_step_refused c.self.inside.scanner c.peek.new.self c.self.inside.bytes.now w.in-Err.fault c.self.invariant c.peek.ensures.passed c.peek.ensures.tokens w.in-Err.ensures.answer)
-])
-
-pub returns-clause-range : goal.returns-clause-range
-returns-clause-range c = elim c.match-number.branch [
-  | in-Ok w ↦
-      let fits : SFits w64 w.in-Ok.value = search rules in
-      rw w.result-is (rw to_z-of_z (position_read (length c.peek.new.self.text) (tokens_left c.peek.new.self) w.in-Ok.value w.in-Ok.ensures.answer))
-  | in-Err w ↦ rw w.result-is tt
-]
+returns-clause-number c =
+    let fits : SFits w64 c.in_ok-value.value = search rules in
+    rw (to_z-of_z w64 c.in_ok-value.value fits, ← c.self.view_is) (number_step c.self.inside.scanner c.peek.new.self c.number.new.self c.self.inside.bytes.now c.in_ok-value.value c.place-at.result c.self.invariant c.peek.ensures.passed c.peek.ensures.tokens c.number.ensures.tokens c.place-at.ensures.place c.in_ok-value.ensures.answer)
