@@ -3,6 +3,7 @@ use Rattle.std.proofs.Common.{◌≡◌, ℕ, suc, ◌+◌, ◌-◌, ◌<◌, �
 use Rattle.std.specs.List.{All}
 use Rattle.std.proofs.lemmas.List.{length_push, append-nil}
 use Rattle.std.proofs.lemmas.List.Elements.{All-push}
+use Rattle.text_scan.proofs.Parts.{with_parts, with_parts-one}
 use Rattle.text_scan.specs.Reading.{Reading, left, past_blanks, is_next, past_byte}
 use Rattle.route_text.specs.declared.segment.Segment.{Segment}
 use Rattle.route_text.specs.declared.route_error.RouteError.{RouteError}
@@ -12,22 +13,12 @@ use Rattle.route_text.specs.ReadLimits.{IsNearSegment}
 use Rattle.route_text.specs.Blocks.{segment_at, segments_within}
 use Rattle.route_text.proofs.Blanks.{past_blanks_twice, segment_at_same}
 
--- these segments, and then those that are read
-abbrev pub with_segments : List Segment → Read (List Segment) → Read (List Segment)
-with_segments before (Ok read) = Ok (before ++ read.0, read.1)
-with_segments before (Err at) = Err at
-
 -- the segments that were read so far, since the reading `start`
 pub record AreSegments (start r : Reading) (before : List Segment) : Type 0 where
   pub text : r.text ≡ start.text
   pub forward : start.place + length before ≤ r.place
   pub near : All IsNearSegment before
-  pub read : (n : ℕ) → length (left start) < n → with_segments before (segments_within (n - length before) r) ≡ segments_within n start
-
-with_one : (before : List Segment) (one : Segment) (more : Read (List Segment)) →
-    with_segments before (more >>= λ more. Ok (one ∷ more.0, more.1)) ≡ with_segments (before ++ one ∷ []) more
-with_one before one (Ok read) = ap (λ (s : List Segment). Ok (s, read.1)) (sym (append_assoc before (one ∷ []) read.0))
-with_one before one (Err at) = refl
+  pub read : (n : ℕ) → length (left start) < n → with_parts before (segments_within (n - length before) r) ≡ segments_within n start
 
 -- there is room for one more
 one_left : (start r p : Reading) (before : List Segment) (n : ℕ) → AreSegments start r before → p.text ≡ start.text → r.place ≤ p.place → p.place ≤ length p.text → length (left start) < n →
@@ -61,7 +52,7 @@ one_more_segment start r p after before one so_far other e within read moves nea
           let m = n - (length before + 1) in
           let next : segments_within (suc m) r ≡ (segments_within m after >>= λ more. Ok (one ∷ more.0, more.1)) = unended m r p (sym other) e ∙ rw read refl in
           let whole = rw (k, next) at (so_far.read n more) in
-          rw long (sym (with_one before one (segments_within m after)) ∙ whole);
+          rw long (sym (with_parts-one before one (segments_within m after)) ∙ whole);
     }
 
 -- the next segment was refused

@@ -1,5 +1,7 @@
 -- What reading a part of a route text answers.
-use Rattle.std.specs.Prelude.{ℕ, ◌≡◌, ◌+◌, ◌≤◌, length, ℤ, Result, Ok, Err}
+use Rattle.std.specs.Prelude.{ℕ, ◌≡◌, ◌+◌, ◌≤◌, length, ℤ, Option, None, Some, Result, Ok, Err}
+use Rattle.text_scan.specs.Parts as parts
+pub use Rattle.text_scan.specs.Parts.{◌>>=◌}
 use Rattle.text_scan.specs.Reading.{Reading, past_blanks}
 use Rattle.text_scan.specs.declared.number_fault.NumberFault.{NumberFault}
 use Rattle.text_scan.specs.declared.number_fault.NumberFault.TheVariants.{NotNumber, OutOfRange, End}
@@ -9,12 +11,6 @@ use Rattle.route_text.specs.declared.route_error.RouteError.TheVariants.{Syntax,
 -- the value of the part and what is left of the text, or the place at which the part can't be read
 abbrev pub Read : Type 0 → Type 0
 Read A = Result (A × Reading) ℕ
-
--- the one part, and then the other; the first refusal is the answer
-infixl 10 ◌>>=◌
-abbrev pub ◌>>=◌ : {A B : Type 0} → Result A ℕ → (A → Result B ℕ) → Result B ℕ
-(Ok x) >>= f = f x
-(Err at) >>= f = Err at
 
 -- the first byte after blanks, where the next part begins; the length of the text where none is left
 abbrev pub next_place : Reading → ℕ
@@ -31,19 +27,18 @@ abbrev pub number_or_place : Result ℤ NumberFault → Reading → Read ℤ
 number_or_place (Ok z) after = Ok (z, after)
 number_or_place (Err fault) after = Err (place_of fault)
 
+-- the refusal that an error says: a place; none for want of memory
+abbrev pub refusal_in : RouteError → Option ℕ
+refusal_in (Syntax at) = Some at
+refusal_in NoMemory = None
+
 -- an error is the refusal that reading gives, or want of memory
 abbrev pub Refuses : {Y : Type 0} → RouteError → Result Y ℕ → Type 0
-Refuses NoMemory read = Unit {0}
-Refuses (Syntax at) read = read ≡ Err at
+Refuses e read = parts.Refuses refusal_in e read
 
--- what a call answered, seen by view, is what reading gives, unless memory ran out
-abbrev pub Gives : {X Y : Type 0} → (X → Y) → Result X RouteError → Result Y ℕ → Type 0
-Gives view (Ok x) read = read ≡ Ok (view x)
-Gives view (Err e) read = Refuses e read
-
--- the same of a part, after which this is left of the text
+-- what a call answered, seen by view, is what reading a part gives, and this is left of the text then, unless memory ran out
 abbrev pub Reads : {X Y : Type 0} → (X → Y) → Result X RouteError → Reading → Read Y → Type 0
-Reads view answer rest read = Gives (λ x. (view x, rest)) answer read
+Reads view answer rest read = parts.Reads refusal_in view answer rest read
 
 -- at least n bytes of the text were passed over
 pub record Moves (n : ℕ) (old new : Reading) : Type 0 where

@@ -4,15 +4,13 @@ ghost use Rattle.std.specs.Prelude.{◌≡◌, ◌≤ℤ◌, IfOk};
 ghost use Rattle.grid_graph.specs.GridLimits.{IsPosition};
 ghost use Rattle.route_text.specs.Blocks.{mark_at, coordinate_at, token_number_at, point_at, segment_at};
 ghost use Rattle.route_text.specs.ReadLimits.{IsNearPoint, IsNearSegment};
-ghost use Rattle.route_text.specs.Reads.{Reads, Moves, place_of};
+ghost use Rattle.route_text.specs.Reads.{Reads, Moves};
 
 use crate::point::Point;
 use crate::route_error::RouteError;
 use crate::segment::Segment;
-use text_scan::{NumberFault, Scanner};
-
-/// The farthest that a number may be from zero.
-pub(crate) const MAX_NUMBER: i64 = 1 << 40;
+use grid_graph::MAX_NUMBER;
+use text_scan::Scanner;
 
 /// The byte `b`, after blanks.
 fn mark(scanner: &mut Scanner<'_>, b: u8) -> Result<(), RouteError>
@@ -34,10 +32,8 @@ fn coordinate(scanner: &mut Scanner<'_>) -> Result<i64, RouteError>
     ensures passed { IfOk result (λ _. Moves 1 scanner.old scanner.new) }
     ensures range { IfOk result (λ x. IsPosition x) }
 {
-    match scanner.digits(i128::from(-MAX_NUMBER), i128::from(MAX_NUMBER)) {
-        Ok(value) => Ok(value as i64),
-        Err(fault) => Err(refusal(fault)),
-    }
+    let value = scanner.digits(i128::from(-MAX_NUMBER), i128::from(MAX_NUMBER))?;
+    Ok(value as i64)
 }
 
 /// A number from `lo` to `hi` that is a whole token.
@@ -46,22 +42,7 @@ pub(crate) fn token_number(scanner: &mut Scanner<'_>, lo: i64, hi: i64) -> Resul
     ensures passed { IfOk result (λ _. Moves 1 scanner.old scanner.new) }
     ensures range { IfOk result (λ x. (lo ≤ℤ x) × (x ≤ℤ hi)) }
 {
-    match scanner.number(lo, hi) {
-        Ok(value) => Ok(value),
-        Err(fault) => Err(refusal(fault)),
-    }
-}
-
-/// The refusal of a number.
-fn refusal(fault: NumberFault) -> RouteError
-    ensures { result ≡ RouteError.Syntax (place_of fault) }
-{
-    let at = match fault {
-        NumberFault::NotNumber { at } => at,
-        NumberFault::OutOfRange { at } => at,
-        NumberFault::End { at } => at,
-    };
-    RouteError::Syntax { at }
+    Ok(scanner.number(lo, hi)?)
 }
 
 /// `(`, x, `,`, y, `,`, layer, `)`.

@@ -8,11 +8,11 @@ ghost use Rattle.route_text.specs.ReadLimits.{IsNearSegment, IsNearBlock, block_
 ghost use Rattle.route_text.specs.Reads.{Refuses, Reads, ReadsWithBlanks, Moves};
 
 use crate::block::Block;
-use crate::parts::{MAX_NUMBER, segment, token_number};
+use crate::parts::{segment, token_number};
 use crate::route_error::RouteError;
 use crate::segment::Segment;
 use crate::segments::Segments;
-use grid_graph::Name;
+use grid_graph::{MAX_NUMBER, Name};
 use std::alloc::Global;
 use text_scan::Scanner;
 

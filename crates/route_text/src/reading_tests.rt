@@ -1,4 +1,7 @@
+//! Route texts that are read, and such that are refused.
+
 use super::*;
+use std::alloc::{AllocError, Global};
 use std::test::Fail;
 
 /// The segment from one x, y, layer to another.
@@ -61,64 +64,78 @@ fn a_block_is_what_its_text_says(rt: HostRuntime) -> Result<(), Fail> {
     Ok(())
 }
 
+const IDS: [(&[u8], &[u32]); 6] = [
+    (b"", &[]),
+    (b" \r\n\t", &[]),
+    (b"a 0 !b 1 !", &[0, 1]),
+    (b"a 4 ! ! 3 !\n", &[4, 3]),
+    (b"a 7 (1,1,1)-(2,1,1)!a 7 !", &[7, 7]),
+    (b"a 2\n!\nb 1 5\n(1,1,1)-(2,1,1)\n!\nc 0\n!\n", &[2, 1, 0]),
+];
+
+/// The ids of blocks, in order.
+fn ids_of(alloc: Global, blocks: &[Block]) -> Result<Vec<u32>, AllocError> {
+    let mut ids = Vec::new(alloc);
+    for block in blocks {
+        ids.push(block.id)?;
+    }
+    Ok(ids)
+}
+
 #[test]
 fn blocks_stand_one_behind_another(rt: HostRuntime) -> Result<(), Fail> {
-    let cases: [(&[u8], &[u32]); 6] = [
-        (b"", &[]),
-        (b" \r\n\t", &[]),
-        (b"a 0 !b 1 !", &[0, 1]),
-        (b"a 4 ! ! 3 !\n", &[4, 3]),
-        (b"a 7 (1,1,1)-(2,1,1)!a 7 !", &[7, 7]),
-        (b"a 2\n!\nb 1 5\n(1,1,1)-(2,1,1)\n!\nc 0\n!\n", &[2, 1, 0]),
-    ];
-    for (text, ids) in cases {
+    for (text, ids) in &IDS {
         let blocks = read_routes(rt.alloc(), text)?;
-        assert_eq!(rt; blocks.len(), ids.len(), "blocks in {text:?}");
-        for (block, id) in blocks.iter().zip(ids) {
-            assert_eq!(rt; block.id, *id, "in {text:?}");
-        }
+        let got = ids_of(rt.alloc(), &blocks)?;
+        assert_eq!(rt; got.as_slice(), *ids, "in {text:?}");
     }
     Ok(())
 }
 
+const REFUSED: [(&[u8], usize); 33] = [
+    (b"a", 1),
+    (b"a ", 2),
+    (b"!", 1),
+    (b"a !", 2),
+    (b"a x !", 2),
+    (b"a 0!", 2),
+    (b"a 0!b 1 (1,1,1)-(2,1,1)!", 2),
+    (b"a 0(5,5,1)-(25,5,1)!", 2),
+    (b"a 4294967296 !", 2),
+    (b"a -1 !", 2),
+    (b"a 0", 3),
+    (b"a 0 ", 4),
+    (b"a 0 b", 4),
+    (b"a 0 9!", 4),
+    (b"a 0 -x !", 4),
+    (b"a 0 1099511627777 !", 4),
+    (b"a 0 -1099511627777 !", 4),
+    (b"a 0 9 9 !", 6),
+    (b"a 0 (5,5", 8),
+    (b"a 0 (1,2)", 8),
+    (b"a 0 (1 1,1)", 7),
+    (b"a 0 (,1,1)", 5),
+    (b"a 0 (+,1,1)-(1,1,1)!", 5),
+    (b"a 0 (1, -,1)-(1,1,1)!", 8),
+    (b"a 0 (1,-", 7),
+    (b"a 0 (1,1,1099511627777)-(1,1,1)!", 9),
+    (b"a 0 (1,2,3)", 11),
+    (b"a 0 (1,2,3)-", 12),
+    (b"a 0 (1,2,3) (1,2,3)!", 12),
+    (b"a 0 (5,5,1)-(25,5,1)", 20),
+    (b"a 0 (5,5,1)-(25,5,1) 3 !", 21),
+    (b"a 0 (1,1,1)-(2,1,1)! b", 22),
+    (b"a 0 !\nb 0 (1,1,1)-(1,1,-)!", 23),
+];
+
 #[test]
 fn a_text_is_refused_where_the_next_part_fails(rt: HostRuntime) {
-    let cases: [(&[u8], usize); 32] = [
-        (b"a", 1),
-        (b"a ", 2),
-        (b"!", 1),
-        (b"a !", 2),
-        (b"a x !", 2),
-        (b"a 0!", 2),
-        (b"a 0!b 1 (1,1,1)-(2,1,1)!", 2),
-        (b"a 0(5,5,1)-(25,5,1)!", 2),
-        (b"a 4294967296 !", 2),
-        (b"a -1 !", 2),
-        (b"a 0", 3),
-        (b"a 0 ", 4),
-        (b"a 0 b", 4),
-        (b"a 0 9!", 4),
-        (b"a 0 -x !", 4),
-        (b"a 0 1099511627777 !", 4),
-        (b"a 0 -1099511627777 !", 4),
-        (b"a 0 9 9 !", 6),
-        (b"a 0 (5,5", 8),
-        (b"a 0 (1,2)", 8),
-        (b"a 0 (1 1,1)", 7),
-        (b"a 0 (,1,1)", 5),
-        (b"a 0 (+,1,1)-(1,1,1)!", 5),
-        (b"a 0 (1, -,1)-(1,1,1)!", 8),
-        (b"a 0 (1,1,1099511627777)-(1,1,1)!", 9),
-        (b"a 0 (1,2,3)", 11),
-        (b"a 0 (1,2,3)-", 12),
-        (b"a 0 (1,2,3) (1,2,3)!", 12),
-        (b"a 0 (5,5,1)-(25,5,1)", 20),
-        (b"a 0 (5,5,1)-(25,5,1) 3 !", 21),
-        (b"a 0 (1,1,1)-(2,1,1)! b", 22),
-        (b"a 0 !\nb 0 (1,1,1)-(1,1,-)!", 23),
-    ];
-    for (text, at) in cases {
+    for (text, at) in &REFUSED {
         let refusal = read_routes(rt.alloc(), text).err();
-        assert_eq!(rt; refusal, Some(RouteError::Syntax { at }), "in {text:?}");
+        assert_eq!(rt;
+            refusal,
+            Some(RouteError::Syntax { at: *at }),
+            "in {text:?}"
+        );
     }
 }

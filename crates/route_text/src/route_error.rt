@@ -1,9 +1,11 @@
 //! Why no routes were read.
 
 ghost use Rattle.std.specs.Prelude.{◌≡◌};
-ghost use Rattle.route_text.specs.declared.route_error.RouteError.TheVariants.{NoMemory};
+ghost use Rattle.route_text.specs.declared.route_error.RouteError.TheVariants.{Syntax, NoMemory};
+ghost use Rattle.route_text.specs.Reads.{place_of};
 
 use std::alloc::{AllocError, AllocFailed};
+use text_scan::NumberFault;
 use thiserror::Error;
 
 /// Why no routes were read.
@@ -16,6 +18,19 @@ pub enum RouteError {
     /// Want of memory.
     #[error("out of memory")]
     NoMemory,
+}
+
+impl From<NumberFault> for RouteError {
+    ghost from_gives = { λ fault e. e ≡ Syntax (place_of fault) };
+
+    fn from(fault: NumberFault) -> RouteError {
+        let at = match fault {
+            NumberFault::NotNumber { at } => at,
+            NumberFault::OutOfRange { at } => at,
+            NumberFault::End { at } => at,
+        };
+        RouteError::Syntax { at }
+    }
 }
 
 impl From<AllocError> for RouteError {

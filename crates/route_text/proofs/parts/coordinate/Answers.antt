@@ -14,14 +14,14 @@ number_read lo hi z r low high answer =
     let within = front_is_within (neg_ℤ (pos (2 ^ 40))) (pos (2 ^ 40)) z (length r.text) (past_blanks r).place (left (past_blanks r)) read in
     (read, record { low = within.0; high = within.1 })
 
-pub returns-in-Ok-clause-number : goal.returns-in-Ok-clause-number
-returns-in-Ok-clause-number c =
-    let z = c.in-Ok.value in
-    let h = number_read c.from.result c.from-2.result z c.args.scanner.now c.from.ensures c.from-2.ensures c.in-Ok.ensures.answer in
+pub returns-clause-number : goal.returns-clause-number
+returns-clause-number c =
+    let z = c.in_ok-value.value in
+    let h = number_read c.from.result c.from-2.result z c.args.scanner.now c.from.ensures c.from-2.ensures c.in_ok-value.ensures.answer in
     rw (position_fits z h.1) (ap (λ answer. number_or_place answer (past_number c.args.scanner.now)) h.0 ∙ ap (λ (r : Reading). Ok (z, r)) (sym c.digits.ensures.passed))
 
-pub returns-in-Ok-clause-range : goal.returns-in-Ok-clause-range
-returns-in-Ok-clause-range c =
-    let z = c.in-Ok.value in
-    let h = number_read c.from.result c.from-2.result z c.args.scanner.now c.from.ensures c.from-2.ensures c.in-Ok.ensures.answer in
+pub returns-clause-range : goal.returns-clause-range
+returns-clause-range c =
+    let z = c.in_ok-value.value in
+    let h = number_read c.from.result c.from-2.result z c.args.scanner.now c.from.ensures c.from-2.ensures c.in_ok-value.ensures.answer in
     rw (position_fits z h.1) h.1

@@ -1,15 +1,8 @@
 use Rattle.std.proofs.Common.{◌≡◌, ℕ, zero, suc, ◌+◌, ◌⊎◌, List, [], ◌∷◌, ◌++◌, length, refl, sym, ◌∙◌, ap, subst, inl, inr, ⊎_elim, arith, length-append}
-use Rattle.std.proofs.lemmas.Option.{slice_get_within, same_Some}
+use Rattle.grid_base.proofs.Lists.{At-push_cases}
 use Rattle.grid_graph.specs.declared.net_spec.NetSpec.{NetSpec}
 use Rattle.grid_graph.specs.Lists.{At}
 use Rattle.route_text.proofs.tests.nets_named.Goals as goal
-
--- what stands in a list with one more element behind it
-At-push : (nets : List NetSpec) (y : NetSpec) (k : ℕ) (n : NetSpec) → At (nets ++ y ∷ []) k n → At nets k n ⊎ ((length nets ≡ k) × (y ≡ n))
-At-push [] y zero n at = inr (refl, same_Some y n at)
-At-push [] y (suc k) n at = absurd (omega (arith, slice_get_within (y ∷ []) (suc k) n at))
-At-push (x ∷ rest) y zero n at = inl at
-At-push (x ∷ rest) y (suc k) n at = ⊎_elim (λ old. inl old) (λ new. inr (ap suc new.0, new.1)) (At-push rest y k n at)
 
 abbrev IsBare : ℕ → NetSpec → Type 0
 IsBare k n = (n.id ≡ k) × (n.width ≡ 0) × (n.terminals ≡ [])
@@ -18,8 +11,8 @@ bare-push : (nets : List NetSpec) (y : NetSpec) → ((k : ℕ) (n : NetSpec) →
 bare-push nets y each here k n at =
     ⊎_elim
     (λ old. each k n old)
-    (λ new. subst (λ (m : NetSpec). IsBare k m) new.1 (subst (λ (j : ℕ). IsBare j y) new.0 here))
-    (At-push nets y k n at)
+    (λ new. subst (λ (m : NetSpec). IsBare k m) (sym new.1) (subst (λ (j : ℕ). IsBare j y) (sym new.0) here))
+    (At-push_cases nets y n k at)
 
 pub loop-id-preserved : goal.loop-id-preserved
 loop-id-preserved c =
