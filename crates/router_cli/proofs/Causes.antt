@@ -9,15 +9,15 @@ use Rattle.grid_graph.specs.declared.grid.Grid.{Grid}
 use Rattle.grid_graph.specs.declared.net_spec.NetSpec.{NetSpec}
 use Rattle.grid_graph.proofs.Grounds.{joins_with_choked}
 use Rattle.gr_desk.specs.Told.{Told}
-use Rattle.ispd_reader.specs.Alike.{AreAlikeDesigns}
-use Rattle.ispd_reader.proofs.Alike.{designs_alike}
+use Rattle.ispd_reader.specs.Designs.{IsDesignOfText}
+use Rattle.ispd_reader.proofs.Alike.{one_design}
 use Rattle.ispd_reader.proofs.AlikeGrounds.{IsFirstCutOff-alike}
 use Rattle.ispd_reader.proofs.AlikeCutOff.{first_cut_off-once, cut_off-unreachable}
 use Rattle.tree_set.specs.Routings.{IsRouting}
 use Rattle.router_cli.specs.declared.refusal.Refusal.{Refusal}
 use Rattle.router_cli.specs.declared.refusal.Refusal.TheVariants.{NoCommand, Unbuilt, Input, Unreachable, Unread, NoMemory}
 use Rattle.router_cli.specs.Words.{IsNoCommand}
-use Rattle.router_cli.specs.Inputs.{IsDesignOfText, AreSmall, AreReachable}
+use Rattle.router_cli.specs.Inputs.{HaveAtMostTwoTerminals, AreReachable}
 use Rattle.router_cli.specs.Refusals.{IsRefusedFor, IsTextRefusal, IsInputRefused, IsCause, IsCutOffText, InputFailed}
 
 -- the nets of a routing are reachable
@@ -26,12 +26,6 @@ routed_reachable g nets trees routing k n at =
     let within : k < length trees = omega (arith, slice_get_within nets k n at, routing.long) in
     let route = routing.each k n (get_or trees k []) at (slice_get-get_or trees k [] within) in
     joins_with_choked g n.terminals route.over route.is_ground
-
--- two designs of one text are alike
-pub one_design : (text : List ℕ) (d e : Design) → IsDesignOfText text d → IsDesignOfText text e → AreAlikeDesigns d e
-one_design text d e named other =
-    let same : named.contents ≡ other.contents = let both : Ok named.contents ≡ Ok other.contents = sym named.read ∙ other.read in cc in
-    designs_alike d e other.contents (rw same at named.says) other.says
 
 -- the first net that is cut off is one, in whatever design of the text
 one_cut_off : (text : List ℕ) (id id' t t' : ℕ) → IsCutOffText text id t → IsCutOffText text id' t' → (id ≡ id') × (t ≡ t')
@@ -53,18 +47,18 @@ refused_once text (Input fault) Unbuilt h k = let same : Err fault ≡ Ok k.name
 refused_once text (Input fault) (Unreachable id t) h k = let same : Err fault ≡ Ok k.named.contents = sym h ∙ k.named.read in cc
 refused_once text Unbuilt (Input fault) h k = let same : Err fault ≡ Ok h.named.contents = sym k ∙ h.named.read in cc
 refused_once text Unbuilt Unbuilt h k = refl
-refused_once text Unbuilt (Unreachable id t) h k = absurd (h.large (subst AreSmall (one_design text k.design h.design k.named h.named).nets k.small))
+refused_once text Unbuilt (Unreachable id t) h k = absurd (h.large (subst HaveAtMostTwoTerminals (one_design text k.design h.design k.named h.named).nets k.small))
 refused_once text (Unreachable id t) (Input fault) h k = let same : Err fault ≡ Ok h.named.contents = sym k ∙ h.named.read in cc
-refused_once text (Unreachable id t) Unbuilt h k = absurd (k.large (subst AreSmall (one_design text h.design k.design h.named k.named).nets h.small))
+refused_once text (Unreachable id t) Unbuilt h k = absurd (k.large (subst HaveAtMostTwoTerminals (one_design text h.design k.design h.named k.named).nets h.small))
 refused_once text (Unreachable id t) (Unreachable id' t') h k = let same = one_cut_off text id id' t t' h k in cc
 
 -- a text that names a design of small and reachable nets is not refused
-pub not_refused : (text : List ℕ) (d : Design) (r : Refusal) → IsDesignOfText text d → AreSmall d.nets → AreReachable d.grid d.nets → IsRefusedFor text r → ⊥
+pub not_refused : (text : List ℕ) (d : Design) (r : Refusal) → IsDesignOfText text d → HaveAtMostTwoTerminals d.nets → AreReachable d.grid d.nets → IsRefusedFor text r → ⊥
 not_refused text d NoCommand named small reachable h = h
 not_refused text d Unread named small reachable h = h
 not_refused text d NoMemory named small reachable h = h
 not_refused text d (Input fault) named small reachable h = let same : Err fault ≡ Ok named.contents = sym h ∙ named.read in cc
-not_refused text d Unbuilt named small reachable h = h.large (subst AreSmall (one_design text d h.design named h.named).nets small)
+not_refused text d Unbuilt named small reachable h = h.large (subst HaveAtMostTwoTerminals (one_design text d h.design named h.named).nets small)
 not_refused text d (Unreachable id t) named small reachable h =
     let alike = one_design text h.design d h.named named in
     cut_off-unreachable d.grid d.nets id t (IsFirstCutOff-alike h.design.grid d.grid d.nets id t alike.grids (rw alike.nets at h.first)) reachable

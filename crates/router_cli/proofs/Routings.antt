@@ -1,9 +1,9 @@
 -- What holds of the first nets of a list with their sets.
 use Rattle.std.proofs.Common.{ℕ, List, [], ◌∷◌, ◌++◌, length, sym, subst, ⊎_elim}
 use Rattle.grid_base.specs.declared.piece.Piece.{Piece}
+use Rattle.grid_base.proofs.Lists.{At-push_cases}
 use Rattle.grid_graph.specs.declared.net_spec.NetSpec.{NetSpec}
 use Rattle.grid_graph.specs.Lists.{At}
-use Rattle.grid_graph.proofs.Grounds.{At-push_cases}
 
 -- it holds of each of the first nets with its set
 abbrev pub HoldsSoFar : (NetSpec → List Piece → Type 0) → List NetSpec → List (List Piece) → Type 0

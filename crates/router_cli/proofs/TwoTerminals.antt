@@ -1,12 +1,12 @@
 -- What joins terminals, where there are at most two.
-use Rattle.std.proofs.Common.{◌≡◌, ◌<◌, List, [], ◌∷◌, length, get_or, All, arith}
+use Rattle.std.proofs.Common.{◌≡◌, List, [], ◌∷◌, length, get_or, All, arith}
 use Rattle.std.proofs.lemmas.List.Elements.{All-cons, All-nil, All-head, Contains-get_or}
 use Rattle.grid_base.specs.declared.piece.Piece.{Piece}
 use Rattle.grid_base.specs.declared.size.Size.{Size}
 use Rattle.grid_base.specs.declared.vertex.Vertex.{Vertex}
 use Rattle.grid_base.specs.Numbers.{IsVertex}
 use Rattle.grid_base.specs.Walks.{WalkBetween, Joins, InPieces, InVertices, JoinsList}
-use Rattle.grid_base.proofs.Joined.{JoinsList-alone, JoinsList-from_one}
+use Rattle.grid_base.proofs.Joined.{JoinsList-from_one}
 use Rattle.grid_base.proofs.Walks.{WalkBetween-refl, walk_vertices}
 
 -- a walk from one terminal to the other joins the two
@@ -19,12 +19,6 @@ JoinsList-both s pieces (a ∷ b ∷ []) d two vertices walk =
     JoinsList-from_one s pieces (a ∷ b ∷ []) a.0
     (All-cons Reached a (b ∷ []) (WalkBetween-refl s (InPieces pieces) a.0 vertex) (All-cons Reached b [] walk (All-nil Reached)))
 JoinsList-both s pieces (a ∷ b ∷ c ∷ rest) d two vertices walk = absurd (omega arith)
-
--- fewer than two terminals are joined by every set
-pub JoinsList-few : (s : Size) (pieces : List Piece) (terminals : List Vertex) → length terminals < 2 → All (λ (t : Vertex). IsVertex s t.0) terminals → JoinsList s pieces terminals
-JoinsList-few s pieces [] few vertices = λ a b at_a at_b. absurd (omega (arith, at_a.1))
-JoinsList-few s pieces (a ∷ []) few vertices = JoinsList-alone s pieces a (All-head (λ (t : Vertex). IsVertex s t.0) a [] vertices)
-JoinsList-few s pieces (a ∷ b ∷ rest) few vertices = absurd (omega arith)
 
 -- terminals that are joined are vertices
 pub joined_vertices : (s : Size) (F : Piece → Type 0) (terminals : List Vertex) → Joins s F (InVertices terminals) → All (λ (t : Vertex). IsVertex s t.0) terminals

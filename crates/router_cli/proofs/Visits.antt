@@ -1,5 +1,5 @@
 -- How visits grow, and what they reach.
-use Rattle.std.proofs.Common.{◌≡◌, ℕ, zero, suc, ◌+◌, ◌-◌, ◌<◌, ◌≤◌, ◌⊎◌, true, List, [], ◌∷◌, ◌++◌, length, slice_index, slice_set, Option, Some, None, slice_get, Contains, refl, sym, ◌∙◌, ap, subst, inl, inr, ⊎_elim, arith, eq-eqb, length-append}
+use Rattle.std.proofs.Common.{◌≡◌, ℕ, ◌+◌, ◌-◌, ◌<◌, ◌≤◌, ◌⊎◌, true, List, [], ◌∷◌, ◌++◌, length, slice_index, slice_set, Option, Some, None, get_or, refl, sym, ◌∙◌, ap, subst, inl, inr, ⊎_elim, arith, eq-eqb, length-append}
 use Rattle.std.specs.List.{list_any}
 use Rattle.std.proofs.Math.Dec.{eqb}
 use Rattle.std.proofs.Math.ListN.{length-set}
@@ -7,32 +7,23 @@ use Rattle.std.proofs.lemmas.Bool.{cases_eq, cases_lt}
 use Rattle.std.proofs.lemmas.List.{get_or-set_same, get_or-set_other}
 use Rattle.std.proofs.lemmas.List.Folds.{list_any_at}
 use Rattle.std.proofs.lemmas.Map.Steps.{le-length_from_below}
-use Rattle.std.proofs.lemmas.Option.{same_Some, slice_get_within, slice_get_read}
+use Rattle.std.proofs.lemmas.Option.{same_Some, slice_get_within, get_or_from_slice_get}
 use Rattle.grid_base.specs.declared.piece.Piece.{Piece}
 use Rattle.grid_base.specs.declared.vertex.Vertex.{Vertex}
 use Rattle.grid_base.specs.Numbers.{vertices, IsVertex}
 use Rattle.grid_base.specs.Walks.{AreLinked}
+use Rattle.grid_base.proofs.Lists.{At-push, At-pushed, At-push_cases}
 use Rattle.grid_base.proofs.Walks.{AreLinked-sym, linked_vertex, closed_under_walks}
 use Rattle.grid_graph.specs.declared.grid.Grid.{Grid}
 use Rattle.grid_graph.specs.declared.ground.Ground.{Ground}
 use Rattle.grid_graph.specs.Grids.{Allows}
 use Rattle.grid_graph.specs.Grounds.{Reaches}
 use Rattle.grid_graph.specs.Lists.{At}
-use Rattle.grid_graph.specs.Neighbours.{steps, present, neighbours}
-use Rattle.grid_graph.proofs.Grounds.{At-push_cases, at_place}
-use Rattle.grid_graph.proofs.Neighbours.{connects_neighbour}
+use Rattle.grid_graph.specs.Neighbours.{steps}
+use Rattle.grid_graph.proofs.Grounds.{at_place}
+use Rattle.grid_graph.proofs.Neighbours.{connects_step}
 use Rattle.router_cli.specs.declared.visit.Visit.{Visit}
 use Rattle.router_cli.specs.Visits.{IsVisitOf, WasVisited, WasMet, IsMetFrom, Came, AreVisits, KeepsVisits, IsVisitedAround}
-
--- what stands in a list stays there when one more is pushed
-At-push : {X : Type 0} (xs : List X) (x y : X) (k : ℕ) → At xs k y → At (xs ++ x ∷ []) k y
-At-push [] x y k at = absurd (omega (arith, slice_get_within [] k y at))
-At-push (z ∷ xs) x y zero at = at
-At-push (z ∷ xs) x y (suc k) at = At-push xs x y k at
-
-At-pushed : {X : Type 0} (xs : List X) (x : X) → At (xs ++ x ∷ []) (length xs) x
-At-pushed [] x = refl
-At-pushed (z ∷ xs) x = At-pushed xs x
 
 pub KeepsVisits-push : (visits : List Visit) (x : Visit) → KeepsVisits visits (visits ++ x ∷ [])
 KeepsVisits-push visits x place y at = At-push visits x y place at
@@ -112,46 +103,26 @@ few_visits g over places visits are =
     list_any_at (eqb q) places x.0.vertex.0 0 (rw are.long (are.vertex q x.0 x.1)) (eq-eqb q (slice_index places x.0.vertex.0) (sym (are.placed q x.0 x.1))) in
     omega (arith, le-length_from_below places (length visits) each, are.long)
 
--- the first n neighbours of a vertex were visited, where the ground leads there
-abbrev pub VisitedBelow : Grid → Ground → List Visit → ℕ → ℕ → Type 0
-VisitedBelow g over visits v n =
-    (k : ℕ) (w : Vertex) (p : Piece) → k < n → At (neighbours g.size v) k (w, p) → Allows g over p → WasVisited visits w.0
+-- the first n of these steps lead to visited vertices, where the ground leads there
+abbrev pub VisitedBelow : Grid → Ground → List Visit → List (Option (Vertex × Piece)) → ℕ → Type 0
+VisitedBelow g over visits found n =
+    (k : ℕ) (w : Vertex) (p : Piece) → k < n → At found k (Some (w, p)) → Allows g over p → WasVisited visits w.0
 
-pub VisitedBelow-kept : (g : Grid) (over : Ground) (old new : List Visit) (v n : ℕ) → KeepsVisits old new → VisitedBelow g over old v n → VisitedBelow g over new v n
-VisitedBelow-kept g over old new v n kept passed k w p below at allowed = WasVisited-kept old new w.0 kept (passed k w p below at allowed)
+pub VisitedBelow-kept : (g : Grid) (over : Ground) (old new : List Visit) (found : List (Option (Vertex × Piece))) (n : ℕ) → KeepsVisits old new → VisitedBelow g over old found n → VisitedBelow g over new found n
+VisitedBelow-kept g over old new found n kept passed k w p below at allowed = WasVisited-kept old new w.0 kept (passed k w p below at allowed)
 
-pub VisitedBelow-more : (g : Grid) (over : Ground) (visits : List Visit) (v n : ℕ) (next : Vertex) (by : Piece) → At (neighbours g.size v) n (next, by) → (Allows g over by → WasVisited visits next.0) → VisitedBelow g over visits v n → VisitedBelow g over visits v (n + 1)
-VisitedBelow-more g over visits v n next by here now passed k w p below at allowed =
+pub VisitedBelow-next : (g : Grid) (over : Ground) (visits : List Visit) (found : List (Option (Vertex × Piece))) (n : ℕ) (step : Option (Vertex × Piece)) → get_or found n None ≡ step → ((w : Vertex) (p : Piece) → step ≡ Some (w, p) → Allows g over p → WasVisited visits w.0) → VisitedBelow g over visits found n → VisitedBelow g over visits found (n + 1)
+VisitedBelow-next g over visits found n step here now passed k w p below at allowed =
     ⊎_elim
-    (λ is.
-    let same : (w, p) ≡ (next, by) = same_Some _ _ (sym (subst (λ (j : ℕ). At (neighbours g.size v) j (w, p)) is at) ∙ here) in
-    let vertex : w ≡ next = ap (λ (x : Vertex × Piece). x.0) same in
-    let piece : p ≡ by = ap (λ (x : Vertex × Piece). x.1) same in
-    subst (λ (x : Vertex). WasVisited visits x.0) (sym vertex) (now (subst (Allows g over) piece allowed)))
+    (λ is. now w p (sym here ∙ get_or_from_slice_get found n (Some (w, p)) None (subst (λ (j : ℕ). At found j (Some (w, p))) is at)) allowed)
     (λ other. passed k w p (omega arith) at allowed)
     (cases_eq k n)
 
-pub VisitedBelow-none : (g : Grid) (over : Ground) (visits : List Visit) (v n : ℕ) → slice_get (neighbours g.size v) n ≡ None → VisitedBelow g over visits v n → VisitedBelow g over visits v (n + 1)
-VisitedBelow-none g over visits v n here passed k w p below at allowed =
-    ⊎_elim
-    (λ is.
-    let none : Some (w, p) ≡ None = sym (subst (λ (j : ℕ). At (neighbours g.size v) j (w, p)) is at) ∙ here in
-    cc)
-    (λ other. passed k w p (omega arith) at allowed)
-    (cases_eq k n)
-
-length-present : {X : Type 0} (xs : List (Option X)) → length (present xs) ≤ length xs
-length-present [] = omega arith
-length-present (None ∷ xs) = omega (arith, length-present xs)
-length-present (Some x ∷ xs) = omega (arith, length-present xs)
-
--- a vertex has at most six neighbours
-pub visited_around : (g : Grid) (over : Ground) (visits : List Visit) (v w : ℕ) → VisitedBelow g over visits v 6 → AreLinked g.size (Allows g over) v w → WasVisited visits w
+-- where the six steps from a vertex lead to visited ones, all that the ground links to it was visited
+pub visited_around : (g : Grid) (over : Ground) (visits : List Visit) (v w : ℕ) → VisitedBelow g over visits (steps g.size v) 6 → AreLinked g.size (Allows g over) v w → WasVisited visits w
 visited_around g over visits v w passed link =
-    let to : Vertex = record { 0 = w } in
-    let found : Contains (neighbours g.size v) (to, link.piece) = connects_neighbour g.size link.piece v to link.connects in
-    passed found.0 to link.piece (omega (arith, found.1, length-present (steps g.size v)))
-    (slice_get_read (neighbours g.size v) (length (neighbours g.size v)) found.0 (to, link.piece) refl found.1 (sym found.2)) link.in_set
+    let step = connects_step g.size link.piece v w link.connects in
+    passed step.0 (record { 0 = w }) link.piece step.1 step.2 link.in_set
 
 -- where all that is linked to a visit was visited, all that a walk leads to from a visited vertex was
 pub visited_all : (g : Grid) (over : Ground) (visits : List Visit) (from to : ℕ) → WasVisited visits from → ((place : ℕ) → place < length visits → IsVisitedAround g over visits place) → Reaches g over from to → WasVisited visits to

@@ -1,14 +1,12 @@
--- The input that the words name, and the design that it is.
-use Rattle.std.specs.Prelude.{◌≡◌, ◌≤◌, ℕ, List, length, Some, Ok}
+-- The input that the words name, and what is asked of the nets of its design.
+use Rattle.std.specs.Prelude.{◌≡◌, ◌≤◌, ℕ, List, length, Some}
 use Rattle.std.specs.declared.string.String.{String}
 use Rattle.gr_desk.specs.Told.{Told}
-use Rattle.grid_graph.specs.declared.design.Design.{Design}
 use Rattle.grid_graph.specs.declared.grid.Grid.{Grid}
 use Rattle.grid_graph.specs.declared.ground.Ground.TheVariants.{WithChoked}
 use Rattle.grid_graph.specs.declared.net_spec.NetSpec.{NetSpec}
 use Rattle.grid_graph.specs.Grounds.{JoinsTerminals}
 use Rattle.grid_graph.specs.Lists.{At}
-use Rattle.ispd_reader.specs.Designs.{Contents, contents_of, IsDesignOf}
 use Rattle.router_cli.specs.Words.{IsRouteCommand}
 
 -- the words name an input, and the desk tells these bytes under its name
@@ -17,15 +15,9 @@ pub record IsInput {Z : Type 0} (words : List (String Z)) (told : Told) (bytes :
   pub command : IsRouteCommand words name
   pub under_name : told.files name ≡ Some bytes
 
--- the text names this design
-pub record IsDesignOfText (text : List ℕ) (d : Design) : Type 0 where
-  pub contents : Contents
-  pub read : contents_of text ≡ Ok contents
-  pub says : IsDesignOf d contents
-
 -- no net has more than two terminals: nets with more are not routed yet
-abbrev pub AreSmall : List NetSpec → Type 0
-AreSmall nets = (k : ℕ) (n : NetSpec) → At nets k n → length n.terminals ≤ 2
+abbrev pub HaveAtMostTwoTerminals : List NetSpec → Type 0
+HaveAtMostTwoTerminals nets = (k : ℕ) (n : NetSpec) → At nets k n → length n.terminals ≤ 2
 
 -- open and choked edges with vias join every net's terminals
 abbrev pub AreReachable : Grid → List NetSpec → Type 0

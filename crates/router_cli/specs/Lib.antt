@@ -10,8 +10,8 @@ pub use Rattle.tree_set.specs.Measures
 pub use Rattle.tree_set.specs.Order
 pub use Rattle.tree_set.specs.Routings
 pub use Rattle.route_text.specs.RouteText
-pub use Rattle.route_text.specs.Written
 pub use Rattle.route_text.specs.Blocks
+pub use Rattle.route_text.specs.ReadBack
 pub mod Words
 pub mod Inputs
 pub mod Unwired

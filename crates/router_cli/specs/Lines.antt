@@ -14,6 +14,10 @@ fields numbers = flat_map (λ n. codes " " ++ decimal n) numbers
 abbrev pub line : List ℕ → List ℕ → List ℕ
 line word numbers = word ++ fields numbers ++ codes "\n"
 
+-- the lines of the overflow and the wirelength
+abbrev pub measure_lines : ℕ → ℕ → List ℕ
+measure_lines overflow wirelength = line (codes "overflow") (overflow ∷ []) ++ line (codes "wirelength") (wirelength ∷ [])
+
 -- what the report says of a text that is no design
 abbrev pub fault_line : InputFault → List ℕ
 fault_line (Syntax at wanted) = codes "refused 3 11" ++ fields (at ∷ []) ++ codes " " ++ spelling wanted ++ codes "\n"

@@ -5,10 +5,10 @@ use Rattle.gr_desk.specs.Causes.{Rose}
 use Rattle.gr_desk.specs.Told.{Told}
 use Rattle.grid_graph.specs.declared.design.Design.{Design}
 use Rattle.grid_graph.specs.Grounds.{IsFirstCutOff}
-use Rattle.ispd_reader.specs.Designs.{contents_of}
+use Rattle.ispd_reader.specs.Designs.{contents_of, IsDesignOfText}
 use Rattle.router_cli.specs.declared.refusal.Refusal.{Refusal}
 use Rattle.router_cli.specs.declared.refusal.Refusal.TheVariants.{NoCommand, Unbuilt, Input, Unreachable, Unread, NoMemory}
-use Rattle.router_cli.specs.Inputs.{IsInput, IsDesignOfText, AreSmall}
+use Rattle.router_cli.specs.Inputs.{IsInput, HaveAtMostTwoTerminals}
 use Rattle.router_cli.specs.Words.{IsNoCommand}
 
 -- the status of a refusal
@@ -24,14 +24,14 @@ status_of NoMemory = 8
 pub record IsCutOffText (text : List ℕ) (id terminal : ℕ) : Type 0 where
   pub design : Design
   pub named : IsDesignOfText text design
-  pub small : AreSmall design.nets
+  pub small : HaveAtMostTwoTerminals design.nets
   pub first : IsFirstCutOff design.grid design.nets id terminal
 
 -- the text names a design with a net of more than two terminals
 pub record IsUnbuiltText (text : List ℕ) : Type 0 where
   pub design : Design
   pub named : IsDesignOfText text design
-  pub large : ¬ AreSmall design.nets
+  pub large : ¬ HaveAtMostTwoTerminals design.nets
 
 -- the text is refused for this; the other refusals are not for what a text says
 abbrev pub IsRefusedFor : List ℕ → Refusal → Type 0

@@ -9,7 +9,7 @@
 //! // wirelength 2
 //! ```
 //!
-//! It stands on `ispd_reader` for the design, `grid_graph` for the nets' grounds, `tree_set` for routes and their
+//! It stands on `ispd_reader` for the design, `grid_base` and `grid_graph` for pieces and the nets' grounds, `tree_set` for routes and their
 //! measures, `route_text` for their text, `gr_desk` to read from and write to, and `itoa`.
 //!
 //! Promised, in the words of `specs/Promise.antt`: where the status is 0, the report has the route

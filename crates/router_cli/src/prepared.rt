@@ -6,10 +6,10 @@ ghost use Rattle.gr_desk.specs.Calls.{IsOrderlyOpen};
 ghost use Rattle.grid_graph.specs.declared.net_spec.NetSpec.{NetSpec};
 ghost use Rattle.grid_graph.specs.Lists.{At};
 ghost use Rattle.ispd_reader.specs.declared.input_fault.InputFault.{InputFault};
-ghost use Rattle.ispd_reader.specs.Designs.{contents_of};
+ghost use Rattle.ispd_reader.specs.Designs.{contents_of, IsDesignOfText};
 ghost use Rattle.router_cli.specs.declared.refusal.Refusal.{Refusal};
 ghost use Rattle.router_cli.specs.Words.{IsRouteCommand, IsNoCommand};
-ghost use Rattle.router_cli.specs.Inputs.{IsInput, IsDesignOfText, AreSmall};
+ghost use Rattle.router_cli.specs.Inputs.{IsInput, HaveAtMostTwoTerminals};
 ghost use Rattle.router_cli.specs.Measured.{IsRouted};
 ghost use Rattle.router_cli.specs.Refusals.{IsRefusedFor, IsInputRefused, IsTextRefusal, InputFailed};
 ghost use Rattle.router_cli.specs.Promise.{ExpectsWords};
@@ -21,12 +21,9 @@ use crate::routes::route_nets;
 use crate::words::route_name;
 use gr_desk::{Desk, Port, read_port};
 use grid_graph::{Design, NetSpec};
-use ispd_reader::read_design;
+use ispd_reader::{MAX_BYTES, read_design};
 use std::alloc::Global;
 use tree_set::measure_of;
-
-/// The most bytes that an input has.
-const MAX_BYTES: u64 = 1 << 30;
 
 /// Reads the input that the words name, and routes it.
 pub fn prepare<D: Desk>(
@@ -37,7 +34,7 @@ pub fn prepare<D: Desk>(
     ensures routed { IfOk result IsRouted }
     ensures named { IfOk result (λ r. (bytes : List ℕ)
         → IsInput words.now.items (D.told desk.old) bytes → IsDesignOfText bytes r.design) }
-    ensures small { IfOk result (λ r. AreSmall r.design.nets) }
+    ensures small { IfOk result (λ r. HaveAtMostTwoTerminals r.design.nets) }
     ensures reads { OnlyReads (ExpectsWords words.now.items (D.told desk.old)) (D.told desk.old) (D.told desk.new) }
     ensures no_command { IsErrOf result Refusal.NoCommand ↔ IsNoCommand words.now.items }
     ensures command { result ≢ Err Refusal.NoCommand → (name : List ℕ) × IsRouteCommand words.now.items name }
@@ -53,7 +50,7 @@ pub fn prepare<D: Desk>(
     route_bytes(alloc, bytes.as_slice())
 }
 
-// All that is under the name.
+/// All that is under the name.
 fn read_input<D: Desk>(alloc: Global, desk: &mut D, name: &str) -> Result<Vec<u8>, Refusal>
     ensures bytes { IfOk result (λ v. (bytes : List ℕ) → (D.told desk.old).files name.now ≡ Some bytes → v.items ≡ bytes) }
     ensures reads { OnlyReads (IsOrderlyOpen (D.told desk.old) In name.now) (D.told desk.old) (D.told desk.new) }
@@ -66,20 +63,20 @@ fn read_input<D: Desk>(alloc: Global, desk: &mut D, name: &str) -> Result<Vec<u8
     if desk.open(Port::In, name).is_err() {
         return Err(Refusal::Unread);
     }
-    Ok(read_port(alloc, desk, Port::In, MAX_BYTES)?)
+    Ok(read_port(alloc, desk, Port::In, MAX_BYTES as u64)?)
 }
 
-// The design that the bytes name, with its routes.
+/// The design that the bytes name, with its routes.
 fn route_bytes(alloc: Global, bytes: &[u8]) -> Result<RoutedDesign, Refusal>
     ensures routed { IfOk result IsRouted }
     ensures named { IfOk result (λ r. IsDesignOfText bytes.now r.design) }
-    ensures small { IfOk result (λ r. AreSmall r.design.nets) }
+    ensures small { IfOk result (λ r. HaveAtMostTwoTerminals r.design.nets) }
     ensures command { result ≢ Err Refusal.NoCommand }
     ensures refused { (r : Refusal) → IsErrOf result r → IsTextRefusal r → IsRefusedFor bytes.now r }
     ensures read { result ≢ Err Refusal.Unread }
 {
     let design = read_design(alloc, bytes)?;
-    if !are_small(design.nets.list()) {
+    if !have_at_most_two_terminals(design.nets.list()) {
         return Err(Refusal::Unbuilt);
     }
     let grounds = design.grounds()?;
@@ -92,9 +89,9 @@ fn route_bytes(alloc: Global, bytes: &[u8]) -> Result<RoutedDesign, Refusal>
     })
 }
 
-// Whether no net has more than two terminals.
-fn are_small(nets: &[NetSpec]) -> bool
-    ensures { IsTrue result ↔ AreSmall nets.now }
+/// Whether no net has more than two terminals.
+fn have_at_most_two_terminals(nets: &[NetSpec]) -> bool
+    ensures { IsTrue result ↔ HaveAtMostTwoTerminals nets.now }
 {
     for net in nets {
         if net.terminals.list().len() > 2 {

@@ -1,10 +1,10 @@
 //! The report of a routed design.
 
-ghost use Rattle.std.specs.Prelude.{◌≡◌, ◌∷◌, [], ◌++◌, codes, length, All};
+ghost use Rattle.std.specs.Prelude.{◌≡◌, length, All};
 ghost use Rattle.gr_desk.specs.declared.port.Port.TheVariants.{Report};
 ghost use Rattle.gr_desk.specs.Pens.{Ends};
 ghost use Rattle.tree_set.specs.Routings.{ArePieces};
-ghost use Rattle.router_cli.specs.Lines.{line};
+ghost use Rattle.router_cli.specs.Lines.{measure_lines};
 ghost use Rattle.router_cli.specs.Promise.{report_of};
 ghost use Rattle.router_cli.specs.Measured.{IsMeasured};
 
@@ -25,9 +25,9 @@ pub fn write_report<D: Desk>(desk: &mut D, routed: &RoutedDesign) -> Result<(), 
     write_measure(desk, &routed.measure)
 }
 
-// Writes the overflow and the wirelength.
+/// Writes the overflow and the wirelength.
 fn write_measure<D: Desk>(desk: &mut D, measure: &Measure) -> Result<(), Failed>
-    ensures { Ends (D.told desk.old) (D.told desk.new) Report (line (codes "overflow") (measure.now.overflow ∷ []) ++ line (codes "wirelength") (measure.now.wirelength ∷ [])) result }
+    ensures { Ends (D.told desk.old) (D.told desk.new) Report (measure_lines measure.now.overflow measure.now.wirelength) result }
 {
     let mut pen = Pen::new(desk, Port::Report);
     put_line(&mut pen, b"overflow", &[measure.overflow]);

@@ -4,7 +4,7 @@ ghost use Rattle.std.specs.Prelude.{◌≡◌, IfOk, length, All};
 ghost use Rattle.grid_graph.specs.Grounds.{AreGrounds};
 ghost use Rattle.tree_set.specs.Order.{IsRising};
 ghost use Rattle.tree_set.specs.Routings.{ArePieces, IsRouting};
-ghost use Rattle.router_cli.specs.Inputs.{AreSmall};
+ghost use Rattle.router_cli.specs.Inputs.{HaveAtMostTwoTerminals};
 ghost use Rattle.router_cli.specs.Unwired.{LeavesUnwired};
 
 use crate::walker::Walker;
@@ -15,7 +15,7 @@ use tree_set::Tree;
 
 /// A tree for each net, in file order: a breadth-first walk between two terminals in the net's ground.
 pub fn route_nets(alloc: Global, design: &Design, grounds: &[Ground]) -> Result<Vec<Tree>, NoMemory>
-    requires small { AreSmall design.now.nets }
+    requires small { HaveAtMostTwoTerminals design.now.nets }
     requires grounds { AreGrounds design.now.grid design.now.nets grounds.now }
     ensures sets { IfOk result (λ trees. All IsRising trees.items) }
     ensures pieces { IfOk result (λ trees. All (ArePieces design.now.grid.size) trees.items) }

@@ -5,12 +5,16 @@
 use crate::run;
 use gr_desk::{CallKind, Desk, Fail as FailedCall, MemDesk, Port};
 use std::alloc::{AllocError, Global};
+use std::process::Abort;
 use std::test::Fail;
 
 /// One net of two pins in a row of three tiles, of 144 bytes. The capacities stand at 29 and 51, the count of nets at
 /// 119, the net's count of pins at 125, its pins at 129 and 135, and the count of adjustments at 142.
 const ROW: &[u8] =
     b"grid 3 1 1\nvertical capacity 0\nhorizontal capacity 4\nminimum width 1\nminimum spacing 1\nvia spacing 1\n0 0 10 10\nnum net 1\na 0 2 1\n5 5 1\n25 5 1\n0\n";
+
+/// The words that route it.
+const ROUTE: &[&str] = &["route", "a.gr"];
 
 /// What is reported of it.
 const ROW_REPORT: &str = "a 0\n(5,5,1)-(25,5,1)\n!\noverflow 0\nwirelength 2\n";
@@ -31,9 +35,34 @@ const STACK: &str =
 const SQUARE: &str =
     "grid 2 2 1\nvertical capacity 2\nhorizontal capacity 2\nminimum width 1\nminimum spacing 1\nvia spacing 1\n0 0 10 10\nnum net 1\na 0 2 1\n5 5 1\n15 5 1\n1\n0 0 1 1 0 1 0\n";
 
+/// Three rows and columns, of which the edges from (15,5) to (5,5) and to (15,15) are choked: the first two nets go round
+/// both, there and back.
+const ROUND: &str =
+    "grid 3 3 1\nvertical capacity 4\nhorizontal capacity 4\nminimum width 1\nminimum spacing 1\nvia spacing 1\n0 0 10 10\nnum net 4\na 0 2 1\n5 5 1\n25 5 1\nb 1 2 1\n25 5 1\n5 5 1\nc 2 2 1\n25 25 1\n5 25 1\nd 3 2 1\n15 5 1\n25 5 1\n2\n0 0 1 1 0 1 0\n1 0 1 1 1 1 0\n";
+
+/// The same with both edges of the tile at (5,5) choked: the first and the last net are forced, and the one between them
+/// is not.
+const FORCED: &str =
+    "grid 3 3 1\nvertical capacity 4\nhorizontal capacity 4\nminimum width 1\nminimum spacing 1\nvia spacing 1\n0 0 10 10\nnum net 3\na 0 2 1\n5 5 1\n25 5 1\nb 1 2 1\n5 15 1\n15 5 1\nc 2 2 1\n5 15 1\n5 5 1\n2\n0 0 1 1 0 1 0\n0 0 1 0 1 1 0\n";
+
 /// Three rows and columns on two layers, of which each has edges in one direction.
 const LAYERED: &[u8] =
     b"grid 3 3 2\nvertical capacity 0 10\nhorizontal capacity 10 0\nminimum width 1 1\nminimum spacing 1 1\nvia spacing 1 1\n10 10 10 10\n\nnum net 1\na 0 2 1\n15 15 1\n35 35 1\n0\n";
+
+/// Forty columns and thirty rows on two layers, of which each has edges in one direction, up to the count of nets.
+const WIDE: &[u8] =
+    b"grid 40 30 2\nvertical capacity 0 8\nhorizontal capacity 8 0\nminimum width 1 1\nminimum spacing 1 1\nvia spacing 1 1\n0 0 10 10\nnum net ";
+
+/// The wide grid with this many nets, each from one corner to a tile of the upper layer.
+fn with_nets(alloc: Global, count: u32) -> Result<Vec<u8>, AllocError> {
+    let mut text = Vec::from_slice(alloc, WIDE)?;
+    text.extend_from_slice(count.to_string(alloc)?.as_bytes())?;
+    for k in 0..count {
+        let (x, y) = (k % 40 * 10 + 5, k / 40 % 30 * 10 + 5);
+        text.extend_from_slice(format!(in alloc; "\nn {k} 2 1 5 5 1 {x} {y} 2")?.as_bytes())?;
+    }
+    Ok(text)
+}
 
 /// A text with the bytes between two places replaced.
 fn edited(
@@ -58,13 +87,31 @@ fn desk_of(alloc: Global, text: Vec<u8>, failing: Vec<FailedCall>) -> Result<Mem
     Ok(MemDesk::expecting(alloc, files, failing, names))
 }
 
-/// The status of a run.
-fn status_of(alloc: Global, words: &[&str], desk: &mut MemDesk) -> Result<u8, AllocError> {
+/// What a run leaves: its status, and the desk with the text.
+fn after_run(
+    alloc: Global,
+    words: &[&str],
+    text: Vec<u8>,
+    failing: Vec<FailedCall>,
+) -> Result<(u8, MemDesk), AllocError> {
     let mut all = Vec::new(alloc);
     for word in words {
         all.push(String::from_str(alloc, word)?)?;
     }
-    Ok(run(alloc, &all, desk))
+    let mut desk = desk_of(alloc, text, failing)?;
+    let status = run(alloc, &all, &mut desk);
+    Ok((status, desk))
+}
+
+/// Compares the status of a run and what it reported with what is wanted.
+fn expect(rt: &impl Abort, ran: (u8, MemDesk), want: (u8, &str), row: &str) {
+    let (status, desk) = ran;
+    assert_eq!(rt; status, want.0, "in the row {row:?}");
+    assert_eq!(rt;
+        desk.written(Port::Report),
+        want.1.as_bytes(),
+        "in the row {row:?}"
+    );
 }
 
 #[test]
@@ -72,7 +119,7 @@ fn a_design_is_reported(rt: HostRuntime) -> Result<(), Fail> {
     let alloc = rt.alloc();
     let alone = "a 0\n!\noverflow 0\nwirelength 0\n";
     let over_two = "a 0\n(5,5,1)-(25,5,1)\n!\noverflow 2\nwirelength 2\n";
-    let cases: [(usize, usize, &str, &str); 16] = [
+    let cases: [(usize, usize, &str, &str); 18] = [
         (0, 0, "", ROW_REPORT),
         (29, 30, "4", ROW_REPORT),
         (29, 52, "4\nhorizontal capacity 1", over_two),
@@ -109,35 +156,51 @@ fn a_design_is_reported(rt: HostRuntime) -> Result<(), Fail> {
             SQUARE,
             "a 0\n(5,15,1)-(15,15,1)\n(5,5,1)-(5,15,1)\n(15,5,1)-(15,15,1)\n!\noverflow 0\nwirelength 3\n",
         ),
+        (
+            0,
+            144,
+            ROUND,
+            "a 0\n(5,15,1)-(25,15,1)\n(5,5,1)-(5,15,1)\n(25,5,1)-(25,15,1)\n!\nb 1\n(5,15,1)-(25,15,1)\n(5,5,1)-(5,15,1)\n(25,5,1)-(25,15,1)\n!\nc 2\n(5,25,1)-(25,25,1)\n!\nd 3\n(15,5,1)-(25,5,1)\n!\noverflow 0\nwirelength 11\n",
+        ),
+        (
+            0,
+            144,
+            FORCED,
+            "a 0\n(5,5,1)-(25,5,1)\n!\nb 1\n(5,15,1)-(15,15,1)\n(15,5,1)-(15,15,1)\n!\nc 2\n(5,5,1)-(5,15,1)\n!\noverflow 4\nwirelength 5\n",
+        ),
     ];
     for (from, to, by, report) in cases {
         let text = edited(alloc, ROW, from, to, by)?;
-        let mut desk = desk_of(alloc, text, Vec::new(alloc))?;
-        assert_eq!(rt;
-            status_of(alloc, &["route", "a.gr"], &mut desk)?,
-            0,
-            "with {by:?}"
-        );
-        assert_eq!(rt;
-            desk.written(Port::Report),
-            report.as_bytes(),
-            "with {by:?}"
-        );
+        let ran = after_run(alloc, ROUTE, text, Vec::new(alloc))?;
+        expect(&rt, ran, (0, report), by);
     }
     Ok(())
 }
 
-// No edge leads along y on the first layer, so the net takes two edges along x there, two along y on the second layer,
-// and a via up and one down; in which column it climbs is left to the walk.
+/// No edge leads along y on the first layer, so the net takes two edges along x there, two along y on the second layer,
+/// and a via up and one down; in which column it climbs is left to the walk.
 #[test]
 fn a_net_climbs_to_the_layer_of_its_direction(rt: HostRuntime) -> Result<(), Fail> {
     let alloc = rt.alloc();
     let text = edited(alloc, LAYERED, 0, 0, "")?;
-    let mut desk = desk_of(alloc, text, Vec::new(alloc))?;
-    assert_eq!(rt; status_of(alloc, &["route", "a.gr"], &mut desk)?, 0);
+    let (status, desk) = after_run(alloc, ROUTE, text, Vec::new(alloc))?;
+    assert_eq!(rt; status, 0);
     let report = desk.written(Port::Report);
     assert!(rt; report.starts_with(b"a 0\n"));
     assert!(rt; report.ends_with(b"!\noverflow 0\nwirelength 6\n"));
+    Ok(())
+}
+
+/// Memory suffices for more than the small designs too.
+#[test]
+fn a_design_of_a_thousand_nets_is_reported(rt: HostRuntime) -> Result<(), Fail> {
+    let alloc = rt.alloc();
+    let (status, desk) = after_run(alloc, ROUTE, with_nets(alloc, 1000)?, Vec::new(alloc))?;
+    assert_eq!(rt; status, 0);
+    assert!(rt;
+        desk.written(Port::Report)
+            .starts_with(b"n 0\n(5,5,1)-(5,5,2)\n!\nn 1\n")
+    );
     Ok(())
 }
 
@@ -207,17 +270,8 @@ fn a_design_is_refused(rt: HostRuntime) -> Result<(), Fail> {
     ];
     for (whole, from, by, status, report) in cases {
         let text = edited(alloc, whole, from, whole.len(), by)?;
-        let mut desk = desk_of(alloc, text, Vec::new(alloc))?;
-        assert_eq!(rt;
-            status_of(alloc, &["route", "a.gr"], &mut desk)?,
-            status,
-            "with {by:?}"
-        );
-        assert_eq!(rt;
-            desk.written(Port::Report),
-            report.as_bytes(),
-            "with {by:?}"
-        );
+        let ran = after_run(alloc, ROUTE, text, Vec::new(alloc))?;
+        expect(&rt, ran, (status, report), by);
     }
     Ok(())
 }
@@ -237,45 +291,31 @@ fn words_are_refused(rt: HostRuntime) -> Result<(), Fail> {
     ];
     for (words, status, report) in cases {
         let text = edited(alloc, ROW, 0, 0, "")?;
-        let mut desk = desk_of(alloc, text, Vec::new(alloc))?;
-        assert_eq!(rt;
-            status_of(alloc, words, &mut desk)?,
-            status,
-            "with {words:?}"
-        );
-        assert_eq!(rt;
-            desk.written(Port::Report),
-            report.as_bytes(),
-            "with {words:?}"
-        );
+        let row = words.last().copied().unwrap_or("");
+        let ran = after_run(alloc, words, text, Vec::new(alloc))?;
+        expect(&rt, ran, (status, report), row);
     }
     Ok(())
 }
 
-// A refusal that can't be written keeps its status.
+/// A refusal that can't be written keeps its status.
 #[test]
 fn a_call_that_fails_has_its_status(rt: HostRuntime) -> Result<(), Fail> {
     let alloc = rt.alloc();
-    let route: &[&str] = &["route", "a.gr"];
     let cases: [(&[&str], &str, Port, CallKind, u8, &str); 6] = [
-        (route, "4", Port::In, CallKind::Open, 6, "refused 6\n"),
-        (route, "4", Port::In, CallKind::Read, 6, "refused 6\n"),
-        (route, "4", Port::Report, CallKind::Write, 7, ""),
+        (ROUTE, "4", Port::In, CallKind::Open, 6, "refused 6\n"),
+        (ROUTE, "4", Port::In, CallKind::Read, 6, "refused 6\n"),
+        (ROUTE, "4", Port::Report, CallKind::Write, 7, ""),
         (&["route"], "4", Port::Report, CallKind::Write, 2, ""),
-        (route, "-1", Port::Report, CallKind::Write, 3, ""),
-        (route, "0", Port::Report, CallKind::Write, 5, ""),
+        (ROUTE, "-1", Port::Report, CallKind::Write, 3, ""),
+        (ROUTE, "0", Port::Report, CallKind::Write, 5, ""),
     ];
     for (words, horizontal, port, call, status, report) in cases {
         let mut failing = Vec::new(alloc);
         failing.push(FailedCall { port, call, nth: 0 })?;
         let text = edited(alloc, ROW, 51, 52, horizontal)?;
-        let mut desk = desk_of(alloc, text, failing)?;
-        assert_eq!(rt; status_of(alloc, words, &mut desk)?, status, "for {status}");
-        assert_eq!(rt;
-            desk.written(Port::Report),
-            report.as_bytes(),
-            "for {status}"
-        );
+        let ran = after_run(alloc, words, text, failing)?;
+        expect(&rt, ran, (status, report), horizontal);
     }
     Ok(())
 }
@@ -284,8 +324,8 @@ fn a_call_that_fails_has_its_status(rt: HostRuntime) -> Result<(), Fail> {
 fn the_run_opens_what_the_words_name_and_nothing_else(rt: HostRuntime) -> Result<(), Fail> {
     let alloc = rt.alloc();
     let text = edited(alloc, ROW, 0, 0, "")?;
-    let mut desk = desk_of(alloc, text, Vec::new(alloc))?;
-    assert_eq!(rt; status_of(alloc, &["route", "a.gr"], &mut desk)?, 0);
+    let (status, mut desk) = after_run(alloc, ROUTE, text, Vec::new(alloc))?;
+    assert_eq!(rt; status, 0);
     assert!(rt; !desk.strayed());
     assert_eq!(rt; desk.starved(), 0);
     let _ = desk.open(Port::In, "b.gr");

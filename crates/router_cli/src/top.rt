@@ -5,13 +5,14 @@ ghost use Rattle.gr_desk.specs.declared.port.Port.{Port};
 ghost use Rattle.gr_desk.specs.declared.port.Port.TheVariants.{In, Report};
 ghost use Rattle.gr_desk.specs.Runs.{Adds};
 ghost use Rattle.grid_graph.specs.declared.design.Design.{Design};
+ghost use Rattle.ispd_reader.specs.Designs.{IsDesignOfText};
 ghost use Rattle.router_cli.specs.declared.refusal.Refusal.{Refusal};
 ghost use Rattle.router_cli.specs.Words.{IsRouteCommand, IsNoCommand};
-ghost use Rattle.router_cli.specs.Inputs.{IsInput, IsDesignOfText, AreSmall, AreReachable};
+ghost use Rattle.router_cli.specs.Inputs.{IsInput, HaveAtMostTwoTerminals, AreReachable};
 ghost use Rattle.router_cli.specs.Lines.{lines_of};
 ghost use Rattle.router_cli.specs.Measured.{IsRouted};
 ghost use Rattle.router_cli.specs.Refusals.{IsRefusedFor, InputFailed, OutputFailed, status_of};
-ghost use Rattle.router_cli.specs.Promise.{IsReport, IsRefused, Says, ReportGains, ExpectsWords, report_of};
+ghost use Rattle.router_cli.specs.Promise.{IsReport, IsRefused, ReportsRefusal, ReportGains, ExpectsWords, report_of};
 
 use crate::lines::write_refusal;
 use crate::prepared::prepare;
@@ -24,14 +25,14 @@ use std::alloc::Global;
 /// All that the program does. `words` are the arguments without the program's name, and the answer
 /// is the status that the program ends with.
 ///
-/// | Status | Says |
+/// | Status | ReportsRefusal |
 /// |---|---|
 /// | 0 | the report has a route for each net, their overflow and their wirelength |
 /// | 2 | the words are no command |
 /// | 3 | the input is no design, or has a net of more than two terminals |
 /// | 5 | a net is unreachable |
 /// | 6 | the input could not be opened or read |
-/// | 7 | the report could not be written whole |
+/// | 7 | a write to the report failed |
 /// | 8 | want of memory, before a report was begun |
 pub fn run<D: Desk>(alloc: Global, words: &Vec<String>, desk: &mut D) -> u8
     // Status 0: the report has gained the route text of one set of pieces per net that joins the net's terminals in the
@@ -54,13 +55,13 @@ pub fn run<D: Desk>(alloc: Global, words: &Vec<String>, desk: &mut D) -> u8
         → IsInput words.now.items (D.told desk.old) bytes
         → IsRefusedFor bytes r
         → ¬ InputFailed (D.told desk.old) (D.told desk.new)
-        → ((result ≡ status_of r) × Says (D.told desk.old) (D.told desk.new) r) ⊎ (result ≡ 8) }
+        → ((result ≡ status_of r) × ReportsRefusal (D.told desk.old) (D.told desk.new) r) ⊎ (result ≡ 8) }
     // Where the words are a command, the input is a design whose nets have at most two terminals and are reachable, and
     // no call of the desk failed, only want of memory keeps the run from its report.
     ensures complete { (bytes : List ℕ) (d : Design)
         → IsInput words.now.items (D.told desk.old) bytes
         → IsDesignOfText bytes d
-        → AreSmall d.nets
+        → HaveAtMostTwoTerminals d.nets
         → AreReachable d.grid d.nets
         → ¬ InputFailed (D.told desk.old) (D.told desk.new)
         → ¬ OutputFailed (D.told desk.old) (D.told desk.new)
@@ -98,11 +99,12 @@ pub fn run<D: Desk>(alloc: Global, words: &Vec<String>, desk: &mut D) -> u8
     }
 }
 
-// Writes the report, and answers the status.
+/// Writes the report, and answers the status.
 fn report<D: Desk>(desk: &mut D, routed: &RoutedDesign) -> u8
     requires { IsRouted routed.now }
     ensures whole { result ≡ 0 → Adds (D.told desk.old) (D.told desk.new) Report (report_of routed.now.design routed.now.trees.items) }
-    ensures part { result ≡ 7 → (n : ℕ) × Adds (D.told desk.old) (D.told desk.new) Report (take n (report_of routed.now.design routed.now.trees.items)) }
+    ensures part { result ≡ 7 → (n : ℕ)
+        × Adds (D.told desk.old) (D.told desk.new) Report (take n (report_of routed.now.design routed.now.trees.items)) }
     ensures statuses { (result ≡ 0) ⊎ (result ≡ 7) }
     ensures cause { result ≡ 7 → OutputFailed (D.told desk.old) (D.told desk.new) }
     ensures quiet { result ≡ 0 → (D.told desk.new).out_faults ≡ (D.told desk.old).out_faults }
@@ -113,7 +115,7 @@ fn report<D: Desk>(desk: &mut D, routed: &RoutedDesign) -> u8
     }
 }
 
-// Says on the report why the run is refused, and answers the status, which stays where that fails.
+/// ReportsRefusal on the report why the run is refused, and answers the status, which stays where that fails.
 fn refuse<D: Desk>(desk: &mut D, refusal: Refusal) -> u8
     ensures status { result ≡ status_of refusal }
     ensures part { (n : ℕ) × Adds (D.told desk.old) (D.told desk.new) Report (take n (lines_of refusal)) }

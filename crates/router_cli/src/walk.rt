@@ -4,7 +4,7 @@
 //! visit; where it has another number, that of an earlier walk, the visit there is missing or of another vertex. So
 //! nothing has to be cleared between two walks.
 
-ghost use Rattle.std.specs.Prelude.{◌≡◌, ◌≢◌, ◌↔◌, ◌⊎◌, ◌<◌, ℕ, false, length, IfOk, IsTrue};
+ghost use Rattle.std.specs.Prelude.{◌≡◌, ◌≢◌, ◌↔◌, ◌⊎◌, ◌<◌, ℕ, false, [], length, IfOk, IsTrue};
 ghost use Rattle.grid_base.specs.Numbers.{vertices, IsVertex};
 ghost use Rattle.grid_base.specs.Walks.{WalkBetween, InPieces};
 ghost use Rattle.grid_graph.specs.Grids.{Allows};
@@ -31,6 +31,7 @@ pub(crate) fn pieces_between(
     requires joined { Reaches grid.now over from.0 to.0 }
     ensures inside { IfOk result (λ pieces. IsInside grid.now over pieces.items) }
     ensures joins { IfOk result (λ pieces. WalkBetween grid.now.size (InPieces pieces.items) from.0 to.0) }
+    ensures none { from.0 ≡ to.0 → IfOk result (λ pieces. pieces.items ≡ []) }
 {
     let mut pieces = Vec::new(alloc);
     if from == to {
@@ -122,8 +123,8 @@ fn visit_around(
     ensures around { IfOk result (λ met. met ≡ false → IsVisitedAround grid.now over visits.new.items place) }
 {
     let from = visits[place].vertex;
-    for i in 0..6 {
-        if let Some((next, by)) = grid.near(from, i) {
+    for step in &grid.neighbours(from) {
+        if let Some((next, by)) = *step {
             let is_new = visit(grid, over, places, visits, place, next, by)?;
             if is_new && next == to {
                 return Ok(true);
@@ -150,7 +151,8 @@ fn visit(
     ensures kept { IfOk result (λ _. KeepsVisits visits.old.items visits.new.items) }
     ensures passed { IfOk result (λ _. Allows grid.now over by → WasVisited visits.new.items next.0) }
     ensures met { IfOk result (λ is_new. IsTrue is_new → WasMet visits.new.items next.0) }
-    ensures only { IfOk result (λ is_new. (v : ℕ) → WasVisited visits.new.items v → WasVisited visits.old.items v ⊎ (IsTrue is_new × (v ≡ next.0))) }
+    ensures only { IfOk result (λ is_new. (v : ℕ)
+        → WasVisited visits.new.items v → WasVisited visits.old.items v ⊎ (IsTrue is_new × (v ≡ next.0))) }
 {
     if is_visited(places, visits.as_slice(), next) || !grid.allows(over, by) {
         return Ok(false);

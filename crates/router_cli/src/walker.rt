@@ -14,9 +14,6 @@ use grid_graph::{Grid, Ground};
 use std::alloc::Global;
 use tree_set::Tree;
 
-#[cfg(test)]
-mod tests;
-
 /// Walks breadth-first through grids of one size. Its lists are reused from net to net and never cleared, so a walk
 /// takes time for the vertices that it visits alone, whatever the size of the grid.
 #[derive(Drop)]

@@ -3,6 +3,7 @@
 ghost use Rattle.std.specs.Prelude.{◌≡◌, ◌↔◌, ℕ, List, MatchOption, IsTrue};
 ghost use Rattle.router_cli.specs.Words.{IsName, IsRouteCommand, IsNoCommand};
 
+/// Whether a word can be the name of a file.
 fn is_name(word: &str) -> bool
     ensures { IsTrue result ↔ IsName word.now }
 {

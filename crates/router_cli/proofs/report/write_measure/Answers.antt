@@ -1,15 +1,15 @@
-use Rattle.std.proofs.Common.{◌++◌, ◌∷◌, [], codes, rules, subst}
+use Rattle.std.proofs.Common.{rules, subst}
 use Rattle.gr_desk.specs.declared.port.Port.TheVariants.{Report}
 use Rattle.gr_desk.specs.Pens.{Ends, pen_told}
 use Rattle.gr_desk.proofs.Pens.{ends-put, puts-then}
-use Rattle.router_cli.specs.Lines.{line}
+use Rattle.router_cli.specs.Lines.{measure_lines}
 use Rattle.router_cli.proofs.report.write_measure.Goals as goal
 
 pub returns : goal.returns
 returns g c =
     let told = g.D.Desk.told in
     let start = told c.args.desk.now in
-    let text = line (codes "overflow") (c.args.measure.now.overflow ∷ []) ++ line (codes "wirelength") (c.args.measure.now.wirelength ∷ []) in
+    let text = measure_lines c.args.measure.now.overflow c.args.measure.now.wirelength in
     let new = c.new-pen.ensures in
     let puts = puts-then c.put_line.ensures.puts c.put_line-2.ensures.puts in
     let ended : Ends start (told c.finish.new.self.0) Report text c.finish.result =

@@ -10,7 +10,7 @@ use Rattle.grid_graph.specs.Lists.{At}
 use Rattle.grid_graph.proofs.Allowed.{Allows-IsPiece}
 use Rattle.tree_set.specs.Order.{IsRising}
 use Rattle.tree_set.specs.Routings.{ArePieces, IsRoute}
-use Rattle.router_cli.specs.Unwired.{IsBareIfAlone}
+use Rattle.router_cli.specs.Unwired.{IsEmptyIfAlone}
 use Rattle.router_cli.proofs.Routings.{HoldsSoFar-push}
 use Rattle.grid_graph.proofs.Grounds.{ground_joins}
 use Rattle.router_cli.proofs.routes.route_nets.Goals as goal
@@ -51,7 +51,7 @@ loop-k-preserved c =
     let n : NetSpec = get_or c.list-nets.result.now k c.index-nets-k.result in
     let route : IsRoute d.grid n tree =
     record { over = over; is_ground = c.requires.grounds.each k n over net.1 chosen; inside = made.inside; joined = rw c.list.ensures.vertices at made.joins } in
-    let bare : IsBareIfAlone n tree = rw c.list.ensures.vertices at made.none in
+    let bare : IsEmptyIfAlone n tree = rw c.list.ensures.vertices at made.none in
     let this : (m : NetSpec) → At d.nets (length trees) m → n ≡ m = λ m also. same_Some n m (sym net.1 ∙ subst (λ (x : ℕ). At d.nets x m) c.loop-k.invariant.long also) in
     let pieces : ArePieces d.grid.size tree = λ i p short. Allows-IsPiece d.grid over (get_or tree i p) (made.inside i p short) in
     rw c.in_ok-push.ensures.items (record {
@@ -60,5 +60,5 @@ loop-k-preserved c =
       sets = All-push IsRising trees tree c.loop-k.invariant.sets made.set;
       pieces = All-push (ArePieces d.grid.size) trees tree c.loop-k.invariant.pieces pieces;
       routes = HoldsSoFar-push (IsRoute d.grid) d.nets trees tree c.loop-k.invariant.routes (λ m also. subst (λ (x : NetSpec). IsRoute d.grid x tree) (this m also) route);
-      unwired = HoldsSoFar-push IsBareIfAlone d.nets trees tree c.loop-k.invariant.unwired (λ m also. subst (λ (x : NetSpec). IsBareIfAlone x tree) (this m also) bare);
+      unwired = HoldsSoFar-push IsEmptyIfAlone d.nets trees tree c.loop-k.invariant.unwired (λ m also. subst (λ (x : NetSpec). IsEmptyIfAlone x tree) (this m also) bare);
     })

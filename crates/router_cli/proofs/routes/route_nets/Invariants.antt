@@ -2,7 +2,7 @@ use Rattle.std.proofs.Common.{◌≡◌, length, All}
 use Rattle.tree_set.specs.Order.{IsRising}
 use Rattle.router_cli.specs.Walker.{Fits}
 use Rattle.tree_set.specs.Routings.{ArePieces, IsRoute}
-use Rattle.router_cli.specs.Unwired.{IsBareIfAlone}
+use Rattle.router_cli.specs.Unwired.{IsEmptyIfAlone}
 use Rattle.router_cli.proofs.Routings.{HoldsSoFar}
 use Rattle.router_cli.proofs.routes.route_nets.Given as goal
 
@@ -13,5 +13,5 @@ invariant-loop-k l = record {
   sets : All IsRising l.trees.items;
   pieces : All (ArePieces l.design.grid.size) l.trees.items;
   routes : HoldsSoFar (IsRoute l.design.grid) l.design.nets l.trees.items;
-  unwired : HoldsSoFar IsBareIfAlone l.design.nets l.trees.items;
+  unwired : HoldsSoFar IsEmptyIfAlone l.design.nets l.trees.items;
 }

@@ -7,7 +7,7 @@ use Rattle.gr_desk.specs.Told.{Told, PortTold}
 use Rattle.router_cli.specs.declared.refusal.Refusal.TheVariants.{Unread}
 use Rattle.router_cli.specs.Inputs.{IsInput}
 use Rattle.router_cli.specs.Lines.{lines_of}
-use Rattle.router_cli.specs.Promise.{ReportGains, Says, report_of}
+use Rattle.router_cli.specs.Promise.{ReportGains, ReportsRefusal, report_of}
 use Rattle.router_cli.specs.Refusals.{IsRefusedFor, status_of}
 use Rattle.router_cli.proofs.Causes.{routed_reachable, not_refused, refused_once, its_cause, text_or_memory}
 use Rattle.router_cli.proofs.Outcomes.{has_status}
@@ -61,7 +61,7 @@ returns-in-Ok-clause-in_order g c = λ expects. elim c.report.ensures.statuses [
 ]
 
 -- what the run says of a refusal
-said : (g : _) (c : goal.After-refuse g) → Says (g.D.Desk.told c.args.desk.now) (g.D.Desk.told c.refuse.new.desk) c.in-Err.refusal
+said : (g : _) (c : goal.After-refuse g) → ReportsRefusal (g.D.Desk.told c.args.desk.now) (g.D.Desk.told c.refuse.new.desk) c.in-Err.refusal
 said g c =
     let before = g.D.Desk.told c.args.desk.now in
     let between = g.D.Desk.told c.prepare.new.desk in
@@ -103,7 +103,7 @@ pub returns-in-Err-clause-tested : goal.returns-in-Err-clause-tested
 returns-in-Err-clause-tested g c = λ bytes r input refused in_ok. elim (for_text g c bytes input in_ok) [
   | inl for_this ↦
       let same : r ≡ c.in-Err.refusal = refused_once bytes r c.in-Err.refusal refused for_this in
-      inl (c.refuse.ensures.status ∙ ap status_of (sym same), subst (Says (g.D.Desk.told c.args.desk.now) (g.D.Desk.told c.refuse.new.desk)) (sym same) (said g c))
+      inl (c.refuse.ensures.status ∙ ap status_of (sym same), subst (ReportsRefusal (g.D.Desk.told c.args.desk.now) (g.D.Desk.told c.refuse.new.desk)) (sym same) (said g c))
   | inr memory ↦ inr memory
 ]
 

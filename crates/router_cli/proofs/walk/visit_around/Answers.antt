@@ -1,14 +1,16 @@
-use Rattle.std.proofs.Common.{◌≡◌, ℕ, length, slice_get, refl, sym, ◌∙◌, subst, ⊎_elim, arith}
+use Rattle.std.proofs.Common.{◌≡◌, ◌<◌, List, length, Option, None, ap, refl, sym, ◌∙◌, subst, ⊎_elim, arith}
 use Rattle.std.specs.Bool.{IsTrue}
 use Rattle.std.proofs.lemmas.Bool.{eq-eqb, eqb-true}
 use Rattle.std.proofs.lemmas.Option.{same_Some, slice_get_read}
+use Rattle.grid_base.specs.declared.piece.Piece.{Piece}
+use Rattle.grid_base.specs.declared.vertex.Vertex.{Vertex}
 use Rattle.grid_base.specs.Walks.{AreLinked}
 use Rattle.grid_graph.specs.Grids.{Allows}
 use Rattle.grid_graph.specs.Lists.{At}
-use Rattle.grid_graph.specs.Neighbours.{neighbours}
+use Rattle.grid_graph.specs.Neighbours.{LeadsFrom, steps}
 use Rattle.router_cli.specs.declared.visit.Visit.{Visit}
-use Rattle.router_cli.specs.Visits.{WasMet}
-use Rattle.router_cli.proofs.Visits.{VisitedBelow, VisitedBelow-kept, VisitedBelow-more, VisitedBelow-none, visited_around}
+use Rattle.router_cli.specs.Visits.{WasVisited, WasMet}
+use Rattle.router_cli.proofs.Visits.{VisitedBelow, VisitedBelow-kept, VisitedBelow-next, visited_around}
 use Rattle.router_cli.proofs.walk.visit_around.Goals as goal
 use Rattle.router_cli.proofs.walk.visit_around.Goals.{in-Some+in_ok-is_new+else-is_new, else-is_new-via-then-is_new+else-eq, else-is_new-via-else-is_new, in_default}
 
@@ -17,27 +19,32 @@ visit-requires-clause-connects c =
     let visits = c.args.visits.now.items in
     let here : Visit = c.index.result.now in
     let at : At visits c.args.place here = slice_get_read visits (length visits) c.args.place here refl c.requires.place c.index.ensures in
-    record { visit = here; stands = c.loop-i.invariant.kept c.args.place here at; connects = c.in-Some.ensures.connects }
+    let within : c.loop-step.step-index < length c.neighbours.result = omega (arith, ap length c.neighbours.ensures.value, c.loop-step-test.true) in
+    record {
+      visit = here;
+      stands = c.loop-step.invariant.kept c.args.place here at;
+      connects = subst (LeadsFrom c.args.grid.now.size here.vertex.0) c.in-Some.is (c.neighbours.ensures.connects c.loop-step.step-index None within);
+    }
 
 pub returns-then-eq-clause-kept : goal.returns-then-eq-clause-kept
-returns-then-eq-clause-kept c = λ p x at. c.in_ok-is_new.ensures.kept p x (c.loop-i.invariant.kept p x at)
+returns-then-eq-clause-kept c = λ p x at. c.in_ok-is_new.ensures.kept p x (c.loop-step.invariant.kept p x at)
 
 pub returns-then-eq-clause-met : goal.returns-then-eq-clause-met
 returns-then-eq-clause-met c = λ _.
     subst (WasMet c.visit.new.visits.items) (eqb-true c.in-Some.next.0 c.args.to.0 (sym c.if-eq.ensures)) (c.in_ok-is_new.ensures.met c.if-is_new.true)
 
-pub loop-i-preserved : goal.loop-i-preserved
-loop-i-preserved c =
+pub loop-step-preserved : goal.loop-step-preserved
+loop-step-preserved c =
     let g = c.args.grid.now in
     let over = c.args.over in
-    let from : ℕ = c.index.result.now.vertex.0 in
-    let old = c.loop-i.visits.items in
-    let i = c.loop-i.invariant in
-    elim c.match-near.branch [
+    let old = c.loop-step.visits.items in
+    let found = c.neighbours.result in
+    let k = c.loop-step.step-index in
+    let i = c.loop-step.invariant in
+    elim c.match-step.branch [
       | in-Some+in_ok-is_new+else-is_new w ↦
           let after = w.in_ok-is_new.ensures in
           let new = w.visit.new.visits.items in
-          let value : c.near.result ≡ slice_get (neighbours g.size from) c.loop-i.i = c.near.ensures.value in
           let other : IsTrue w.in_ok-is_new.is_new × (c.args.to.0 ≡ w.in-Some.next.0) → ⊥ = λ is.
           elim w.else-is_new.branch [
             | else-is_new-via-then-is_new+else-eq w' ↦
@@ -50,16 +57,15 @@ loop-i-preserved c =
             visits = after.visits;
             kept = λ p x at. after.kept p x (i.kept p x at);
             unmet = λ was. ⊎_elim i.unmet other (after.only c.args.to.0 was);
-            passed = VisitedBelow-more g over new from c.loop-i.i w.in-Some.next w.in-Some.by (sym value ∙ w.in-Some.is) after.passed
-                (VisitedBelow-kept g over old new from c.loop-i.i after.kept i.passed);
+            passed = VisitedBelow-next g over new found k _ w.in-Some.is (λ v p same. subst (λ (x : Vertex × Piece). Allows g over x.1 → WasVisited new x.0.0) (same_Some _ _ same) after.passed)
+                (VisitedBelow-kept g over old new found k after.kept i.passed);
           })
       | in_default w ↦
-          let value : c.near.result ≡ slice_get (neighbours g.size from) c.loop-i.i = c.near.ensures.value in
           rw (w.places-is, w.visits-is) (record {
             visits = i.visits;
             kept = i.kept;
             unmet = i.unmet;
-            passed = VisitedBelow-none g over old from c.loop-i.i (sym value ∙ w.in_default.is) i.passed;
+            passed = VisitedBelow-next g over old found k None w.in_default.is (λ v p same. cc) i.passed;
           })
     ]
 
@@ -69,8 +75,10 @@ returns-clause-around c = λ _ x w at link.
     let visits = c.args.visits.now.items in
     let here : Visit = c.index.result.now in
     let at_here : At visits c.args.place here = slice_get_read visits (length visits) c.args.place here refl c.requires.place c.index.ensures in
-    let same : x ≡ here = same_Some _ _ (sym at ∙ c.loop-i.invariant.kept c.args.place here at_here) in
-    let all : c.loop-i.i ≡ 6 = omega (arith, c.loop-i-test.false) in
-    visited_around g c.args.over c.loop-i.visits.items here.vertex.0 w
-    (subst (VisitedBelow g c.args.over c.loop-i.visits.items here.vertex.0) all c.loop-i.invariant.passed)
+    let same : x ≡ here = same_Some _ _ (sym at ∙ c.loop-step.invariant.kept c.args.place here at_here) in
+    let all : c.loop-step.step-index ≡ 6 = omega arith in
+    let table : c.neighbours.result ≡ steps g.size here.vertex.0 = c.neighbours.ensures.value in
+    visited_around g c.args.over c.loop-step.visits.items here.vertex.0 w
+    (subst (λ (found : List (Option (Vertex × Piece))). VisitedBelow g c.args.over c.loop-step.visits.items found 6) table
+    (subst (VisitedBelow g c.args.over c.loop-step.visits.items c.neighbours.result) all c.loop-step.invariant.passed))
     (subst (λ (y : Visit). AreLinked g.size (Allows g c.args.over) y.vertex.0 w) same link)

@@ -1,9 +1,11 @@
-use Rattle.std.proofs.Common.{get_or, IfOk, Result, Ok, Err, arith}
+use Rattle.std.proofs.Common.{get_or, arith}
 use Rattle.std.proofs.lemmas.List.Elements.{Contains-get_or}
+use Rattle.std.proofs.lemmas.Result.{IfOk-weaker}
 use Rattle.grid_base.specs.declared.vertex.Vertex.{Vertex}
 use Rattle.grid_base.specs.Walks.{WalkBetween, InPieces, JoinsList}
+use Rattle.grid_base.proofs.Joined.{JoinsList-few}
 use Rattle.grid_graph.specs.Grids.{Allows}
-use Rattle.router_cli.proofs.TwoTerminals.{JoinsList-both, JoinsList-few, joined_vertices}
+use Rattle.router_cli.proofs.TwoTerminals.{JoinsList-both, joined_vertices}
 use Rattle.router_cli.proofs.walker.Walker.connect.Goals as goal
 
 pub returns-then-terminals-lt2-clause-joins : goal.returns-then-terminals-lt2-clause-joins
@@ -17,15 +19,11 @@ route-requires-clause-joined c =
     (Contains-get_or terminals 0 none (omega (arith, c.if-terminals-lt2.false)))
     (Contains-get_or terminals 1 none (omega (arith, c.if-terminals-lt2.false)))
 
-IfOk-map : {T E : Type 0} (r : Result T E) (P Q : T → Type 0) → ((x : T) → P x → Q x) → IfOk r P → IfOk r Q
-IfOk-map (Ok x) P Q then is = then x is
-IfOk-map (Err e) P Q then is = tt
-
 pub returns-clause-joins : goal.returns-clause-joins
 returns-clause-joins c =
     let s = c.args.grid.now.size in
     let none : Vertex = record { 0 = 0 } in
     let terminals = c.args.terminals.now in
-    IfOk-map c.route.result (λ tree. WalkBetween s (InPieces tree) (get_or terminals 0 none).0 (get_or terminals 1 none).0) (λ tree. JoinsList s tree terminals)
+    IfOk-weaker c.route.result (λ tree. WalkBetween s (InPieces tree) (get_or terminals 0 none).0 (get_or terminals 1 none).0) (λ tree. JoinsList s tree terminals)
     (λ tree walk. JoinsList-both s tree terminals none (omega (arith, c.requires.few, c.if-terminals-lt2.false)) (joined_vertices c.args.grid.now.size (Allows c.args.grid.now c.args.over) c.args.terminals.now c.requires.joined) walk)
     c.route.ensures.joins
