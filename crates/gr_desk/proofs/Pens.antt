@@ -1,12 +1,12 @@
 -- What is put with a pen in turns, and what is written of it.
 use Rattle.std.proofs.Common.{◌≡◌, ℕ, ◌+◌, ◌<◌, ◌≤◌, true, false, List, [], ◌∷◌, ◌++◌, length, take, drop, get_or, flat_map, refl, sym, ◌∙◌, ap, subst, append_assoc, Ok, Err, arith}
-use Rattle.std.specs.Prelude.{Result, is_err}
+use Rattle.std.specs.Prelude.{Result, OnOk, OnErr, is_err}
 use Rattle.std.proofs.lemmas.List.{append-nil, take-append-drop, take_more, take_all}
 use Rattle.std.proofs.lemmas.Grind.{flat_map-append}
 use Rattle.std.proofs.Math.Seq.{take-append_seam, take-append-add}
 use Rattle.gr_desk.specs.declared.port.Port.{Port}
 use Rattle.gr_desk.specs.Told.{Told}
-use Rattle.gr_desk.specs.Runs.{Adds}
+use Rattle.gr_desk.specs.Runs.{Adds, AddsPart}
 use Rattle.gr_desk.specs.Causes.{Rose}
 use Rattle.gr_desk.proofs.Runs.{adds-refl, adds-then}
 use Rattle.gr_desk.specs.Pens.{PenTold, IsPut, IsHeldBack, IsPartlyPut, Puts, Ends}
@@ -76,6 +76,12 @@ puts-nowhere p q bytes failed still_failed same_port same_told = record {
     λ _. cut_off-more start p q text bytes same_port same_told (put.1 failed),
   );
 }
+
+-- what is written with nothing before it
+pub ends-written_at_once : {T E : Type 0} (start now : Told) (port : Port) (text : List ℕ) (r : Result T E) → OnOk r (Adds start now port text) → OnErr r (AddsPart start now port text)
+    → OnErr r (Rose start.out_faults now.out_faults) → OnOk r (now.out_faults ≡ start.out_faults) → Ends start now port text r
+ends-written_at_once start now port text (Ok x) all part cause quiet = record { all = all; part = tt; cause = tt; quiet = quiet }
+ends-written_at_once start now port text (Err e) all part cause quiet = record { all = tt; part = (part.0, part.2); cause = cause; quiet = tt }
 
 -- what a text that is written behind another one makes of both
 pub ends-behind : {T E : Type 0} (start mid now : Told) (port : Port) (out rest : List ℕ) (r : Result T E) → Adds start mid port out → mid.out_faults ≡ start.out_faults → Ends mid now port rest r → Ends start now port (out ++ rest) r

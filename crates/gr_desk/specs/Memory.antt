@@ -69,7 +69,7 @@ pub record Counts (before after : MemDesk) (port : Port) (kind : CallKind) : Typ
   pub calls : after.calls ≡ slice_set before.calls (call_place port kind) (min (calls_of before port kind + 1) (2 ^ 32))
   pub failing : after.failing ≡ before.failing
 
--- how many calls starved, after one more that failed or not; one that is listed starves of nothing
+-- the count of want of memory after one more call that failed or not; one that is listed wants none
 abbrev pub starved_after : MemDesk → Port → CallKind → Bool → ℕ
 starved_after s port kind failed =
     if failed && not (is_listed s port kind) then min (s.starved + 1) (2 ^ 64 - 1) else s.starved

@@ -1,5 +1,5 @@
 -- The files that a desk over files has open.
-use Rattle.std.specs.Prelude.{◌≡◌, ◌≢◌, ℕ, List, IsSome, IsErr, is_some, Result, OnOk, OnErr, option_and_then}
+use Rattle.std.specs.Prelude.{◌≡◌, ◌≢◌, ℕ, List, IsSomeAnd, IsErr, is_some, Result, OnOk, OnErr, option_and_then}
 use Rattle.std.specs.declared.option.Option.{Option}
 use Rattle.gr_desk.specs.declared.port.Port.{Port}
 use Rattle.gr_desk.specs.declared.port.Port.TheVariants.{In, RoutesIn, CertIn, RoutesOut, CertOut, DesignOut, Report}
@@ -33,9 +33,9 @@ told_at told files port = option_and_then told (file_at files port)
 abbrev pub KeepsOtherFiles : {F : Type 0} → OpenFiles F → OpenFiles F → Port → Type 0
 KeepsOtherFiles before after port = (p : Port) → p ≢ port → file_at after p ≡ file_at before p
 
--- an open or a create: where it is Ok the port has a file, where it failed no file changed, and it fails at the report
-pub record GivesFile {F T E : Type 0} (before after : OpenFiles F) (port : Port) (result : Result T E) : Type 0 where
-  pub ok : OnOk result (IsSome (file_at after port))
+-- an open or a create: where it is Ok the port has a file of that call, where it failed no file changed, and it fails at the report
+pub record GivesFile {F T E : Type 0} (before after : OpenFiles F) (port : Port) (IsOfCall : F → Type 0) (result : Result T E) : Type 0 where
+  pub ok : OnOk result (IsSomeAnd (file_at after port) IsOfCall)
   pub err : OnErr result (after ≡ before)
   pub others : KeepsOtherFiles before after port
   pub report : port ≡ Report → IsErr result

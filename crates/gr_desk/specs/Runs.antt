@@ -1,5 +1,5 @@
 -- What some calls after one another do to what a desk tells: reads at one port, writes at one port.
-use Rattle.std.specs.Prelude.{◌≡◌, ◌≤◌, ℕ, List, length, take, Bool, true, Some}
+use Rattle.std.specs.Prelude.{◌≡◌, ◌<◌, ◌≤◌, ℕ, List, length, take, Bool, true, Some}
 use Rattle.std.specs.declared.option.Option.{Option}
 use Rattle.std.specs.Io.KnownBytes.{Consumes, Appends}
 use Rattle.gr_desk.specs.declared.port.Port.{Port}
@@ -37,6 +37,6 @@ pub record Adds (before after : Told) (port : Port) (bytes : List ℕ) : Type 0 
   pub later : before.out_faults ≤ after.out_faults
   pub still : after.in_faults ≡ before.in_faults
 
--- writes at one port added some part from the front of these bytes
-abbrev pub AddsFront : Told → Told → Port → List ℕ → Type 0
-AddsFront before after port bytes = (n : ℕ) × Adds before after port (take n bytes)
+-- writes at one port added some part from the front of these bytes, and not all of them
+abbrev pub AddsPart : Told → Told → Port → List ℕ → Type 0
+AddsPart before after port bytes = (n : ℕ) × (n < length bytes) × Adds before after port (take n bytes)

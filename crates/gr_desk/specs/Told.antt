@@ -14,7 +14,7 @@ pub record PortTold : Type 0 where
   pub state : Option State
 
 -- what a desk tells: the bytes under each name, each port, whether some call came out of order,
--- and how many opens and reads, and how many creates and writes, failed
+-- and two counts of faults, which rise where an open or a read fails, and where a create or a write does
 pub record Told : Type 0 where
   pub files : List ℕ → Option (List ℕ)
   pub ports : Port → PortTold

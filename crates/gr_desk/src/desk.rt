@@ -10,8 +10,8 @@ use crate::port::Port;
 
 /// Seven ports over some store of named bytes.
 ///
-/// A desk counts its faults, one count for `open` and `read` and one for `create` and `write`; both stand still at
-/// their last value, and a call that is Ok leaves both. What else it tells of itself (the bytes under each name, what
+/// A desk has two counts of faults: one rises where an `open` or a `read` fails, and one where a `create` or a `write`
+/// does. Both stand still at their last value, and a call that is Ok leaves both. What else it tells of itself (the bytes under each name, what
 /// is left to be read, what was written, where to, and whether a call came out of order) it may leave untold, as a desk
 /// over files does.
 pub trait Desk {

@@ -1,11 +1,12 @@
-//! How many calls of a desk failed.
+//! The two counts of a desk that rise where a call fails.
 
 ghost use Rattle.std.specs.Prelude.{◌≡◌, ◌≤◌};
 ghost use Rattle.gr_desk.specs.Causes.{Rose};
 
 use crate::failed::Failed;
 
-/// How many opens and reads failed, and how many creates and writes. Both stand still at their last value.
+/// A count that rises where an open or a read fails, and one where a create or a write does. Each stands still at its
+/// last value, so neither is a number of calls.
 #[derive(Drop)]
 pub(crate) struct FaultCounts {
     in_faults: u64,
@@ -24,7 +25,7 @@ impl FaultCounts {
         }
     }
 
-    /// Counts an open or a read that failed.
+    /// Raises the count of opens and reads.
     pub fn count_in(&mut self) -> Failed
         ensures later { self.old.in_faults ≤ self.new.in_faults }
         ensures rose { Rose self.old.in_faults self.new.in_faults }
@@ -34,7 +35,7 @@ impl FaultCounts {
         Failed
     }
 
-    /// Counts a create or a write that failed.
+    /// Raises the count of creates and writes.
     pub fn count_out(&mut self) -> Failed
         ensures later { self.old.out_faults ≤ self.new.out_faults }
         ensures rose { Rose self.old.out_faults self.new.out_faults }

@@ -82,7 +82,7 @@ impl MemDesk {
         self.slots[port.number()].written.as_slice()
     }
 
-    /// How many calls failed for want of memory.
+    /// A count that rises where a call fails for want of memory.
     pub fn starved(&self) -> u64
         ensures { result ≡ self.now.starved }
     {

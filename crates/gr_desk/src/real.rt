@@ -2,7 +2,7 @@
 
 ghost use Rattle.std.specs.Prelude.{◌≡◌, ◌≢◌, ◌<◌, None, IsNone, IsErr, OnOk, OnErr, IfOk, is_some, length, option_and_then};
 ghost use Rattle.std.specs.Io.{ReadsAtMost, WritesAtMost};
-ghost use Rattle.std.specs.Io.KnownBytes.{ReadConsumes, WriteAppends};
+ghost use Rattle.std.specs.Io.KnownBytes.{Keeps, ReadConsumes, WriteAppends};
 ghost use Rattle.gr_desk.specs.declared.port.Port.TheVariants.{Report};
 ghost use Rattle.gr_desk.specs.Calls.{Opens, Creates, Reads, Writes};
 ghost use Rattle.gr_desk.specs.OpenFiles.{file_at, told_at, GivesFile, KeepsFiles};
@@ -11,20 +11,22 @@ ghost use Rattle.gr_desk.specs.Untold.{untold};
 use crate::desk::Desk;
 use crate::failed::Failed;
 use crate::fault_counts::FaultCounts;
+use crate::file_store::FileStore;
 use crate::open_files::OpenFiles;
 use crate::port::Port;
-use std::io::{Read, Write};
+use std::io;
+use std::io::{Printer, Read, Write};
 use std::rt::Files;
-use std::{fs, io};
 
-/// The desk over files, where `Report` is standard output. It tells nothing of the bytes that it moves.
+/// The desk over the files of a store, with a writer for its report. It tells nothing of the bytes that it moves.
 ///
-/// One file may be open at each port. A `write` that takes nothing of some bytes counts as failed, and so does any call
-/// at a port that has no file.
+/// One file may be open at each port but the report. A `write` that takes nothing of some bytes counts as failed, and
+/// so does any call at a port that has no file.
 #[derive(Drop)]
-pub struct RealDesk<'a, R: Files + Print> {
-    rt: &'a R,
-    files: OpenFiles<R::File>,
+pub struct RealDesk<'a, S: FileStore, W: Write + Drop> {
+    store: &'a S,
+    files: OpenFiles<S::File>,
+    report: W,
     faults: FaultCounts,
 }
 
@@ -54,45 +56,59 @@ fn write_file<F: Write>(file: &mut Option<F>, bytes: &[u8]) -> Result<usize, Fai
 {
     match file {
         None => Err(Failed),
-        Some(file) => taken(file.write(bytes), bytes),
+        Some(file) => write_to(file, bytes),
     }
 }
 
-// What a write took; one that took nothing of some bytes failed.
-fn taken(count: io::Result<usize>, bytes: &[u8]) -> Result<usize, Failed>
-    ensures count { IfOk result (λ n. count ≡ Ok n) }
+// A write, which failed where nothing of some bytes was taken.
+fn write_to<W: Write>(writer: &mut W, bytes: &[u8]) -> Result<usize, Failed>
+    ensures bound { WritesAtMost result bytes.now }
     ensures some { 0 < length bytes.now → OnOk result (result ≢ Ok 0) }
-    ensures failed { OnErr result (IfOk count (λ n. n ≡ 0)) }
+    ensures bytes { WriteAppends (W.contents writer.old) (W.contents writer.new) result bytes.now }
 {
-    match count {
+    match writer.write(bytes) {
         Ok(n) if n > 0 || bytes.is_empty() => Ok(n),
         _ => Err(Failed),
     }
 }
 
-impl<'a, R: Files + Print> RealDesk<'a, R> {
-    /// A desk with no file open.
-    pub fn new(rt: &'a R) -> RealDesk<'a, R>
+impl<'a, R: Files + Print> RealDesk<'a, R, Printer<'a, R>> {
+    /// A desk over the runtime's files, with no file open, whose report is standard output.
+    pub fn new(rt: &'a R) -> Self
         ensures files { (p : Port) → file_at result.files p ≡ None }
         ensures in_faults { result.faults.in_faults ≡ 0 }
         ensures out_faults { result.faults.out_faults ≡ 0 }
     {
+        RealDesk::over(rt, io::writer(rt))
+    }
+}
+
+impl<'a, S: FileStore, W: Write + Drop> RealDesk<'a, S, W> {
+    /// A desk with no file open, whose report goes to this writer.
+    pub fn over(store: &'a S, report: W) -> Self
+        ensures files { (p : Port) → file_at result.files p ≡ None }
+        ensures report { result.report ≡ report }
+        ensures in_faults { result.faults.in_faults ≡ 0 }
+        ensures out_faults { result.faults.out_faults ≡ 0 }
+    {
         RealDesk {
-            rt,
+            store,
             files: OpenFiles::none(),
+            report,
             faults: FaultCounts::none(),
         }
     }
 }
 
-impl<'a, R: Files + Print> Desk for RealDesk<'a, R> {
+impl<'a, S: FileStore, W: Write + Drop> Desk for RealDesk<'a, S, W> {
     ghost told = { λ s. untold s.faults };
 
     fn open(&mut self, port: Port, name: &str) -> Result<(), Failed>
         ensures does { Opens (untold self.old.faults) (untold self.new.faults) port name.now result }
-        ensures file { GivesFile self.old.files self.new.files port result }
+        ensures file { GivesFile self.old.files self.new.files port (λ f. S.opened f name.now) result }
+        ensures report { self.new.report ≡ self.old.report }
     {
-        match fs::open(self.rt, name) {
+        match self.store.open(name) {
             Ok(file) if !matches!(port, Port::Report) => {
                 *self.files.at_mut(port) = Some(file);
                 Ok(())
@@ -103,13 +119,14 @@ impl<'a, R: Files + Print> Desk for RealDesk<'a, R> {
 
     fn create(&mut self, port: Port, name: &str) -> Result<(), Failed>
         ensures does { Creates (untold self.old.faults) (untold self.new.faults) port name.now result }
-        ensures file { GivesFile self.old.files self.new.files port result }
+        ensures file { GivesFile self.old.files self.new.files port (λ f. S.created f name.now) result }
+        ensures report { self.new.report ≡ self.old.report }
     {
         // The report is no file: nothing of that name is to be emptied.
         if matches!(port, Port::Report) {
             return Err(self.faults.count_out());
         }
-        match fs::create(self.rt, name) {
+        match self.store.create(name) {
             Ok(file) => {
                 *self.files.at_mut(port) = Some(file);
                 Ok(())
@@ -121,9 +138,10 @@ impl<'a, R: Files + Print> Desk for RealDesk<'a, R> {
     fn read(&mut self, port: Port, buf: &mut [u8]) -> Result<usize, Failed>
         ensures bound { ReadsAtMost result buf.new }
         ensures does { Reads (untold self.old.faults) (untold self.new.faults) port result buf.new }
-        ensures bytes { ReadConsumes (told_at R.File.remaining self.old.files port) (told_at R.File.remaining self.new.files port) result buf.new }
+        ensures bytes { ReadConsumes (told_at S.File.remaining self.old.files port) (told_at S.File.remaining self.new.files port) result buf.new }
         ensures no_file { IsNone (file_at self.old.files port) → IsErr result }
         ensures files { KeepsFiles self.old.files self.new.files port }
+        ensures report { self.new.report ≡ self.old.report }
     {
         match read_file(self.files.at_mut(port), buf) {
             Ok(count) => Ok(count),
@@ -135,12 +153,14 @@ impl<'a, R: Files + Print> Desk for RealDesk<'a, R> {
         ensures bound { WritesAtMost result bytes.now }
         ensures some { 0 < length bytes.now → OnOk result (result ≢ Ok 0) }
         ensures does { Writes (untold self.old.faults) (untold self.new.faults) port result bytes.now }
-        ensures bytes { port ≢ Report → WriteAppends (told_at R.File.contents self.old.files port) (told_at R.File.contents self.new.files port) result bytes.now }
+        ensures report { port ≡ Report → WriteAppends (W.contents self.old.report) (W.contents self.new.report) result bytes.now }
+        ensures no_report { port ≢ Report → self.new.report ≡ self.old.report }
+        ensures bytes { port ≢ Report → WriteAppends (told_at S.File.contents self.old.files port) (told_at S.File.contents self.new.files port) result bytes.now }
         ensures no_file { port ≢ Report → IsNone (file_at self.old.files port) → IsErr result }
         ensures files { KeepsFiles self.old.files self.new.files port }
     {
         let written = match port {
-            Port::Report => taken(io::writer(self.rt).write(bytes), bytes),
+            Port::Report => write_to(&mut self.report, bytes),
             _ => write_file(self.files.at_mut(port), bytes),
         };
         match written {

@@ -1,4 +1,4 @@
-//! What no clause says: worked examples, and each public call once on its way to an answer.
+//! What no clause says: worked examples, each public call once on its way to an answer, and real files.
 
 ghost use Rattle.std.specs.Prelude.{◌<◌, ◌^◌};
 
@@ -6,16 +6,19 @@ use crate::{
     CallKind, Desk, Failed, MemDesk, NeverFails, Port, PortFault, RealDesk, read_port, write_all,
 };
 use std::alloc::{AllocError, Global};
-use std::fs;
+use std::fmt::Display;
+use std::io::ErrorKind;
 use std::test::Fail;
+use std::{fs, io};
+
+fn one_file(alloc: Global, bytes: &[u8]) -> Result<Vec<(String, Vec<u8>)>, AllocError> {
+    let mut files = Vec::new(alloc);
+    files.push((String::from_str(alloc, "a.gr")?, bytes.to_vec(alloc)?))?;
+    Ok(files)
+}
 
 fn files(alloc: Global) -> Result<Vec<(String, Vec<u8>)>, AllocError> {
-    let mut files = Vec::new(alloc);
-    files.push((
-        String::from_str(alloc, "a.gr")?,
-        b"hello world".to_vec(alloc)?,
-    ))?;
-    Ok(files)
+    one_file(alloc, b"hello world")
 }
 
 // The desk over one file of 11 bytes, of which the nth call of that kind at that port fails.
@@ -89,18 +92,18 @@ fn a_create_that_fails_keeps_what_was_written(rt: HostRuntime) -> Result<(), Fai
     Ok(())
 }
 
+// A desk in memory takes all bytes of a write, so that each text is one call, and the listed one is the text's number.
 #[test]
-fn a_write_that_fails_writes_nothing(rt: HostRuntime) -> Result<(), Fail> {
-    let mut desk = failing(&rt, Port::Report, CallKind::Write, 0)?;
-    for (writes, length) in [(false, 0), (true, 7)] {
-        assert_eq!(rt;
-            write_all(&mut desk, Port::Report, b"nets 1\n").is_ok(),
-            writes
-        );
-        assert_eq!(rt; desk.written(Port::Report).len(), length);
+fn a_text_is_one_write_and_one_that_fails_writes_nothing(rt: HostRuntime) -> Result<(), Fail> {
+    for nth in 0..2 {
+        let mut desk = failing(&rt, Port::Report, CallKind::Write, nth)?;
+        for number in 0..3 {
+            let written = write_all(&mut desk, Port::Report, b"nets 1\n");
+            assert_eq!(rt; written.is_err(), number == nth);
+        }
+        assert_eq!(rt; desk.written(Port::Report), b"nets 1\nnets 1\n".as_slice());
+        assert_eq!(rt; desk.starved(), 0);
     }
-    assert_eq!(rt; desk.written(Port::Report), b"nets 1\n".as_slice());
-    assert_eq!(rt; desk.starved(), 0);
     Ok(())
 }
 
@@ -117,28 +120,62 @@ fn a_name_that_is_not_expected_strays(rt: HostRuntime) -> Result<(), Fail> {
     Ok(())
 }
 
-// The second text is shorter than the first: a create empties its file, and an open reads anew.
+// Each call that takes memory, at a size that a user meets.
+#[test]
+fn a_hundred_thousand_bytes_are_written_and_read(rt: HostRuntime) -> Result<(), Fail> {
+    let alloc = rt.alloc();
+    let text = vec![in alloc; b'x'; 100_000]?;
+    let name = "a".repeat(alloc, 5_000)?;
+    let mut desk = MemDesk::new(alloc, one_file(alloc, &text)?, Vec::new(alloc));
+    write_whole(&mut desk, &name, &text)?;
+    assert!(rt; desk.written(Port::RoutesOut) == text.as_slice());
+    assert!(rt; read_whole(alloc, &mut desk, "a.gr", 100_000)? == text);
+    Ok(())
+}
+
+// Each text is shorter than the one before: a create empties its file, and an open reads anew. A file that is gone is
+// not opened, although one of its name is open at the port.
 #[test]
 fn files_and_standard_output_are_reached(rt: HostRuntime) -> Result<(), Fail> {
     let mut desk = RealDesk::new(&rt);
-    for text in [b"two nets\n".as_slice(), b"one net\n".as_slice()] {
+    let long = vec![in rt.alloc(); b'x'; 100_000]?;
+    for text in [long.as_slice(), b"one net\n", b"!"] {
         write_whole(&mut desk, "desk_test.txt", text)?;
-        let read = read_whole(rt.alloc(), &mut desk, "desk_test.txt", 100)?;
-        assert_eq!(rt; read.as_slice(), text);
+        let read = read_whole(rt.alloc(), &mut desk, "desk_test.txt", 100_000)?;
+        assert!(rt; read.as_slice() == text);
     }
     write_all(&mut desk, Port::Report, b"one net\n")?;
-    assert!(rt; desk.open(Port::RoutesIn, "no such file").is_err());
     fs::remove_file(&rt, "desk_test.txt")?;
+    assert!(rt; desk.open(Port::In, "desk_test.txt").is_err());
     Ok(())
 }
 
 // A device's own fault is the desk's: a folder opens and then fails to be read, and a full device takes nothing.
 #[test]
 fn a_device_that_fails_is_a_failed_call(rt: HostRuntime) -> Result<(), Fail> {
-    let mut desk = RealDesk::new(&rt);
+    let mut desk = RealDesk::over(&rt, io::writer(&Closed));
     desk.open(Port::CertIn, ".")?;
     assert!(rt; read_port(rt.alloc(), &mut desk, Port::CertIn, 100).is_err());
     desk.create(Port::CertOut, "/dev/full")?;
-    assert!(rt; write_all(&mut desk, Port::CertOut, b"one net\n").is_err());
+    for port in [Port::CertOut, Port::Report] {
+        assert!(rt; write_all(&mut desk, port, b"one net\n").is_err());
+    }
     Ok(())
+}
+
+// An output that takes nothing.
+struct Closed;
+
+impl Print for Closed {
+    fn print<D: Display + Drop>(&self, _value: D) -> io::Result<()> {
+        Err(io::Error::from(ErrorKind::BrokenPipe))
+    }
+
+    fn println<D: Display + Drop>(&self, _value: D) -> io::Result<()> {
+        Err(io::Error::from(ErrorKind::BrokenPipe))
+    }
+
+    fn write_all(&self, _bytes: &[u8]) -> io::Result<()> {
+        Err(io::Error::from(ErrorKind::BrokenPipe))
+    }
 }

@@ -3,13 +3,13 @@
 ghost use Rattle.std.specs.Prelude.{◌≡◌, ◌≢◌, ◌<◌, ◌≤◌, ◌+◌, ◌^◌, length, IfOk, OnOk, OnErr, IsErrOf, Err};
 ghost use Rattle.std.specs.Io.KnownBytes.{IsAtEnd};
 ghost use Rattle.gr_desk.specs.Causes.{Rose};
-ghost use Rattle.gr_desk.specs.Runs.{Takes, TakesCount, TakesSome, Adds, AddsFront};
+ghost use Rattle.gr_desk.specs.Runs.{Takes, TakesCount, TakesSome, Adds, AddsPart};
 
 use crate::desk::Desk;
 use crate::failed::Failed;
 use crate::fault::PortFault;
 use crate::port::Port;
-use std::alloc::{AllocError, AllocFailed, Global};
+use std::alloc::Global;
 
 /// How many bytes `read_port` asks for at a time.
 pub const READ_SIZE: usize = 4096;
@@ -53,10 +53,11 @@ pub fn read_port<D: Desk>(
     Err(PortFault::TooLong)
 }
 
-/// Appends all of `bytes` at `port`. After `Failed` some part from the front of `bytes` was appended.
+/// Appends all of `bytes` at `port`, and calls the desk no more once that is done: after `Failed` some part from the
+/// front of `bytes` was appended, and not all of them.
 pub fn write_all<D: Desk>(desk: &mut D, port: Port, bytes: &[u8]) -> Result<(), Failed>
     ensures all { OnOk result (Adds (D.told desk.old) (D.told desk.new) port bytes.now) }
-    ensures part { OnErr result (AddsFront (D.told desk.old) (D.told desk.new) port bytes.now) }
+    ensures part { OnErr result (AddsPart (D.told desk.old) (D.told desk.new) port bytes.now) }
     ensures cause { OnErr result (Rose (D.told desk.old).out_faults (D.told desk.new).out_faults) }
     ensures quiet { OnOk result ((D.told desk.new).out_faults ≡ (D.told desk.old).out_faults) }
 {

@@ -1,6 +1,6 @@
 use Rattle.std.proofs.Common.{sym}
 use Rattle.gr_desk.specs.Pens.{pen_told}
-use Rattle.gr_desk.proofs.Pens.{ends-behind, ends-cut_off}
+use Rattle.gr_desk.proofs.Pens.{ends-written_at_once, ends-behind, ends-cut_off}
 use Rattle.gr_desk.proofs.pen.Pen.finish.Goals as goal
 
 pub returns-then-failed : goal.returns-then-failed
@@ -13,4 +13,4 @@ returns g c start text put =
     let told = g.D.Desk.told in
     rw (back.2, sym c.bytes.ensures)
     (ends-behind start (told c.args.self.desk.now) (told c.write_all.new.desk) c.args.self.port back.0 c.bytes.result.now c.write_all.result back.1 back.3
-    (record { all = wrote.all; part = wrote.part; cause = wrote.cause; quiet = wrote.quiet }))
+    (ends-written_at_once _ _ _ _ c.write_all.result wrote.all wrote.part wrote.cause wrote.quiet))

@@ -1,7 +1,7 @@
 use Rattle.std.proofs.Common.{[], refl, sym}
 use Rattle.std.proofs.lemmas.List.{append-nil}
 use Rattle.gr_desk.specs.Pens.{pen_told}
-use Rattle.gr_desk.proofs.Pens.{puts-written, puts-nowhere}
+use Rattle.gr_desk.proofs.Pens.{ends-written_at_once, puts-written, puts-nowhere}
 use Rattle.gr_desk.proofs.pen.Pen.flush.Goals as goal
 use Rattle.gr_desk.proofs.pen.Pen.flush.Goals.{then-not-self, else-not-self}
 
@@ -12,6 +12,6 @@ returns-clause-puts g c =
     elim c.if-not-self.branch [
       | then-not-self w ↦ rw w.self-is
           (puts-written before _ [] w.write_all.result w.if-not-self.true refl w.is_err-self.ensures.value c.clear.ensures
-          (rw (append-nil c.args.self.now.held, sym w.bytes.ensures) (record { all = w.write_all.ensures.all; part = w.write_all.ensures.part; cause = w.write_all.ensures.cause; quiet = w.write_all.ensures.quiet })))
+          (rw (append-nil c.args.self.now.held, sym w.bytes.ensures) (let wrote = w.write_all.ensures in ends-written_at_once _ _ _ _ w.write_all.result wrote.all wrote.part wrote.cause wrote.quiet)))
       | else-not-self w ↦ rw w.self-is (puts-nowhere before _ [] w.if-not-self.false w.if-not-self.false refl refl)
     ]
