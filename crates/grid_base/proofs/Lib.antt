@@ -1,7 +1,11 @@
 pub mod Extents
+pub mod Floods
 pub mod Joined
 pub mod Lists
+pub mod Neighbours
 pub mod Pieces
 pub mod Places
 pub mod Runs
 pub mod Walks
+pub mod Lines
+pub mod Chosen

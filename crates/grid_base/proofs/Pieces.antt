@@ -1,20 +1,21 @@
 -- Pieces, their ends, and the vertices that are neighbours.
-use Rattle.std.proofs.Common.{◌≡◌, ℕ, ◌+◌, ◌*◌, ◌/◌, ◌%◌, ◌<◌, ◌≤◌, ◌==◌, ◌≢◌, ◌⊎◌, cond, true, false, refl, sym, ◌∙◌, ap, subst, min, max, inl, inr, ⊎_elim, arith, eq-eqb}
+use Rattle.std.proofs.Common.{◌≡◌, ℕ, ◌+◌, ◌*◌, ◌/◌, ◌%◌, ◌<◌, ◌≤◌, ◌==◌, ◌⊎◌, cond, true, false, refl, sym, ◌∙◌, ap, subst, min, max, inl, inr, ⊎_elim, arith, eq-eqb}
 use Rattle.std.proofs.lemmas.Bool.{cases_eq, cases_lt}
 use Rattle.std.proofs.lemmas.Nat.{mul-le}
+use Rattle.grid_base.specs.declared.axis.Axis.TheVariants.{X, Y}
 use Rattle.grid_base.specs.declared.edge.Edge.{Edge as EdgeNumber}
 use Rattle.grid_base.specs.declared.piece.Piece.{Piece}
 use Rattle.grid_base.specs.declared.piece.Piece.TheVariants.{Edge, Via}
 use Rattle.grid_base.specs.declared.place.Place.{Place}
 use Rattle.grid_base.specs.declared.size.Size.{Size}
-use Rattle.grid_base.specs.Numbers.{vertex_number, place_at, col_of, row_of, layer_of, near_end, far_place, far_end, to_next_col, to_next_row, to_next_layer, distance, IsVertex, IsInside, IsPiece, Goes, Connects, AreNeighbours}
+use Rattle.grid_base.specs.Numbers.{vertex_number, place_at, col_of, row_of, layer_of, start_of, end_place, end_of, cols, rows, edge_start, edge_axis, to_next_col, to_next_row, to_next_layer, distance, IsVertex, IsInside, IsPiece, Goes, Connects, AreNeighbours}
 use Rattle.grid_base.proofs.Places.{vertex_number-place, vertex_number-next_col, vertex_number-next_row, vertex_number-next_layer, place_at-number, place_at-inside, vertex_number-inside}
 
-near_even : (v : ℕ) → 2 * v / 2 ≡ v
-near_even v = omega arith
+half_of_even : (v : ℕ) → 2 * v / 2 ≡ v
+half_of_even v = omega arith
 
-near_odd : (v : ℕ) → (2 * v + 1) / 2 ≡ v
-near_odd v = omega arith
+half_of_odd : (v : ℕ) → (2 * v + 1) / 2 ≡ v
+half_of_odd v = omega arith
 
 is_even : (v : ℕ) → (2 * v % 2 == 0) ≡ true
 is_even v = eq-eqb _ _ (omega arith)
@@ -22,32 +23,33 @@ is_even v = eq-eqb _ _ (omega arith)
 is_odd : (v : ℕ) → ((2 * v + 1) % 2 == 0) ≡ false
 is_odd v = grind arith
 
-pub near_end-to_next_col : (v : ℕ) → near_end (to_next_col v) ≡ v
-near_end-to_next_col v = near_even v
+pub start_of-to_next_col : (v : ℕ) → start_of (to_next_col v) ≡ v
+start_of-to_next_col v = half_of_even v
 
-pub near_end-to_next_row : (v : ℕ) → near_end (to_next_row v) ≡ v
-near_end-to_next_row v = near_odd v
+pub start_of-to_next_row : (v : ℕ) → start_of (to_next_row v) ≡ v
+start_of-to_next_row v = half_of_odd v
 
-pub far_place-to_next_col : (s : Size) (v : ℕ) → far_place s (to_next_col v) ≡ record { col = col_of s v + 1; row = row_of s v; layer = layer_of s v }
-far_place-to_next_col s v = rw (is_even v, near_even v) refl
+pub end_place-to_next_col : (s : Size) (v : ℕ) → end_place s (to_next_col v) ≡ record { col = col_of s v + 1; row = row_of s v; layer = layer_of s v }
+end_place-to_next_col s v = rw (is_even v, half_of_even v) refl
 
-pub far_place-to_next_row : (s : Size) (v : ℕ) → far_place s (to_next_row v) ≡ record { col = col_of s v; row = row_of s v + 1; layer = layer_of s v }
-far_place-to_next_row s v = rw (is_odd v, near_odd v) refl
+pub end_place-to_next_row : (s : Size) (v : ℕ) → end_place s (to_next_row v) ≡ record { col = col_of s v; row = row_of s v + 1; layer = layer_of s v }
+end_place-to_next_row s v = rw (is_odd v, half_of_odd v) refl
 
-pub far_end-to_next_col : (s : Size) (v : ℕ) → far_end s (to_next_col v) ≡ v + 1
-far_end-to_next_col s v = rw (far_place-to_next_col s v) (vertex_number-next_col s v)
+pub end_of-to_next_col : (s : Size) (v : ℕ) → end_of s (to_next_col v) ≡ v + 1
+end_of-to_next_col s v = rw (end_place-to_next_col s v) (vertex_number-next_col s v)
 
-pub far_end-to_next_row : (s : Size) (v : ℕ) → far_end s (to_next_row v) ≡ v + s.cols
-far_end-to_next_row s v = rw (far_place-to_next_row s v) (vertex_number-next_row s v)
+pub end_of-to_next_row : (s : Size) (v : ℕ) → end_of s (to_next_row v) ≡ v + cols s
+end_of-to_next_row s v = rw (end_place-to_next_row s v) (vertex_number-next_row s v)
 
-pub far_end-to_next_layer : (s : Size) (v : ℕ) → far_end s (to_next_layer v) ≡ v + s.cols * s.rows
-far_end-to_next_layer s v = vertex_number-next_layer s v
+pub end_of-to_next_layer : (s : Size) (v : ℕ) → end_of s (to_next_layer v) ≡ v + cols s * rows s
+end_of-to_next_layer s v = vertex_number-next_layer s v
 
-pub far_end-even : (s : Size) (e : EdgeNumber) → e.0 % 2 ≡ 0 → far_end s (Edge e) ≡ e.0 / 2 + 1
-far_end-even s e even = rw (eq-eqb _ _ even) (vertex_number-next_col s (e.0 / 2))
+-- where an edge goes, by its axis
+pub end_of-along_x : (s : Size) (p : Piece) (e : EdgeNumber) (v : ℕ) → p ≡ Edge e → v ≡ edge_start e.0 → edge_axis e.0 ≡ X → end_of s p ≡ v + 1
+end_of-along_x s p e v is starts along = rw (is, starts, along) (vertex_number-next_col s (edge_start e.0))
 
-pub far_end-odd : (s : Size) (e : EdgeNumber) → e.0 % 2 ≢ 0 → far_end s (Edge e) ≡ e.0 / 2 + s.cols
-far_end-odd s e odd = let test : (e.0 % 2 == 0) ≡ false = grind arith in rw test (vertex_number-next_row s (e.0 / 2))
+pub end_of-along_y : (s : Size) (p : Piece) (e : EdgeNumber) (v : ℕ) → p ≡ Edge e → v ≡ edge_start e.0 → edge_axis e.0 ≡ Y → end_of s p ≡ v + cols s
+end_of-along_y s p e v is starts along = rw (is, starts, along) (vertex_number-next_row s (edge_start e.0))
 
 -- one of three pieces goes from a vertex
 abbrev pub IsOneFrom : ℕ → Piece → Type 0
@@ -58,43 +60,49 @@ edge_cases e =
     let same : (n : ℕ) → e.0 ≡ n → Edge e ≡ Edge (record { 0 = n }) = λ n is. ap (λ m. Edge (record { 0 = m })) is in
     ⊎_elim (λ even. inl (inl (same _ (omega (arith, even))))) (λ odd. inl (inr (same _ (omega (arith, odd))))) (cases_eq (e.0 % 2) 0)
 
-pub one_from_near : (p : Piece) → IsOneFrom (near_end p) p
-one_from_near (Edge e) = edge_cases e
-one_from_near (Via v) = inr refl
+pub one_from_start : (p : Piece) → IsOneFrom (start_of p) p
+one_from_start (Edge e) = edge_cases e
+one_from_start (Via v) = inr refl
 
 -- what holds of the three pieces that go from a vertex holds of each piece
 pub by_kind : (P : Piece → Type 0) → ((v : ℕ) → P (to_next_col v)) → ((v : ℕ) → P (to_next_row v)) → ((v : ℕ) → P (to_next_layer v)) → (p : Piece) → P p
 by_kind P at_col at_row at_layer p =
     let back : (q : Piece) → P q → p ≡ q → P p = λ q holds is. subst P (sym is) holds in
-    ⊎_elim (⊎_elim (back _ (at_col (near_end p))) (back _ (at_row (near_end p)))) (back _ (at_layer (near_end p))) (one_from_near p)
+    ⊎_elim (⊎_elim (back _ (at_col (start_of p))) (back _ (at_row (start_of p)))) (back _ (at_layer (start_of p))) (one_from_start p)
+
+-- what holds of the three pieces that go from this vertex holds of each that does
+pub by_start : (v : ℕ) (P : Piece → Type 0) → P (to_next_col v) → P (to_next_row v) → P (to_next_layer v) → (p : Piece) → start_of p ≡ v → P p
+by_start v P at_col at_row at_layer p is =
+    let same : (q : ℕ → Piece) → P (q v) → p ≡ q (start_of p) → P p = λ q holds to. subst P (sym (to ∙ ap q is)) holds in
+    ⊎_elim (⊎_elim (same to_next_col at_col) (same to_next_row at_row)) (same to_next_layer at_layer) (one_from_start p)
 
 -- the place that a piece goes to is one step from the place that it goes from
-pub distance-far_place : (s : Size) (p : Piece) → distance (place_at s (near_end p)) (far_place s p) ≡ 1
-distance-far_place s =
-    by_kind (λ p. distance (place_at s (near_end p)) (far_place s p) ≡ 1)
-    (λ v. rw (near_even v, is_even v) (omega arith))
-    (λ v. rw (near_odd v, is_odd v) (omega arith))
+pub distance-end_place : (s : Size) (p : Piece) → distance (place_at s (start_of p)) (end_place s p) ≡ 1
+distance-end_place s =
+    by_kind (λ p. distance (place_at s (start_of p)) (end_place s p) ≡ 1)
+    (λ v. rw (half_of_even v, is_even v) (omega arith))
+    (λ v. rw (half_of_odd v, is_odd v) (omega arith))
     (λ v. omega arith)
 
--- the far end of a piece is at its far place
-pub place_at-far_end : (s : Size) (p : Piece) → IsPiece s p → place_at s (far_end s p) ≡ far_place s p
-place_at-far_end s p piece = let far = far_place s p in place_at-number s far.col far.row far.layer piece.1.0 piece.1.1
+-- the end of a piece is at its end place
+pub place_at-end_of : (s : Size) (p : Piece) → IsPiece s p → place_at s (end_of s p) ≡ end_place s p
+place_at-end_of s p piece = let far = end_place s p in place_at-number s far.col far.row far.layer piece.1.0 piece.1.1
 
-pub far_end-vertex : (s : Size) (p : Piece) → IsPiece s p → IsVertex s (far_end s p)
-far_end-vertex s p piece = vertex_number-inside s (far_place s p) piece.1
+pub end_of-vertex : (s : Size) (p : Piece) → IsPiece s p → IsVertex s (end_of s p)
+end_of-vertex s p piece = vertex_number-inside s (end_place s p) piece.1
 
 -- a piece goes to a vertex of a greater number
-pub near_end-below : (s : Size) (p : Piece) → near_end p < far_end s p
-near_end-below s =
-    by_kind (λ p. near_end p < far_end s p)
-    (λ v. rw (near_even v, is_even v) (omega (arith, vertex_number-next_col s v)))
-    (λ v. rw (near_odd v, is_odd v) (omega (arith, vertex_number-next_row s v, s.within.has_col)))
-    (λ v. let step : 1 ≤ s.cols * s.rows = mul-le 1 1 s.cols s.rows s.within.has_col s.within.has_row in omega (arith, vertex_number-next_layer s v))
+pub start_of-below : (s : Size) (p : Piece) → start_of p < end_of s p
+start_of-below s =
+    by_kind (λ p. start_of p < end_of s p)
+    (λ v. rw (half_of_even v, is_even v) (omega (arith, vertex_number-next_col s v)))
+    (λ v. rw (half_of_odd v, is_odd v) (omega (arith, vertex_number-next_row s v, s.within.has_col)))
+    (λ v. let step : 1 ≤ cols s * rows s = mul-le 1 1 (cols s) (rows s) s.within.has_col s.within.has_row in omega (arith, vertex_number-next_layer s v))
 
 -- the two ends of a piece are neighbours
-pub ends_are_neighbours : (s : Size) (p : Piece) → IsPiece s p → AreNeighbours s (near_end p) (far_end s p)
+pub ends_are_neighbours : (s : Size) (p : Piece) → IsPiece s p → AreNeighbours s (start_of p) (end_of s p)
 ends_are_neighbours s p piece =
-    (piece.0, far_end-vertex s p piece, subst (λ far. distance (place_at s (near_end p)) far ≡ 1) (sym (place_at-far_end s p piece)) (distance-far_place s p))
+    (piece.0, end_of-vertex s p piece, subst (λ far. distance (place_at s (start_of p)) far ≡ 1) (sym (place_at-end_of s p piece)) (distance-end_place s p))
 
 pub AreNeighbours-sym : (s : Size) (a b : ℕ) → AreNeighbours s a b → AreNeighbours s b a
 AreNeighbours-sym s a b near = (near.1, near.0, omega (arith, near.2))
@@ -120,21 +128,21 @@ same_test n = eq-eqb n n refl
 below_test : (n : ℕ) → (n == n + 1) ≡ false
 below_test n = grind arith
 
-piece_to-far_place : (s : Size) (p : Piece) → piece_to s (near_end p) (far_place s p) ≡ p
+piece_to-end_place : (s : Size) (p : Piece) → piece_to s (start_of p) (end_place s p) ≡ p
 unfolding piece_to
-piece_to-far_place s =
-    by_kind (λ p. piece_to s (near_end p) (far_place s p) ≡ p)
-    (λ v. rw (near_even v, is_even v, same_test (col_of s v + 1)) refl)
-    (λ v. rw (near_odd v, is_odd v, below_test (col_of s v), same_test (row_of s v + 1)) refl)
+piece_to-end_place s =
+    by_kind (λ p. piece_to s (start_of p) (end_place s p) ≡ p)
+    (λ v. rw (half_of_even v, is_even v, same_test (col_of s v + 1)) refl)
+    (λ v. rw (half_of_odd v, is_odd v, below_test (col_of s v), same_test (row_of s v + 1)) refl)
     (λ v. rw (below_test (col_of s v), below_test (row_of s v)) refl)
 
 -- two pieces that go from one vertex to one place are one
-pub same_piece : (s : Size) (p q : Piece) → near_end p ≡ near_end q → far_place s p ≡ far_place s q → p ≡ q
+pub same_piece : (s : Size) (p q : Piece) → start_of p ≡ start_of q → end_place s p ≡ end_place s q → p ≡ q
 same_piece s p q same_near same_far =
-    sym (piece_to-far_place s p) ∙ ap (λ v. piece_to s v (far_place s p)) same_near ∙ ap (piece_to s (near_end q)) same_far ∙ piece_to-far_place s q
+    sym (piece_to-end_place s p) ∙ ap (λ v. piece_to s v (end_place s p)) same_near ∙ ap (piece_to s (start_of q)) same_far ∙ piece_to-end_place s q
 
 -- a piece from a vertex to the place of another goes there
-pub goes_to_place : (s : Size) (p : Piece) (b : ℕ) → IsVertex s (near_end p) → IsVertex s b → far_place s p ≡ place_at s b → IsPiece s p × (far_end s p ≡ b)
+pub goes_to_place : (s : Size) (p : Piece) (b : ℕ) → IsVertex s (start_of p) → IsVertex s b → end_place s p ≡ place_at s b → IsPiece s p × (end_of s p ≡ b)
 goes_to_place s p b near far arrives =
     ((near, subst (IsInside s) (sym arrives) (place_at-inside s b far)), ap (λ (place : Place). vertex_number s place.col place.row place.layer) arrives ∙ vertex_number-place s b)
 
@@ -173,7 +181,7 @@ step_from_distance p q apart =
     (cases_eq p.col q.col)
 
 -- a piece that goes from a vertex to the place of another goes to that one
-pub goes_by_step : (s : Size) (p : Piece) (a b : ℕ) → IsVertex s a → IsVertex s b → near_end p ≡ a → far_place s p ≡ place_at s b → Goes s p a b
+pub goes_by_step : (s : Size) (p : Piece) (a b : ℕ) → IsVertex s a → IsVertex s b → start_of p ≡ a → end_place s p ≡ place_at s b → Goes s p a b
 goes_by_step s p a b near far starts arrives =
     let goes = goes_to_place s p b (rw starts near) far arrives in
     (goes.0, starts, goes.1)
@@ -182,8 +190,8 @@ piece_by_step : (s : Size) (a b : ℕ) → IsVertex s a → IsVertex s b → IsS
 piece_by_step s a b near far step =
     ⊎_elim
     (⊎_elim
-    (λ east. (to_next_col a, goes_by_step s (to_next_col a) a b near far (near_end-to_next_col a) (far_place-to_next_col s a ∙ sym east)))
-    (λ north. (to_next_row a, goes_by_step s (to_next_row a) a b near far (near_end-to_next_row a) (far_place-to_next_row s a ∙ sym north))))
+    (λ east. (to_next_col a, goes_by_step s (to_next_col a) a b near far (start_of-to_next_col a) (end_place-to_next_col s a ∙ sym east)))
+    (λ north. (to_next_row a, goes_by_step s (to_next_row a) a b near far (start_of-to_next_row a) (end_place-to_next_row s a ∙ sym north))))
     (λ up. (to_next_layer a, goes_by_step s (to_next_layer a) a b near far refl (sym up)))
     step
 
@@ -198,7 +206,7 @@ piece_from_neighbours s a b near =
 -- a piece that connects two vertices goes from the one of smaller number to the other
 pub goes_from_connects : (s : Size) (p : Piece) (a b : ℕ) → Connects s p a b → Goes s p (min a b) (max a b)
 goes_from_connects s p a b connects =
-    let below = near_end-below s p in
+    let below = start_of-below s p in
     ⊎_elim
     (λ goes. (goes.0, omega (arith, below, goes.1, goes.2), omega (arith, below, goes.1, goes.2)))
     (λ goes. (goes.0, omega (arith, below, goes.1, goes.2), omega (arith, below, goes.1, goes.2)))
@@ -215,4 +223,4 @@ connects_from_goes s p a b goes =
 pub one_piece : (s : Size) (p q : Piece) (a b : ℕ) → Goes s p a b → Goes s q a b → p ≡ q
 one_piece s p q a b first second =
     same_piece s p q (first.1 ∙ sym second.1)
-    (sym (place_at-far_end s p first.0) ∙ ap (place_at s) (first.2 ∙ sym second.2) ∙ place_at-far_end s q second.0)
+    (sym (place_at-end_of s p first.0) ∙ ap (place_at s) (first.2 ∙ sym second.2) ∙ place_at-end_of s q second.0)

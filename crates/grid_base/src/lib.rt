@@ -10,32 +10,44 @@
 //! let edge = size.piece_between(v, w)?;   // Piece::Edge(Edge(2 * v.0))
 //! ```
 //!
-//! It stands on std alone, and on thiserror for the one error type. No call takes memory.
+//! It stands on std alone, and on thiserror for the one error type. `flood` alone takes memory, for the vertices that it
+//! meets.
 //!
 //! Promised: each call gives exactly the number that `specs/Numbers.antt` defines, and `None` or `false` exactly
 //! where there is none. `specs/Walks.antt` defines walks and when a set of pieces joins a set of vertices, on which
-//! the crates above rest; the laws of `laws.rt` say that these words mean what they should.
+//! the crates above rest; the laws of `laws.rt` say that these words mean what they should. `flood` marks exactly the
+//! vertices that walks join to its start, in whatever pieces (`PieceSet`) and with whatever marks (`Marks`).
 #![tactic(auto)]
 
+mod axis;
 mod edge;
+mod flooding;
 mod laws;
 mod limits;
+mod marks;
 mod no_memory;
 mod piece;
+mod piece_set;
 mod place;
+mod sides;
 mod size;
 mod vertex;
 mod via;
 
+pub use axis::Axis;
 pub use edge::Edge;
+pub use flooding::flood;
 pub use laws::{
     fewer_than_two_are_joined, more_pieces_join_more, no_pieces_join_no_two,
     reached_from_one_are_joined, straight_runs_join_their_ends, walks_are_an_equivalence,
 };
 pub use limits::{MAX_LAYERS, MAX_VERTICES};
+pub use marks::Marks;
 pub use no_memory::NoMemory;
 pub use piece::Piece;
+pub use piece_set::PieceSet;
 pub use place::Place;
+pub use sides::{nth_step, steps};
 pub use size::Size;
 pub use vertex::Vertex;
 pub use via::Via;

@@ -2,6 +2,7 @@
 
 ghost use Rattle.grid_base.specs.Limits.{IsGridSize};
 
+use crate::axis::Axis;
 use crate::edge::Edge;
 use crate::limits::{MAX_LAYERS, MAX_VERTICES};
 use crate::piece::Piece;
@@ -19,17 +20,18 @@ pub struct Size {
 }
 
 impl Size {
-    ghost use Rattle.std.specs.Prelude.{◌≡◌, ◌≤◌, ◌↔◌, IsSome, IsTrue, IfSome, Some};
+    ghost use Rattle.std.specs.Prelude.{◌≡◌, ◌<◌, ◌≤◌, ◌↔◌, IsSome, IsTrue, IfSome, Some};
     ghost use Rattle.grid_base.specs.declared.piece.Piece.{Piece};
-    ghost use Rattle.grid_base.specs.Numbers.{vertices, vertex_number, place_at, near_end, far_end, IsVertex, IsInside, IsPiece, Goes, Connects, AreNeighbours};
+    ghost use Rattle.grid_base.specs.Numbers as numbers;
+    ghost use Rattle.grid_base.specs.Numbers.{vertices, vertex_number, place_at, layer_of, start_of, end_of, IsVertex, IsInside, IsPiece, Goes, Connects, AreNeighbours};
 
     /// A grid of this many columns, rows and layers: at least 1 vertex and at most
     /// `MAX_VERTICES`, at most `MAX_LAYERS` layers.
     pub fn new(cols: u32, rows: u32, layers: u32) -> Option<Self>
         ensures limits { IsSome result ↔ IsGridSize cols rows layers }
-        ensures cols { IfSome result (λ s. s.cols ≡ cols) }
-        ensures rows { IfSome result (λ s. s.rows ≡ rows) }
-        ensures layers { IfSome result (λ s. s.layers ≡ layers) }
+        ensures cols { IfSome result (λ s. numbers.cols s ≡ cols) }
+        ensures rows { IfSome result (λ s. numbers.rows s ≡ rows) }
+        ensures layers { IfSome result (λ s. numbers.layers s ≡ layers) }
     {
         let vertices = cols.checked_mul(rows)?.checked_mul(layers)?;
         if vertices == 0 || vertices > MAX_VERTICES || layers > MAX_LAYERS {
@@ -40,21 +42,21 @@ impl Size {
 
     /// The number of columns.
     pub fn cols(&self) -> u32
-        ensures { result ≡ self.now.cols }
+        ensures { result ≡ numbers.cols self.now }
     {
         self.cols
     }
 
     /// The number of rows.
     pub fn rows(&self) -> u32
-        ensures { result ≡ self.now.rows }
+        ensures { result ≡ numbers.rows self.now }
     {
         self.rows
     }
 
     /// The number of layers.
     pub fn layers(&self) -> u32
-        ensures { result ≡ self.now.layers }
+        ensures { result ≡ numbers.layers self.now }
     {
         self.layers
     }
@@ -93,20 +95,26 @@ impl Size {
         }
     }
 
-    /// Whether the number belongs to a piece: its far end is in the grid.
+    /// The layer of the vertex. One past the last vertex has one past the last layer.
+    pub fn layer_of(&self, v: Vertex) -> u32
+        ensures layer { result ≡ layer_of self.now v.0 }
+        ensures inside { IsVertex self.now v.0 → result < numbers.layers self.now }
+    {
+        v.0 / (self.cols * self.rows)
+    }
+
+    /// Whether the number belongs to a piece: its end is in the grid.
     pub fn is_piece(&self, p: Piece) -> bool
         ensures { IsTrue result ↔ IsPiece self.now p }
     {
         match p {
-            Piece::Edge(Edge(e)) => {
-                let v = e / 2;
-                if v >= self.vertices() {
-                    false
-                } else if e % 2 == 0 {
-                    v % self.cols + 1 < self.cols
-                } else {
-                    v / self.cols % self.rows + 1 < self.rows
-                }
+            Piece::Edge(edge) => {
+                let v = edge.start().0;
+                v < self.vertices()
+                    && match edge.axis() {
+                        Axis::X => v % self.cols + 1 < self.cols,
+                        Axis::Y => v / self.cols % self.rows + 1 < self.rows,
+                    }
             }
             Piece::Via(Via(v)) => {
                 v < self.vertices() && v / self.cols / self.rows + 1 < self.layers
@@ -117,17 +125,16 @@ impl Size {
     /// The two ends of the piece: the vertex that it goes from, then the one that it goes to.
     pub fn ends_of(&self, p: Piece) -> (Vertex, Vertex)
         requires { IsPiece self.now p }
-        ensures near { result.0.0 ≡ near_end p }
-        ensures far { result.1.0 ≡ far_end self.now p }
+        ensures start { result.0.0 ≡ start_of p }
+        ensures end { result.1.0 ≡ end_of self.now p }
         ensures neighbours { AreNeighbours self.now result.0.0 result.1.0 }
     {
         match p {
-            Piece::Edge(Edge(e)) => {
-                let v = e / 2;
-                if e % 2 == 0 {
-                    (Vertex(v), Vertex(v + 1))
-                } else {
-                    (Vertex(v), Vertex(v + self.cols))
+            Piece::Edge(edge) => {
+                let start = edge.start();
+                match edge.axis() {
+                    Axis::X => (start, Vertex(start.0 + 1)),
+                    Axis::Y => (start, Vertex(start.0 + self.cols)),
                 }
             }
             Piece::Via(Via(v)) => (Vertex(v), Vertex(v + self.cols * self.rows)),
@@ -144,23 +151,23 @@ impl Size {
         if a.0 >= vertices || b.0 >= vertices {
             return None;
         }
-        self.piece_up(a.0.min(b.0), a.0.max(b.0))
+        self.piece_up(Vertex(a.0.min(b.0)), Vertex(a.0.max(b.0)))
     }
 
-    // The piece that goes from the vertex `near` to `far`.
-    fn piece_up(&self, near: u32, far: u32) -> Option<Piece>
-        requires { IsVertex self.now near }
-        ensures goes { IfSome result (λ p. Goes self.now p near far) }
-        ensures only { (p : Piece) → Goes self.now p near far → result ≡ Some p }
+    // The piece that goes from the vertex `start` to `end`.
+    fn piece_up(&self, start: Vertex, end: Vertex) -> Option<Piece>
+        requires { IsVertex self.now start.0 }
+        ensures goes { IfSome result (λ p. Goes self.now p start.0 end.0) }
+        ensures only { (p : Piece) → Goes self.now p start.0 end.0 → result ≡ Some p }
     {
-        let to_col = Piece::Edge(Edge(2 * near));
-        let to_row = Piece::Edge(Edge(2 * near + 1));
-        let to_layer = Piece::Via(Via(near));
-        if self.leads_to(to_col, far) {
+        let to_col = Piece::Edge(Edge::along(start, Axis::X));
+        let to_row = Piece::Edge(Edge::along(start, Axis::Y));
+        let to_layer = Piece::Via(Via(start.0));
+        if self.leads_to(to_col, end) {
             Some(to_col)
-        } else if self.leads_to(to_row, far) {
+        } else if self.leads_to(to_row, end) {
             Some(to_row)
-        } else if self.leads_to(to_layer, far) {
+        } else if self.leads_to(to_layer, end) {
             Some(to_layer)
         } else {
             None
@@ -168,9 +175,9 @@ impl Size {
     }
 
     // Whether it is a piece, and goes to that vertex.
-    fn leads_to(&self, p: Piece, far: u32) -> bool
-        ensures { IsTrue result ↔ (IsPiece self.now p × (far_end self.now p ≡ far)) }
+    fn leads_to(&self, p: Piece, end: Vertex) -> bool
+        ensures { IsTrue result ↔ (IsPiece self.now p × (end_of self.now p ≡ end.0)) }
     {
-        self.is_piece(p) && self.ends_of(p).1.0 == far
+        self.is_piece(p) && self.ends_of(p).1 == end
     }
 }

@@ -1,6 +1,6 @@
 //! Worked examples of numbers, and of what no clause says.
 
-use crate::{Edge, NoMemory, Piece, Place, Size, Vertex, Via};
+use crate::{Axis, Edge, NoMemory, Piece, Place, Size, Vertex, Via};
 use std::alloc::{AllocError, Global};
 use std::test::Fail;
 
@@ -11,33 +11,32 @@ fn small() -> Result<Size, Fail> {
 
 #[test]
 fn the_limits_are_on_the_product_and_the_layers(rt: HostRuntime) {
-    assert!(rt; Size::new(2048, 2048, 2).is_some());
-    assert!(rt; Size::new(2048, 2048, 3).is_none());
-    assert!(rt; Size::new(1, 1, 1).is_some());
-    assert!(rt; Size::new(1, 1, 0).is_none());
-    assert!(rt; Size::new(0, 1, 1).is_none());
-    assert!(rt; Size::new(1, 0, 1).is_none());
-    assert!(rt; Size::new(1, 1, 16).is_some());
-    assert!(rt; Size::new(1, 1, 17).is_none());
-    assert!(rt; Size::new(8_388_608, 1, 1).is_some());
-    assert!(rt; Size::new(8_388_609, 1, 1).is_none());
-    assert!(rt; Size::new(1, 524_288, 16).is_some());
-    assert!(rt; Size::new(65_536, 65_536, 1).is_none());
-}
-
-#[test]
-fn a_size_has_its_numbers(rt: HostRuntime) -> Result<(), Fail> {
-    let size = small()?;
-    assert_eq!(rt; size.cols(), 3);
-    assert_eq!(rt; size.rows(), 2);
-    assert_eq!(rt; size.layers(), 2);
-    assert_eq!(rt; size.vertices(), 12);
-    Ok(())
+    let cases = [
+        (2048, 2048, 2, true),
+        (2048, 2048, 3, false),
+        (1, 1, 1, true),
+        (1, 1, 0, false),
+        (0, 1, 1, false),
+        (1, 0, 1, false),
+        (1, 1, 16, true),
+        (1, 1, 17, false),
+        (8_388_608, 1, 1, true),
+        (8_388_609, 1, 1, false),
+        (1, 524_288, 16, true),
+        (65_536, 65_536, 1, false),
+    ];
+    for (cols, rows, layers, fits) in cases {
+        assert_eq!(rt; Size::new(cols, rows, layers).is_some(), fits);
+    }
 }
 
 #[test]
 fn layers_are_numbered_before_rows_and_rows_before_columns(rt: HostRuntime) -> Result<(), Fail> {
     let size = small()?;
+    assert_eq!(rt;
+        (size.cols(), size.rows(), size.layers(), size.vertices()),
+        (3, 2, 2, 12)
+    );
     let place = Place {
         col: 2,
         row: 0,
@@ -46,31 +45,21 @@ fn layers_are_numbered_before_rows_and_rows_before_columns(rt: HostRuntime) -> R
     let v = size.vertex_of(place).ok_or("in the grid")?;
     assert_eq!(rt; v, Vertex(8));
     assert_eq!(rt; size.place_of(v), place);
-    assert_eq!(rt;
-        size.vertex_of(Place {
-            col: 3,
-            row: 0,
-            layer: 0
-        }),
-        None
-    );
-    assert_eq!(rt;
-        size.vertex_of(Place {
-            col: 0,
-            row: 2,
-            layer: 0
-        }),
-        None
-    );
-    assert_eq!(rt;
-        size.vertex_of(Place {
-            col: 0,
-            row: 0,
-            layer: 2
-        }),
-        None
-    );
+    assert_eq!(rt; size.layer_of(v), 1);
+    for (col, row, layer) in [(3, 0, 0), (0, 2, 0), (0, 0, 2)] {
+        assert_eq!(rt; size.vertex_of(Place { col, row, layer }), None);
+    }
     Ok(())
+}
+
+#[test]
+fn an_edge_has_a_start_and_an_axis(rt: HostRuntime) {
+    for (number, start, axis) in [(0, 0, Axis::X), (7, 3, Axis::Y), (8, 4, Axis::X)] {
+        let edge = Edge::along(Vertex(start), axis);
+        assert_eq!(rt; edge, Edge(number));
+        assert_eq!(rt; edge.start(), Vertex(start));
+        assert_eq!(rt; edge.axis(), axis);
+    }
 }
 
 #[test]
@@ -106,11 +95,11 @@ fn each_piece_is_found_between_its_ends(rt: HostRuntime) -> Result<(), Fail> {
         (Piece::Edge(Edge(5)), Vertex(2), Vertex(5)),
         (Piece::Via(Via(5)), Vertex(5), Vertex(11)),
     ];
-    for (p, near, far) in cases {
+    for (p, start, end) in cases {
         assert!(rt; size.is_piece(p));
-        assert_eq!(rt; size.ends_of(p), (near, far));
-        assert_eq!(rt; size.piece_between(near, far), Some(p));
-        assert_eq!(rt; size.piece_between(far, near), Some(p));
+        assert_eq!(rt; size.ends_of(p), (start, end));
+        assert_eq!(rt; size.piece_between(start, end), Some(p));
+        assert_eq!(rt; size.piece_between(end, start), Some(p));
     }
     // the end of a row and the start of the next, one vertex twice, two steps, no vertex
     let apart = [(2, 3), (4, 4), (0, 2), (11, 12)];

@@ -1,30 +1,30 @@
 -- What a ground allows is a piece of the grid.
-use Rattle.std.proofs.Common.{◌≡◌, ◌≢◌, ℕ, zero, suc, ◌+◌, ◌/◌, ◌<◌, ◌⊎◌, Bool, true, false, cond, ltb, refl, inl, inr, arith}
+use Rattle.std.proofs.Common.{◌≡◌, ◌≢◌, ℕ, zero, suc, ◌<◌, ◌⊎◌, Bool, true, false, cond, ltb, refl, inl, inr, arith}
 use Rattle.std.proofs.lemmas.Bool.{ltb-true, and_parts}
+use Rattle.grid_base.specs.declared.axis.Axis.{Axis}
+use Rattle.grid_base.specs.declared.axis.Axis.TheVariants.{X, Y}
 use Rattle.grid_base.specs.declared.edge.Edge.{Edge as EdgeNumber}
 use Rattle.grid_base.specs.declared.piece.Piece.{Piece}
 use Rattle.grid_base.specs.declared.piece.Piece.TheVariants.{Edge, Via}
-use Rattle.grid_base.specs.declared.place.Place.{Place}
 use Rattle.grid_base.specs.declared.size.Size.{Size}
-use Rattle.grid_base.specs.Numbers.{IsInside, IsPiece, place_at}
+use Rattle.grid_base.specs.Numbers.{edge_start, edge_axis, next_along, place_at, IsVertex, IsInside, IsPiece}
 use Rattle.grid_base.proofs.Places.{place_at-inside}
 use Rattle.grid_graph.specs.declared.grid.Grid.{Grid}
 use Rattle.grid_graph.specs.declared.ground.Ground.{Ground}
 use Rattle.grid_graph.specs.declared.ground.Ground.TheVariants.{Open, WithChoked}
 use Rattle.grid_graph.specs.declared.kind.Kind.TheVariants as kinds
-use Rattle.grid_graph.specs.Capacities.{is_edge}
-use Rattle.grid_graph.specs.Grids.{Allows, capacity, first_capacity, kind}
+use Rattle.grid_graph.specs.Capacities.{has_next, is_edge}
+use Rattle.grid_graph.specs.Grids.{size_of, Allows, capacity, first_capacity, kind}
 
-next_inside : (s : Size) (near : Place) (along_x : Bool) → IsInside s near → cond along_x (ltb (near.col + 1) s.cols) (ltb (near.row + 1) s.rows) ≡ true →
-    IsInside s (cond along_x (record near { col = near.col + 1 }) (record near { row = near.row + 1 }))
-next_inside s near true inside room = (ltb-true _ _ room, inside.1, inside.2)
-next_inside s near false inside room = (inside.0, ltb-true _ _ room, inside.2)
+next_inside : (s : Size) (axis : Axis) (v : ℕ) → IsVertex s v → has_next s axis v ≡ true → IsInside s (next_along axis (place_at s v))
+next_inside s X v vertex room = let inside = place_at-inside s v vertex in (ltb-true _ _ room, inside.1, inside.2)
+next_inside s Y v vertex room = let inside = place_at-inside s v vertex in (inside.0, ltb-true _ _ room, inside.2)
 
 -- a number that belongs to an edge is one of a piece
 pub is_edge-IsPiece : (s : Size) (e : EdgeNumber) → is_edge s e.0 ≡ true → IsPiece s (Edge e)
 is_edge-IsPiece s e is =
     let parts = and_parts _ _ is in
-    let vertex = ltb-true _ _ parts.0 in (vertex, next_inside s (place_at s (e.0 / 2)) _ (place_at-inside s (e.0 / 2) vertex) parts.1)
+    let vertex = ltb-true _ _ parts.0 in (vertex, next_inside s (edge_axis e.0) (edge_start e.0) vertex parts.1)
 
 true_by : (b : Bool) (n : ℕ) → (b ≡ false → n ≡ 0) → 0 < n → b ≡ true
 true_by true n none positive = refl
@@ -36,13 +36,13 @@ not_wall (suc own) first other = inl (omega arith)
 not_wall zero (suc first) other = inr (omega arith)
 not_wall zero zero other = absurd (other refl)
 
-not_wall-IsPiece : (g : Grid) (e : EdgeNumber) → kind g e.0 ≢ kinds.Wall → IsPiece g.size (Edge e)
-not_wall-IsPiece g e other = is_edge-IsPiece g.size e (elim (not_wall (capacity g e.0) (first_capacity g e.0) other) [
+not_wall-IsPiece : (g : Grid) (e : EdgeNumber) → kind g e.0 ≢ kinds.Wall → IsPiece (size_of g) (Edge e)
+not_wall-IsPiece g e other = is_edge-IsPiece (size_of g) e (elim (not_wall (capacity g e.0) (first_capacity g e.0) other) [
   | inl own ↦ true_by _ (capacity g e.0) (g.table.no_edge e.0) own
   | inr first ↦ true_by _ (first_capacity g e.0) (λ none. rw none refl) first
 ])
 
-pub Allows-IsPiece : (g : Grid) (over : Ground) (p : Piece) → Allows g over p → IsPiece g.size p
+pub Allows-IsPiece : (g : Grid) (over : Ground) (p : Piece) → Allows g over p → IsPiece (size_of g) p
 Allows-IsPiece g Open (Edge e) is = not_wall-IsPiece g e (λ wall. cc)
 Allows-IsPiece g WithChoked (Edge e) other = not_wall-IsPiece g e other
 Allows-IsPiece g Open (Via v) piece = piece

@@ -1,6 +1,6 @@
 -- Grounds by labels.
 use Rattle.std.proofs.Common.{◌≡◌, ℕ, ◌<◌, List, [], ◌∷◌, ◌++◌, length, get_or, refl, sym, ◌∙◌, ap, subst, ⊎_elim, arith}
-use Rattle.std.proofs.lemmas.Option.{same_Some, slice_get_within, slice_get_read, slice_get-get_or, slice_get_cases, get_or_from_slice_get}
+use Rattle.std.proofs.lemmas.Option.{same_Some, slice_get_read, slice_get-get_or, slice_get_cases}
 use Rattle.grid_base.specs.declared.piece.Piece.{Piece}
 use Rattle.grid_base.specs.declared.piece.Piece.TheVariants.{Edge, Via}
 use Rattle.grid_base.specs.declared.size.Size.{Size}
@@ -15,24 +15,17 @@ use Rattle.grid_graph.specs.declared.ground_error.GroundError.{GroundError}
 use Rattle.grid_graph.specs.declared.ground_error.GroundError.TheVariants.{Unreachable, NoMemory}
 use Rattle.grid_graph.specs.declared.net_spec.NetSpec.{NetSpec}
 use Rattle.grid_graph.specs.Apart.{HaveOneLabel, IsApart}
-use Rattle.grid_graph.specs.Grids.{Allows}
-use Rattle.grid_graph.specs.Grounds.{JoinsTerminals, IsGround, IsCutOff, IsCause, IsFirstCause}
+use Rattle.grid_graph.specs.Grids.{size_of, Allows}
+use Rattle.grid_graph.specs.Grounds.{JoinsTerminals, IsGround, IsCutOff, IsGroundError, AreGrounds, IsFirstGroundError}
 use Rattle.grid_graph.specs.Labels.{AreLabels}
-use Rattle.grid_graph.specs.Lists.{At}
-pub use Rattle.grid_base.proofs.Lists.{At-push_cases}
-
--- a member of a list stands at some place
-place_of_member : (terminals : List Vertex) (a : ℕ) → InVertices terminals a → (k : ℕ) × (k < length terminals) × At terminals k (record { 0 = a })
-place_of_member terminals a member = (member.0, member.1, slice_get_read terminals (length terminals) member.0 (record { 0 = a }) refl member.1 (sym member.2))
-
-member_from_place : (terminals : List Vertex) (k : ℕ) (v : Vertex) → At terminals k v → InVertices terminals v.0
-member_from_place terminals k v at = (k, slice_get_within terminals k v at, get_or_from_slice_get terminals k v v at)
+use Rattle.grid_base.specs.Lists.{At}
+use Rattle.grid_base.proofs.Lists.{At-push_cases, AllZip-from_places, At-from_member, member_from_place}
 
 -- terminals of one label are joined
 pub joins_alike : (s : Size) (F : Piece → Type 0) (labels : List ℕ) (terminals : List Vertex) → AreLabels s F labels → ((i : ℕ) (v : Vertex) → At terminals i v → IsVertex s v.0) → HaveOneLabel labels terminals (length terminals) → Joins s F (InVertices terminals)
 joins_alike s F labels terminals right vertex alike a b a_in b_in =
-    let at_a = place_of_member terminals a a_in in
-    let at_b = place_of_member terminals b b_in in
+    let at_a = At-from_member terminals (record { 0 = a }) a_in in
+    let at_b = At-from_member terminals (record { 0 = b }) b_in in
     let some : 0 < length terminals = omega (arith, at_a.1) in
     let first = get_or terminals 0 (record { 0 = a }) in
     let at_first : At terminals 0 first = slice_get-get_or terminals 0 (record { 0 = a }) some in
@@ -51,10 +44,10 @@ apart_not_joined s F labels terminals place right apart joins =
     apart.differs first last at_first at_last
     (right.apart last.0 first.0 (joins last.0 first.0 (member_from_place terminals place last at_last) (member_from_place terminals 0 first at_first)))
 
-pub cut_off_apart : (g : Grid) (n : NetSpec) (labels : List ℕ) (place : ℕ) → AreLabels g.size (Allows g WithChoked) labels → ((i : ℕ) (v : Vertex) → At n.terminals i v → IsVertex g.size v.0) → IsApart labels n.terminals place → IsCutOff g n n.id place
+pub cut_off_apart : (g : Grid) (n : NetSpec) (labels : List ℕ) (place : ℕ) → AreLabels (size_of g) (Allows g WithChoked) labels → ((i : ℕ) (v : Vertex) → At n.terminals i v → IsVertex (size_of g) v.0) → IsApart labels n.terminals place → IsCutOff g n n.id place
 cut_off_apart g n labels place right vertex apart = record {
   named = refl;
-  apart = apart_not_joined g.size (Allows g WithChoked) labels n.terminals place right apart;
+  apart = apart_not_joined (size_of g) (Allows g WithChoked) labels n.terminals place right apart;
   exists = apart.exists;
   unjoined = λ first v at_first at_v walk. apart.differs first v at_first at_v (sym (right.apart first.0 v.0 walk));
   joined = λ i first v below at_first at_v. right.joined first.0 v.0 (vertex 0 first at_first) (vertex i v at_v) (sym (apart.alike i first v below at_first at_v));
@@ -72,11 +65,11 @@ Allows-choked g (Via v) piece = piece
 
 -- a net that has a ground is joined with choked edges
 pub joins_with_choked : (g : Grid) (terminals : List Vertex) (found : Ground) → IsGround g terminals found → JoinsTerminals g WithChoked terminals
-joins_with_choked g terminals Open is = λ a b a_in b_in. WalkBetween-superset g.size (Allows g Open) (Allows g WithChoked) (Allows-choked g) a b (is a b a_in b_in)
+joins_with_choked g terminals Open is = λ a b a_in b_in. WalkBetween-superset (size_of g) (Allows g Open) (Allows g WithChoked) (Allows-choked g) a b (is a b a_in b_in)
 joins_with_choked g terminals WithChoked is = is.1
 
 -- the first net without a ground is the cause
-pub first_cause : (g : Grid) (nets : List NetSpec) (place : ℕ) (n : NetSpec) (e : GroundError) → At nets place n → IsCause g n e → ((j : ℕ) (m : NetSpec) → j < place → At nets j m → JoinsTerminals g WithChoked m.terminals) → IsFirstCause g nets e
+pub first_cause : (g : Grid) (nets : List NetSpec) (place : ℕ) (n : NetSpec) (e : GroundError) → At nets place n → IsGroundError g n e → ((j : ℕ) (m : NetSpec) → j < place → At nets j m → JoinsTerminals g WithChoked m.terminals) → IsFirstGroundError g nets e
 first_cause g nets place n (Unreachable id terminal) at cause earlier =
     record { place = place; net = n; stands = at; cut_off = cause; earlier = earlier }
 first_cause g nets place n NoMemory at cause earlier = tt
@@ -110,3 +103,7 @@ AreGroundsSoFar-push g nets grounds found right new k n also at stands =
     (λ old. right k n also at old)
     (λ last. subst (IsGround g n.terminals) (sym last.1) (new n (subst (λ (x : ℕ). At nets x n) last.0 at)))
     (At-push_cases grounds found also k stands)
+
+-- and of all nets, where there is one for each
+pub AreGrounds-from_so_far : (g : Grid) (nets : List NetSpec) (grounds : List Ground) → length grounds ≡ length nets → AreGroundsSoFar g nets grounds → AreGrounds g nets grounds
+AreGrounds-from_so_far g nets grounds long right = AllZip-from_places (λ n found. IsGround g n.terminals found) nets grounds long right

@@ -1,6 +1,4 @@
 pub mod Allowed
+pub mod Borders
 pub mod Grounds
-pub mod Labelling
-pub mod Near
-pub mod Neighbours
-pub mod Waiting
+pub mod SpreadLabels

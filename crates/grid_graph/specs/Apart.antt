@@ -1,7 +1,7 @@
 -- Terminals that labels tell apart.
 use Rattle.std.specs.Prelude.{ℕ, ◌≡◌, ◌≢◌, ◌<◌, List, length, slice_index}
 use Rattle.grid_base.specs.declared.vertex.Vertex.{Vertex}
-use Rattle.grid_graph.specs.Lists.{At}
+use Rattle.grid_base.specs.Lists.{At}
 
 -- the first n terminals have the label of the first one
 abbrev pub HaveOneLabel : List ℕ → List Vertex → ℕ → Type 0

@@ -1,5 +1,6 @@
 -- The ground of a net.
 use Rattle.std.specs.Prelude.{ℕ, ◌≡◌, ◌<◌, List, length}
+use Rattle.std.specs.List.{AllZip}
 use Rattle.grid_base.specs.declared.vertex.Vertex.{Vertex}
 use Rattle.grid_base.specs.Walks.{WalkBetween, Joins, InVertices}
 use Rattle.grid_graph.specs.declared.grid.Grid.{Grid}
@@ -8,16 +9,16 @@ use Rattle.grid_graph.specs.declared.ground.Ground.TheVariants.{Open, WithChoked
 use Rattle.grid_graph.specs.declared.ground_error.GroundError.{GroundError}
 use Rattle.grid_graph.specs.declared.ground_error.GroundError.TheVariants.{Unreachable, NoMemory}
 use Rattle.grid_graph.specs.declared.net_spec.NetSpec.{NetSpec}
-use Rattle.grid_graph.specs.Grids.{Allows}
-use Rattle.grid_graph.specs.Lists.{At}
+use Rattle.grid_graph.specs.Grids.{size_of, Allows}
+use Rattle.grid_base.specs.Lists.{At}
 
 -- a walk of the ground's pieces leads from a to b
 abbrev pub Reaches : Grid → Ground → ℕ → ℕ → Type 0
-Reaches g over a b = WalkBetween g.size (Allows g over) a b
+Reaches g over a b = WalkBetween (size_of g) (Allows g over) a b
 
 -- the ground's pieces join the terminals
 abbrev pub JoinsTerminals : Grid → Ground → List Vertex → Type 0
-JoinsTerminals g over terminals = Joins g.size (Allows g over) (InVertices terminals)
+JoinsTerminals g over terminals = Joins (size_of g) (Allows g over) (InVertices terminals)
 
 -- the ground of these terminals: open edges and vias where these join them, else choked edges too where these do
 abbrev pub IsGround : Grid → List Vertex → Ground → Type 0
@@ -33,9 +34,9 @@ pub record IsCutOff (g : Grid) (n : NetSpec) (id terminal : ℕ) : Type 0 where
   pub joined : (i : ℕ) (first v : Vertex) → i < terminal → At n.terminals 0 first → At n.terminals i v → Reaches g WithChoked first.0 v.0
 
 -- why a net has no ground; want of memory has no cause
-abbrev pub IsCause : Grid → NetSpec → GroundError → Type 0
-IsCause g n (Unreachable id terminal) = IsCutOff g n id terminal
-IsCause g n NoMemory = Unit {0}
+abbrev pub IsGroundError : Grid → NetSpec → GroundError → Type 0
+IsGroundError g n (Unreachable id terminal) = IsCutOff g n id terminal
+IsGroundError g n NoMemory = Unit {0}
 
 -- net k is the first that has no ground
 pub record IsFirstCutOff (g : Grid) (nets : List NetSpec) (id terminal : ℕ) : Type 0 where
@@ -46,11 +47,10 @@ pub record IsFirstCutOff (g : Grid) (nets : List NetSpec) (id terminal : ℕ) : 
   pub earlier : (j : ℕ) (m : NetSpec) → j < place → At nets j m → JoinsTerminals g WithChoked m.terminals
 
 -- why a list of nets has no grounds
-abbrev pub IsFirstCause : Grid → List NetSpec → GroundError → Type 0
-IsFirstCause g nets (Unreachable id terminal) = IsFirstCutOff g nets id terminal
-IsFirstCause g nets NoMemory = Unit {0}
+abbrev pub IsFirstGroundError : Grid → List NetSpec → GroundError → Type 0
+IsFirstGroundError g nets (Unreachable id terminal) = IsFirstCutOff g nets id terminal
+IsFirstGroundError g nets NoMemory = Unit {0}
 
 -- one ground per net, in order
-pub record AreGrounds (g : Grid) (nets : List NetSpec) (grounds : List Ground) : Type 0 where
-  pub long : length grounds ≡ length nets
-  pub each : (k : ℕ) (n : NetSpec) (found : Ground) → At nets k n → At grounds k found → IsGround g n.terminals found
+abbrev pub AreGrounds : Grid → List NetSpec → List Ground → Type 0
+AreGrounds g nets grounds = AllZip (λ n found. IsGround g n.terminals found) nets grounds

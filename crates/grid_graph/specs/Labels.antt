@@ -1,12 +1,9 @@
--- Labels of vertices that tell which of them a ground's pieces join.
-use Rattle.std.specs.Prelude.{ℕ, ◌≡◌, ◌≢◌, ◌==◌, ◌⊎◌, List, length, slice_index}
-use Rattle.std.specs.List.{count_by}
+-- Labels of vertices that tell which of them a set of pieces joins.
+use Rattle.std.specs.Prelude.{ℕ, ◌-◌, ◌^◌, ◌≡◌, ◌==◌, List, length, slice_index, Option, None, Some, cond}
 use Rattle.grid_base.specs.declared.piece.Piece.{Piece}
 use Rattle.grid_base.specs.declared.size.Size.{Size}
-use Rattle.grid_base.specs.declared.vertex.Vertex.{Vertex}
 use Rattle.grid_base.specs.Numbers.{vertices, IsVertex}
-use Rattle.grid_base.specs.Walks.{AreLinked, WalkBetween, InVertices}
-use Rattle.grid_graph.specs.declared.labels.TheConstants.{NO_LABEL}
+use Rattle.grid_base.specs.Walks.{WalkBetween}
 
 -- one label per vertex, and two vertices have the same one exactly where a walk in F leads from one to the other
 pub record AreLabels (s : Size) (F : Piece → Type 0) (labels : List ℕ) : Type 0 where
@@ -14,28 +11,10 @@ pub record AreLabels (s : Size) (F : Piece → Type 0) (labels : List ℕ) : Typ
   pub joined : (a b : ℕ) → IsVertex s a → IsVertex s b → slice_index labels a ≡ slice_index labels b → WalkBetween s F a b
   pub apart : (a b : ℕ) → WalkBetween s F a b → slice_index labels a ≡ slice_index labels b
 
--- the vertex has a label
-abbrev pub IsLabelled : List ℕ → ℕ → Type 0
-IsLabelled labels v = slice_index labels v ≢ NO_LABEL
+-- stands where a vertex has no label yet
+abbrev pub no_label : ℕ
+no_label = 2 ^ 32 - 1
 
--- how many have none
-abbrev pub unlabelled : List ℕ → ℕ
-unlabelled labels = count_by (λ x. x == NO_LABEL) labels
-
--- labels on the way: a label is a vertex that a walk joins to its bearer, and all that is linked to a bearer has its
--- label too, unless the bearer waits to pass it on; those that wait have one label
-pub record ArePartial (s : Size) (F : Piece → Type 0) (labels : List ℕ) (Waits : ℕ → Type 0) : Type 0 where
-  pub long : length labels ≡ vertices s
-  pub rooted : (v : ℕ) → IsVertex s v → IsLabelled labels v → WalkBetween s F (slice_index labels v) v
-  pub spread : (v w : ℕ) → IsLabelled labels v → AreLinked s F v w → (slice_index labels w ≡ slice_index labels v) ⊎ Waits v
-  pub vertex : (v : ℕ) → Waits v → IsVertex s v
-  pub labelled : (v : ℕ) → Waits v → IsLabelled labels v
-  pub level : (v w : ℕ) → Waits v → Waits w → slice_index labels v ≡ slice_index labels w
-
--- this vertex waits, or is one of a list
-abbrev pub WaitsWith : List Vertex → Vertex → ℕ → Type 0
-WaitsWith waiting v x = InVertices waiting x ⊎ (x ≡ v.0)
-
--- no label was changed
-abbrev pub KeepsLabels : List ℕ → List ℕ → Type 0
-KeepsLabels old new = (v : ℕ) → IsLabelled old v → slice_index new v ≡ slice_index old v
+-- the label of a vertex, if it has one yet
+abbrev pub label_of : List ℕ → ℕ → Option ℕ
+label_of labels v = cond (slice_index labels v == no_label) None (Some (slice_index labels v))

@@ -22,16 +22,16 @@ pub struct Design {
 impl Design {
     ghost use Rattle.std.specs.Prelude.{ℕ, ◌≡◌, ◌<◌, length, IfOk, IfErr};
     ghost use Rattle.grid_graph.specs.declared.net_spec.NetSpec.{NetSpec};
-    ghost use Rattle.grid_graph.specs.Grids.{Allows};
-    ghost use Rattle.grid_graph.specs.Grounds.{IsGround, IsCause, IsFirstCause, AreGrounds};
+    ghost use Rattle.grid_graph.specs.Grids.{size_of, Allows};
+    ghost use Rattle.grid_graph.specs.Grounds.{IsGround, IsGroundError, IsFirstGroundError, AreGrounds};
     ghost use Rattle.grid_graph.specs.Labels.{AreLabels};
-    ghost use Rattle.grid_graph.specs.Lists.{At};
+    ghost use Rattle.grid_base.specs.Lists.{At};
 
     /// The ground of the net at this place of the list. `Unreachable` is a net that no ground joins.
     pub fn ground(&self, net: usize) -> Result<Ground, GroundError>
         requires { net < length self.now.nets }
         ensures found { (n : NetSpec) → At self.now.nets net n → IfOk result (λ found. IsGround self.now.grid n.terminals found) }
-        ensures cause { (n : NetSpec) → At self.now.nets net n → IfErr result (λ e. IsCause self.now.grid n e) }
+        ensures cause { (n : NetSpec) → At self.now.nets net n → IfErr result (λ e. IsGroundError self.now.grid n e) }
     {
         let by_open = labels_of(self.grid.allocator(), &self.grid, Ground::Open)?;
         let by_choked = labels_of(self.grid.allocator(), &self.grid, Ground::WithChoked)?;
@@ -43,7 +43,7 @@ impl Design {
     /// Takes time linear in the vertices and the terminals: the vertices are labelled once for each ground.
     pub fn grounds(&self) -> Result<Vec<Ground>, GroundError>
         ensures grounds { IfOk result (λ grounds. AreGrounds self.now.grid self.now.nets grounds.items) }
-        ensures cause { IfErr result (λ e. IsFirstCause self.now.grid self.now.nets e) }
+        ensures cause { IfErr result (λ e. IsFirstGroundError self.now.grid self.now.nets e) }
     {
         let by_open = labels_of(self.grid.allocator(), &self.grid, Ground::Open)?;
         let by_choked = labels_of(self.grid.allocator(), &self.grid, Ground::WithChoked)?;
@@ -62,10 +62,10 @@ impl Design {
         net: usize,
     ) -> Result<Ground, GroundError>
         requires net { net < length self.now.nets }
-        requires by_open { AreLabels self.now.grid.size (Allows self.now.grid Ground.Open) by_open.now }
-        requires by_choked { AreLabels self.now.grid.size (Allows self.now.grid Ground.WithChoked) by_choked.now }
+        requires by_open { AreLabels (size_of self.now.grid) (Allows self.now.grid Ground.Open) by_open.now }
+        requires by_choked { AreLabels (size_of self.now.grid) (Allows self.now.grid Ground.WithChoked) by_choked.now }
         ensures found { (n : NetSpec) → At self.now.nets net n → IfOk result (λ found. IsGround self.now.grid n.terminals found) }
-        ensures cause { (n : NetSpec) → At self.now.nets net n → IfErr result (λ e. IsCause self.now.grid n e) }
+        ensures cause { (n : NetSpec) → At self.now.nets net n → IfErr result (λ e. IsGroundError self.now.grid n e) }
     {
         let spec = &self.nets.list()[net];
         let terminals = spec.terminals.list();

@@ -2,7 +2,7 @@
 
 ghost use Rattle.std.specs.Prelude.{ℕ, ◌<◌, length, IfNone, IfSome};
 ghost use Rattle.grid_graph.specs.Apart.{HaveOneLabel, IsApart};
-ghost use Rattle.grid_graph.specs.Lists.{At};
+ghost use Rattle.grid_base.specs.Lists.{At};
 
 use grid_base::Vertex;
 

@@ -1,6 +1,5 @@
 //! Why a grid was not made.
 
-use std::alloc::AllocError;
 use thiserror::Error;
 
 /// Why a grid was not made.
@@ -11,8 +10,8 @@ pub enum GridRefusal {
     NoMemory,
 }
 
-impl From<AllocError> for GridRefusal {
-    fn from(_: AllocError) -> Self {
+impl From<grid_base::NoMemory> for GridRefusal {
+    fn from(_: grid_base::NoMemory) -> Self {
         GridRefusal::NoMemory
     }
 }

@@ -2,6 +2,7 @@
 
 ghost use Rattle.std.specs.Prelude.{◌≡◌};
 ghost use Rattle.grid_graph.specs.declared.ground_error.GroundError.TheVariants.{NoMemory};
+ghost use Rattle.grid_graph.specs.GroundErrors.{number_of};
 
 use std::alloc::AllocFailed;
 use thiserror::Error;
@@ -20,6 +21,18 @@ pub enum GroundError {
     /// There was no memory for the labels.
     #[error("want of memory")]
     NoMemory,
+}
+
+impl GroundError {
+    /// Its number among the faults that a report names. Want of memory has none.
+    pub fn number(self) -> Option<u32>
+        ensures { result ≡ number_of self }
+    {
+        match self {
+            GroundError::Unreachable { .. } => Some(4),
+            GroundError::NoMemory => None,
+        }
+    }
 }
 
 impl From<grid_base::NoMemory> for GroundError {

@@ -2,7 +2,7 @@
 
 ghost use Rattle.std.specs.Prelude.{◌≡◌, List};
 ghost use Rattle.grid_base.specs.declared.vertex.Vertex.{Vertex};
-ghost use Rattle.grid_graph.specs.Lists.{HasNoRepeats};
+ghost use Rattle.grid_base.specs.Lists.{HasNoRepeats};
 
 use grid_base::Vertex;
 use std::marker::Model;

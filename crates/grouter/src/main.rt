@@ -1,17 +1,19 @@
 //! The command line of the router: `grouter route FILE`.
 #![tactic(auto)]
 
-ghost use Rattle.std.specs.Prelude.{◌≡◌, ◌≢◌, ℕ, List, take, IsErr, IfOk};
+ghost use Rattle.std.specs.Prelude.{◌≡◌, ◌≢◌, [], drop, IsErr, IfOk, IfErr, IsErrAnd};
 ghost use Rattle.std.specs.Process.{exit_status};
-ghost use Rattle.router_cli.specs.Promise.{IsReport, IsRefused, ReportGains};
+ghost use Rattle.std.specs.IoError.{error_kind};
+ghost use Rattle.std.specs.Vec.Iter.{into_iter_items};
+ghost use Rattle.router_cli.specs.Runs.{IsRun};
 
 use gr_desk::{Desk, RealDesk};
 use router_cli::run;
 use std::alloc::{AllocError, Global};
-use std::env;
-use std::env::Env;
+use std::env::Args;
 use std::io::ErrorKind;
 use std::process::ExitCode;
+use std::{env, io};
 
 #[cfg(test)]
 mod tests;
@@ -20,21 +22,15 @@ mod tests;
 const NO_MEMORY: u8 = 8;
 
 fn main(rt: HostRuntime) -> ExitCode {
-    ended(rt.alloc(), words(&rt), &mut RealDesk::new(&rt))
+    let words = words(rt.alloc(), env::args(&rt));
+    ended(rt.alloc(), words, &mut RealDesk::new(&rt))
 }
 
-/// What the program ends with: the status of `run`, and nothing is written where there is no memory for the words.
+/// What the program ends with: the status of `run`, and nothing is done where there is no memory for the words.
 fn ended<D: Desk>(alloc: Global, words: Result<Vec<String>, AllocError>, desk: &mut D) -> ExitCode
-    ensures routed { IfOk words (λ w. exit_status result ≡ 0 → (text : List ℕ)
-        × IsReport w.items (D.told desk.old) text
-        × ReportGains (D.told desk.old) (D.told desk.new) text) }
-    ensures cut_short { IfOk words (λ w. exit_status result ≡ 7 → (text : List ℕ) × (n : ℕ)
-        × IsReport w.items (D.told desk.old) text
-        × ReportGains (D.told desk.old) (D.told desk.new) (take n text)) }
-    ensures refused { IfOk words (λ w. exit_status result ≢ 0 → exit_status result ≢ 7
-        → IsRefused w.items (D.told desk.old) (D.told desk.new) (exit_status result)) }
+    ensures run { IfOk words (λ w. IsRun w.items (D.told desk.old) (D.told desk.new) (exit_status result)) }
     ensures no_memory { IsErr words → exit_status result ≡ 8 }
-    ensures nothing_written { IsErr words → D.told desk.new ≡ D.told desk.old }
+    ensures nothing_done { IsErr words → D.told desk.new ≡ D.told desk.old }
 {
     match words {
         Ok(words) => ExitCode::from(run(alloc, &words, desk)),
@@ -42,12 +38,16 @@ fn ended<D: Desk>(alloc: Global, words: Result<Vec<String>, AllocError>, desk: &
     }
 }
 
-/// The arguments without the program's name. Where they aren't text there are none, so that they are
-/// no command.
-fn words(rt: &(impl Env + AllocGlobal)) -> Result<Vec<String>, AllocError> {
-    match env::args(rt) {
-        Ok(args) => args.skip(1).collect(rt.alloc()),
+/// The words among the program's arguments: all but the first, which is its name. Arguments that aren't text are no
+/// words, so that they are no command.
+fn words(alloc: Global, args: io::Result<Args>) -> Result<Vec<String>, AllocError>
+    ensures all { IfOk args (λ given. IfOk result (λ words. words.items ≡ drop 1 (into_iter_items given))) }
+    ensures no_memory { IfErr args (λ error. error_kind error ≡ ErrorKind.OutOfMemory → IsErr result) }
+    ensures no_text { IfErr args (λ error. error_kind error ≢ ErrorKind.OutOfMemory → IfOk result (λ words. words.items ≡ [])) }
+{
+    match args {
+        Ok(args) => args.skip(1).collect(alloc),
         Err(error) if error.kind() == ErrorKind::OutOfMemory => Err(AllocError),
-        Err(_) => Ok(Vec::new(rt.alloc())),
+        Err(_) => Ok(Vec::new(alloc)),
     }
 }

@@ -1,6 +1,7 @@
 //! What words the program has.
 
 use crate::words;
+use std::env;
 use std::env::{Env, FillError};
 use std::test::Fail;
 
@@ -30,10 +31,25 @@ impl Env for Started {
 }
 
 #[test]
-fn arguments_that_are_no_text_are_no_words(rt: HostRuntime) -> Result<(), Fail> {
-    let text = words(&(Started(&[b"grouter", b"route", b"a.gr"]), rt.alloc()))?;
-    assert_eq!(rt; text.len(), 2);
-    let other = words(&(Started(&[b"grouter", b"route", b"\xff.gr"]), rt.alloc()))?;
-    assert_eq!(rt; other.len(), 0);
+fn arguments_are_words_but_for_the_first(rt: HostRuntime) -> Result<(), Fail> {
+    let alloc = rt.alloc();
+    let cases: [(&[&[u8]], &str); 5] = [
+        (
+            &[b"grouter", b"route", b"a.gr", b"b", b"-c"],
+            "route a.gr b -c ",
+        ),
+        (&[b"grouter", b"route", b"a.gr"], "route a.gr "),
+        (&[b"grouter"], ""),
+        (&[], ""),
+        (&[b"grouter", b"route", b"\xff.gr"], ""),
+    ];
+    for (args, want) in cases {
+        let mut joined = String::new(alloc);
+        for word in &words(alloc, env::args(&(Started(args), alloc)))? {
+            joined.push_str(word)?;
+            joined.push(' ')?;
+        }
+        assert_eq!(rt; joined.as_str(), want);
+    }
     Ok(())
 }

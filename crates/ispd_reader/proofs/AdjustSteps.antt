@@ -1,19 +1,19 @@
 -- Adjusting a grid step by step.
-use Rattle.std.proofs.Common.{◌≡◌, ◌≢◌, ℕ, ◌+◌, ◌-◌, ◌<◌, ◌≤◌, ◌^◌, true, false, ◌==◌, List, [], ◌∷◌, ◌++◌, length, arith, Option, Some, None, Ok, refl, sym, ap, ◌∙◌, ⊎_elim, eq-eqb, ne_eqb}
+use Rattle.std.proofs.Common.{◌≡◌, ◌≢◌, ℕ, ◌+◌, ◌-◌, ◌<◌, ◌≤◌, true, false, ◌==◌, List, [], ◌∷◌, ◌++◌, length, arith, Option, Some, None, Ok, refl, sym, ap, ◌∙◌, ⊎_elim, eq-eqb, ne_eqb}
 use Rattle.std.specs.Option.{unwrap_or, option_or}
 use Rattle.std.proofs.lemmas.Bool.{cases_eq}
 use Rattle.text_scan.specs.Tokens.{Token}
 use Rattle.grid_graph.specs.declared.grid.Grid.{Grid}
-use Rattle.grid_graph.specs.Grids.{capacity, SameButCapacities}
+use Rattle.grid_graph.specs.Grids.{capacity}
 use Rattle.ispd_reader.specs.declared.input_error.InputError.{InputError}
-use Rattle.ispd_reader.specs.declared.input_error.InputError.TheVariants as errors
-use Rattle.ispd_reader.specs.Parsing.{Rest, Read, ◌>>=◌, Refuses, parts_at}
+use Rattle.ispd_reader.specs.Parsing.{Rest, Read, ◌>>=◌, Refuses, refusal_in, parts_at}
+use Rattle.ispd_reader.specs.Limits.{max_adjustments}
 use Rattle.ispd_reader.specs.Numbers.{count_at}
 use Rattle.ispd_reader.specs.Header.{Extent}
 use Rattle.ispd_reader.specs.Adjustments.{Adjustment, level_where, last_level, adjustment_at, adjustments_at}
 use Rattle.ispd_reader.specs.Adjusted.{IsAdjusted, IsAdjustedBy}
-use Rattle.text_scan.proofs.Parts.{with_parts}
-use Rattle.ispd_reader.proofs.InTurn.{begins, goes_on, ends, is_done}
+use Rattle.text_scan.proofs.Parts.{with_parts, Refuses-with}
+use Rattle.text_scan.proofs.InTurn.{begins, goes_on, ends, is_done}
 
 -- no token is left
 pub no_adjustments : (e : Extent) (rest : Rest) → rest.tokens ≡ [] → adjustments_at e rest ≡ Ok ([], rest)
@@ -25,7 +25,7 @@ some_left [] h = absurd (h refl)
 some_left (t ∷ ts) h = ne_eqb (length (t ∷ ts)) 0 (λ e. omega (arith, e))
 
 -- a token is left
-pub some_adjustments : (e : Extent) (rest : Rest) → (rest.tokens ≡ [] → ⊥) → adjustments_at e rest ≡ (count_at (2 ^ 23) rest >>= λ count. parts_at (adjustment_at e) 0 count.0 count.1)
+pub some_adjustments : (e : Extent) (rest : Rest) → (rest.tokens ≡ [] → ⊥) → adjustments_at e rest ≡ (count_at max_adjustments rest >>= λ count. parts_at (adjustment_at e) 0 count.0 count.1)
 unfolding adjustments_at
 some_adjustments e rest h = let some : (length rest.tokens == 0) ≡ false = some_left rest.tokens h in rw some refl
 
@@ -45,30 +45,16 @@ last_level-push : (e : ℕ) (done : List Adjustment) (a : Adjustment) → last_l
 last_level-push e [] a = option_or_none (level_where e a.edge a.level)
 last_level-push e (b ∷ bs) a = ap (λ x. option_or x (level_where e b.edge b.level)) (last_level-push e bs a) ∙ option_or_assoc (level_where e a.edge a.level) (last_level e bs) (level_where e b.edge b.level)
 
--- nothing changes
-pub SameButCapacities-refl : (g : Grid) → SameButCapacities g g
-SameButCapacities-refl g = record { size = refl; vertical = refl; horizontal = refl; widths = refl; spacings = refl; origin = refl; tile = refl }
-
-pub SameButCapacities-trans : (f g h : Grid) → SameButCapacities f g → SameButCapacities g h → SameButCapacities f h
-SameButCapacities-trans f g h p q = record {
-  size = q.size ∙ p.size;
-  vertical = q.vertical ∙ p.vertical;
-  horizontal = q.horizontal ∙ p.horizontal;
-  widths = q.widths ∙ p.widths;
-  spacings = q.spacings ∙ p.spacings;
-  origin = q.origin ∙ p.origin;
-  tile = q.tile ∙ p.tile;
-}
-
+-- before any adjustment
 pub IsAdjusted-none : (g : Grid) → IsAdjusted g g []
-IsAdjusted-none g = record { levels = λ e. refl; kept = SameButCapacities-refl g }
+IsAdjusted-none g = record { levels = λ e. refl; kept = refl }
 
 -- one more adjustment
 IsAdjusted-push : (old now new : Grid) (done : List Adjustment) (a : Adjustment) → IsAdjusted old now done → IsAdjustedBy now new a → IsAdjusted old new (done ++ a ∷ [])
 IsAdjusted-push old now new done a so_far step = record {
   levels = λ e. step.levels e ∙ ap (λ d. unwrap_or (level_where e a.edge a.level) d) (so_far.levels e)
       ∙ sym (ap (λ x. unwrap_or x (capacity old e)) (last_level-push e done a) ∙ unwrap_or-option_or (level_where e a.edge a.level) (last_level e done) (capacity old e));
-  kept = SameButCapacities-trans old now new so_far.kept step.kept;
+  kept = step.kept ∙ so_far.kept;
 }
 
 -- the adjustments that were made so far, in a grid of this size
@@ -78,7 +64,7 @@ pub record AreAdjustments (old now : Grid) (e : Extent) (first rest : Rest) (cou
   pub adjusted : IsAdjusted old now done
 
 -- before the first
-pub no_adjustment_yet : (g : Grid) (e : Extent) (first rest : Rest) (count : ℕ) → (first.tokens ≡ [] → ⊥) → count_at (2 ^ 23) first ≡ Ok (count, rest) → AreAdjustments g g e first rest count 0
+pub no_adjustment_yet : (g : Grid) (e : Extent) (first rest : Rest) (count : ℕ) → (first.tokens ≡ [] → ⊥) → count_at max_adjustments first ≡ Ok (count, rest) → AreAdjustments g g e first rest count 0
 no_adjustment_yet g e first rest count some read =
     record {
       done = [];
@@ -97,9 +83,9 @@ one_more_adjustment old now new e first rest after count i a lt so_far read step
     }
 
 -- the next one is refused
-pub adjustment_refused : (old now : Grid) (e : Extent) (first rest : Rest) (count i : ℕ) (error : InputError) → i < count → AreAdjustments old now e first rest count i → Refuses error (adjustment_at e i rest) → Refuses error (adjustments_at e first)
+pub adjustment_refused : (old now : Grid) (e : Extent) (first rest : Rest) (count i : ℕ) (error : InputError) → i < count → AreAdjustments old now e first rest count i → Refuses refusal_in error (adjustment_at e i rest) → Refuses refusal_in error (adjustments_at e first)
 adjustment_refused old now e first rest count i error lt so_far refused =
-    ends (adjustment_at e) error so_far.done count i rest (adjustments_at e first) lt refused so_far.reading
+    ends refusal_in (adjustment_at e) error so_far.done count i rest (adjustments_at e first) lt refused so_far.reading
 
 -- all are made
 pub all_adjusted : (old now : Grid) (e : Extent) (first rest : Rest) (count i : ℕ) → count ≤ i → AreAdjustments old now e first rest count i → (adjustments : List Adjustment) × (adjustments_at e first ≡ Ok (adjustments, rest)) × IsAdjusted old now adjustments
@@ -114,7 +100,7 @@ one_edge old new x level here others e = ⊎_elim
     (cases_eq x e)
 
 -- the count is refused
-pub count_refused : (e : Extent) (first : Rest) (error : InputError) → (first.tokens ≡ [] → ⊥) → Refuses error (count_at (2 ^ 23) first) → Refuses error (adjustments_at e first)
-count_refused e first errors.NoMemory some refused = tt
-count_refused e first (errors.Input fault) some refused =
-    some_adjustments e first some ∙ ap (λ (r : Read ℕ). r >>= λ count. parts_at (adjustment_at e) 0 count.0 count.1) refused
+pub count_refused : (e : Extent) (first : Rest) (error : InputError) → (first.tokens ≡ [] → ⊥) → Refuses refusal_in error (count_at max_adjustments first) → Refuses refusal_in error (adjustments_at e first)
+count_refused e first error some refused =
+    Refuses-with refusal_in error (count_at max_adjustments first) (adjustments_at e first)
+    (λ fault is. some_adjustments e first some ∙ ap (λ (r : Read ℕ). r >>= λ count. parts_at (adjustment_at e) 0 count.0 count.1) is) refused

@@ -11,7 +11,7 @@ use Rattle.grid_graph.specs.declared.grid.Grid.{Grid}
 use Rattle.grid_graph.specs.declared.ground.Ground.{Ground}
 use Rattle.grid_graph.specs.declared.ground.Ground.TheVariants.{Open, WithChoked}
 use Rattle.grid_graph.specs.declared.net_spec.NetSpec.{NetSpec}
-use Rattle.grid_graph.specs.Grids.{Allows}
+use Rattle.grid_graph.specs.Grids.{size_of, Allows}
 use Rattle.grid_graph.specs.Grounds.{Reaches, JoinsTerminals, IsCutOff, IsFirstCutOff}
 use Rattle.ispd_reader.specs.Alike.{AreAlike}
 
@@ -36,7 +36,7 @@ Allows-alike g h WithChoked (Via v) alike piece = subst (λ (s : Size). IsPiece 
 pub Reaches-alike : (g h : Grid) (over : Ground) (a b : ℕ) → AreAlike g h → Reaches g over a b → Reaches h over a b
 Reaches-alike g h over a b alike walk =
     subst (λ (s : Size). WalkBetween s (Allows h over) a b) alike.size
-    (WalkBetween-superset g.size (Allows g over) (Allows h over) (λ p. Allows-alike g h over p alike) a b walk)
+    (WalkBetween-superset (size_of g) (Allows g over) (Allows h over) (λ p. Allows-alike g h over p alike) a b walk)
 
 joins_too : (g h : Grid) (over : Ground) (terminals : List Vertex) → AreAlike g h → JoinsTerminals g over terminals → JoinsTerminals h over terminals
 joins_too g h over terminals alike joins = λ a b a_in b_in. Reaches-alike g h over a b alike (joins a b a_in b_in)

@@ -3,7 +3,6 @@ pub mod Alike
 pub mod AlikeCutOff
 pub mod AlikeGrounds
 pub mod Distinct
-pub mod InTurn
 pub mod Limits
 pub mod NetNames
 pub mod NetSteps

@@ -8,6 +8,7 @@ use Rattle.std.proofs.lemmas.Option.{none-some, cond_some}
 use Rattle.std.proofs.lemmas.Nat.{div_below}
 use Rattle.grid_graph.specs.Tiles.{tile_index}
 use Rattle.grid_base.specs.declared.size.Size.{Size}
+use Rattle.grid_base.specs.Numbers.{cols, rows, layers}
 use Rattle.grid_base.specs.Limits.{IsGridSize}
 use Rattle.ispd_reader.specs.Within.{within}
 use Rattle.ispd_reader.specs.Header.{Extent, is_size, natural, extent_of}
@@ -55,11 +56,11 @@ unfolding extent_of
 extent_made n m k s = let h : is_size (record { cols = n; rows = m; layers = k }) ≡ true = test_of_size (record { cols = n; rows = m; layers = k }) s in rw h refl
 
 -- the size that three numbers make, if any
-pub size_is : (n m k : ℕ) (result : Option Size) → (IsSome result ↔ IsGridSize n m k) → IfSome result (λ s. s.cols ≡ n) → IfSome result (λ s. s.rows ≡ m) → IfSome result (λ s. s.layers ≡ k) →
+pub size_is : (n m k : ℕ) (result : Option Size) → (IsSome result ↔ IsGridSize n m k) → IfSome result (λ s. cols s ≡ n) → IfSome result (λ s. rows s ≡ m) → IfSome result (λ s. layers s ≡ k) →
     option_map extent_of_size result ≡ extent_of (pos n) (pos m) (pos k)
-size_is n m k None limits cols rows layers = sym (no_extent (pos n) (pos m) (pos k) (λ s. absurd (let some = limits.1 s in cc)))
-size_is n m k (Some s) limits cols rows layers =
-    let same : extent_of_size s ≡ record { cols = n; rows = m; layers = k } = rw (cols, rows, layers) refl in
+size_is n m k None limits has_cols has_rows has_layers = sym (no_extent (pos n) (pos m) (pos k) (λ s. absurd (let some = limits.1 s in cc)))
+size_is n m k (Some s) limits has_cols has_rows has_layers =
+    let same : extent_of_size s ≡ record { cols = n; rows = m; layers = k } = cc in
     ap (λ e. Some e) same ∙ sym (extent_made n m k (limits.0 refl))
 
 abs_positive : (t : ℤ) → pos 1 ≤ℤ t → 0 < nat_abs t

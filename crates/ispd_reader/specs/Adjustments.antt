@@ -1,9 +1,11 @@
 -- The adjustments of single edges.
-use Rattle.std.specs.Prelude.{ℕ, ◌+◌, ◌-◌, ◌*◌, ◌^◌, ◌==◌, min, List, [], ◌∷◌, length, if◌then◌else◌, ℤ, Option, None, Some, Ok}
+use Rattle.std.specs.Prelude.{ℕ, ◌-◌, ◌==◌, min, List, [], ◌∷◌, length, if◌then◌else◌, ℤ, Option, None, Some, Ok}
 use Rattle.std.specs.Option.{option_or}
 use Rattle.grid_base.specs.declared.place.Place.{Place}
-use Rattle.grid_base.specs.Numbers.{distance}
+use Rattle.grid_base.specs.declared.axis.Axis.TheVariants.{X, Y}
+use Rattle.grid_base.specs.Numbers.{distance, edge_along}
 use Rattle.ispd_reader.specs.declared.input_fault.InputFault.TheVariants.{AdjustmentPlace}
+use Rattle.ispd_reader.specs.Limits.{max_adjustments}
 use Rattle.ispd_reader.specs.Parsing.{Rest, Read, ◌>>=◌, or_refuse, parts_at}
 use Rattle.ispd_reader.specs.Numbers.{number_at, capacity_at, count_at}
 use Rattle.ispd_reader.specs.Within.{within}
@@ -16,22 +18,22 @@ pub record Adjustment : Type 0 where
   pub level : ℕ
 
 -- a column, a row and a layer, where all three are there; layers count from 1 in the text
-abbrev pub place_of : Option ℕ → Option ℕ → Option ℕ → Option Place
-place_of None row layer = None
-place_of (Some col) None layer = None
-place_of (Some col) (Some row) None = None
-place_of (Some col) (Some row) (Some layer) = Some (record { col = col; row = row; layer = layer - 1 })
+abbrev pub place_where : Option ℕ → Option ℕ → Option ℕ → Option Place
+place_where None row layer = None
+place_where (Some col) None layer = None
+place_where (Some col) (Some row) None = None
+place_where (Some col) (Some row) (Some layer) = Some (record { col = col; row = row; layer = layer - 1 })
 
 -- the tile at these numbers, where it is inside the grid
 unfoldable pub place_in : Extent → ℤ → ℤ → ℤ → Option Place
-place_in e col row layer = place_of (within 0 (e.cols - 1) col) (within 0 (e.rows - 1) row) (within 1 e.layers layer)
+place_in e col row layer = place_where (within 0 (e.cols - 1) col) (within 0 (e.rows - 1) row) (within 1 e.layers layer)
 
 -- the number of the edge between two neighbouring tiles, none between two layers
 unfoldable pub edge_between : Extent → Place → Place → Option ℕ
 edge_between e a b =
     if a.layer == b.layer then
-    (if a.row == b.row then Some (2 * vertex_at e (min a.col b.col) a.row a.layer)
-    else Some (2 * vertex_at e a.col (min a.row b.row) a.layer + 1))
+    (if a.row == b.row then Some ((edge_along X (vertex_at e (min a.col b.col) a.row a.layer)).0)
+    else Some ((edge_along Y (vertex_at e a.col (min a.row b.row) a.layer)).0))
     else None
 
 -- what lies between two tiles, where both are inside the grid and they differ by 1 in one of column, row and layer
@@ -60,7 +62,7 @@ adjustment_at e index rest = do
 -- how many adjustments, and the adjustments; none where no token is left
 unfoldable pub adjustments_at : Extent → Rest → Read (List Adjustment)
 adjustments_at e rest = if length rest.tokens == 0 then Ok ([], rest) else do
-  count ← count_at (2 ^ 23) rest
+  count ← count_at max_adjustments rest
   parts_at (adjustment_at e) 0 count.0 count.1
 
 -- the level of an adjustment, where this is the edge that it names

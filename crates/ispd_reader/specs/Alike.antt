@@ -2,12 +2,11 @@
 use Rattle.std.specs.Prelude.{◌≡◌, ℕ}
 use Rattle.grid_graph.specs.declared.design.Design.{Design}
 use Rattle.grid_graph.specs.declared.grid.Grid.{Grid}
-use Rattle.grid_graph.specs.Grids.{capacity, kind, demand_on, position_of}
-use Rattle.ispd_reader.specs.Views.{layout_of}
+use Rattle.grid_graph.specs.Grids.{size_of, layout_of, capacity, kind, demand_on, position_of}
 
 -- two grids of one size and layout, with the same kind, capacity and demands of each edge number and the same position of each vertex
 pub record AreAlike (g h : Grid) : Type 0 where
-  pub size : g.size ≡ h.size
+  pub size : size_of g ≡ size_of h
   pub layout : layout_of g ≡ layout_of h
   pub kinds : (e : ℕ) → kind g e ≡ kind h e
   pub capacities : (e : ℕ) → capacity g e ≡ capacity h e

@@ -1,5 +1,6 @@
 -- The parts of the text before the nets: the grid, its layers and its tiles.
-use Rattle.std.specs.Prelude.{ℕ, Bool, ◌*◌, ◌^◌, ◌&&◌, List, length, slice_index, if◌then◌else◌, nat_le, ℤ, pos, negsuc, Option, None, Some, Ok}
+use Rattle.std.specs.Prelude.{ℕ, Bool, ◌*◌, ◌&&◌, List, length, slice_index, if◌then◌else◌, nat_le, ℤ, pos, negsuc, Option, None, Some, Ok}
+use Rattle.grid_base.specs.Limits.{max_layers, max_vertices}
 use Rattle.ispd_reader.specs.declared.input_fault.InputFault.TheVariants.{GridSize}
 use Rattle.ispd_reader.specs.declared.wanted.Wanted.{Wanted}
 use Rattle.ispd_reader.specs.declared.wanted.Wanted.TheVariants as wanted
@@ -13,7 +14,7 @@ pub record Extent : Type 0 where
   pub layers : ℕ
 
 -- what stands before the nets; the lists have one number per layer
-pub record Layout : Type 0 where
+pub record Header : Type 0 where
   pub extent : Extent
   pub vertical : List ℕ
   pub horizontal : List ℕ
@@ -24,7 +25,7 @@ pub record Layout : Type 0 where
 
 -- no part of the grid is empty, and it is within the limits
 abbrev pub is_size : Extent → Bool
-is_size e = nat_le 1 e.cols && nat_le 1 e.rows && nat_le 1 e.layers && nat_le e.layers 16 && nat_le (e.cols * e.rows * e.layers) (2 ^ 23)
+is_size e = nat_le 1 e.cols && nat_le 1 e.rows && nat_le 1 e.layers && nat_le e.layers max_layers && nat_le (e.cols * e.rows * e.layers) max_vertices
 
 -- the number, and 0 for one below it
 abbrev pub natural : ℤ → ℕ
@@ -91,8 +92,8 @@ tile_at rest = do
   Ok ((width.0, height.0), height.1)
 
 -- all that stands before the nets
-unfoldable pub layout_at : Rest → Read Layout
-layout_at rest = do
+unfoldable pub header_at : Rest → Read Header
+header_at rest = do
   extent ← extent_at rest
   vertical ← capacities_at wanted.Vertical extent.0.layers extent.1
   horizontal ← capacities_at wanted.Horizontal extent.0.layers vertical.1

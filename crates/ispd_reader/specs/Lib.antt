@@ -2,8 +2,9 @@ pub use Rattle.grid_graph.specs.Grids
 pub use Rattle.grid_graph.specs.Tiles
 pub use Rattle.text_scan.specs.Tokens
 pub mod Words
+pub mod Limits
+pub mod Faults
 pub mod Refusals
-pub mod Rest
 pub mod Parsing
 pub mod Within
 pub mod Numbers

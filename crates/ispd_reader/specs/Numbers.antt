@@ -1,24 +1,25 @@
 -- Words, names and numbers at the front of the tokens.
-use Rattle.std.specs.Prelude.{ℕ, ◌-◌, ◌^◌, List, [], ◌∷◌, if◌then◌else◌, ℤ, pos, neg_ℤ, int_lt, Result, Ok, Err}
+use Rattle.std.specs.Prelude.{ℕ, ◌-◌, List, if◌then◌else◌, ℤ, pos, neg_ℤ, int_lt, Ok, Err}
 use Rattle.std.specs.Str.{bytes_eq}
 use Rattle.text_scan.specs.Tokens.{Token}
-use Rattle.text_scan.specs.Numbers.{is_number, value_of, is_within}
+use Rattle.text_scan.specs.Numbers.{token_number}
+use Rattle.text_scan.specs.Rest.{first_token, after_first}
+use Rattle.grid_graph.specs.Limits.{max_capacity, max_demand, max_number}
 use Rattle.ispd_reader.specs.declared.input_fault.InputFault.{InputFault}
-use Rattle.ispd_reader.specs.declared.input_fault.InputFault.TheVariants.{Syntax, Range, CapacityLimit, WidthLimit, NetLimit, TileSize}
+use Rattle.ispd_reader.specs.declared.input_fault.InputFault.TheVariants.{Syntax, CapacityLimit, WidthLimit, NetLimit, TileSize}
 use Rattle.ispd_reader.specs.declared.number.Number.{Number}
 use Rattle.ispd_reader.specs.declared.wanted.Wanted.{Wanted}
 use Rattle.ispd_reader.specs.declared.wanted.Wanted.TheVariants as wanted
 use Rattle.ispd_reader.specs.Within.{within}
 use Rattle.ispd_reader.specs.Words.{spelling}
-use Rattle.ispd_reader.specs.Parsing.{Rest, Read, ◌>>=◌, or_refuse}
+use Rattle.ispd_reader.specs.Parsing.{Rest, Read, ◌>>=◌, or_refuse, refused_as}
+use Rattle.ispd_reader.specs.Refusals.{refusal_of}
 
--- the first of these tokens; where there is none, the end of the text is the place of the word that is wanted
-abbrev pub first_token : Wanted → ℕ → List Token → Read Token
-first_token word end [] = Err (Syntax end word)
-first_token word end (token ∷ tokens) = Ok (token, record { end = end; tokens = tokens })
-
+-- the first token, and what is left behind it; where there is none, this word is missing at the end of the text
 abbrev pub token_at : Wanted → Rest → Read Token
-token_at word rest = first_token word rest.end rest.tokens
+token_at word rest = do
+  token ← first_token (λ end. Syntax end word) rest
+  Ok (token, after_first rest)
 
 -- a fixed word
 unfoldable pub word_at : Wanted → Rest → Read (Unit {0})
@@ -32,19 +33,12 @@ name_at rest = do
   token ← token_at wanted.Name rest
   Ok (token.0.bytes, token.1)
 
--- the number that a token is, from -2^40 to 2^40
-abbrev pub number_of : Token → Result Number InputFault
-number_of token =
-    if is_number token.bytes then
-    (if is_within (neg_ℤ (pos (2 ^ 40))) (pos (2 ^ 40)) (value_of token.bytes) then Ok (record { value = value_of token.bytes; at = token.place }) else Err (Range token.place))
-    else Err (Syntax token.place wanted.Number)
-
--- a number, with its place
+-- a number of a design, with the place of its token
 unfoldable pub number_at : Rest → Read Number
 number_at rest = do
   token ← token_at wanted.Number rest
-  number ← number_of token.0
-  Ok (number, token.1)
+  value ← refused_as refusal_of (token_number (neg_ℤ (pos max_number)) (pos max_number) token.0)
+  Ok (record { value = value; at = token.0.place }, token.1)
 
 -- a number from lo to hi; any other is refused at its place
 unfoldable pub number_within : ℕ → ℕ → (ℕ → InputFault) → Rest → Read ℕ
@@ -55,15 +49,15 @@ number_within lo hi refusal rest = do
 
 -- a capacity of a layer, or the level of an adjustment
 abbrev pub capacity_at : Rest → Read ℕ
-capacity_at = number_within 0 (2 ^ 18) CapacityLimit
+capacity_at = number_within 0 max_capacity CapacityLimit
 
 -- the minimum width of a layer
 abbrev pub width_at : Rest → Read ℕ
-width_at = number_within 0 1023 WidthLimit
+width_at = number_within 0 max_demand WidthLimit
 
--- the minimum spacing of a layer of this width: the two sum to 1 to 1023
+-- the minimum spacing of a layer of this width: the two sum to 1 at least, and to a demand at most
 abbrev pub spacing_at : ℕ → Rest → Read ℕ
-spacing_at width = number_within (1 - width) (1023 - width) WidthLimit
+spacing_at width = number_within (1 - width) (max_demand - width) WidthLimit
 
 -- the width or the height of a tile
 unfoldable pub side_at : Rest → Read ℤ

@@ -2,23 +2,19 @@
 use Rattle.std.specs.Prelude.{ℕ, List, map}
 use Rattle.grid_base.specs.declared.size.Size.{Size}
 use Rattle.grid_base.specs.declared.vertex.Vertex.{Vertex}
-use Rattle.grid_graph.specs.declared.grid.Grid.{Grid}
-use Rattle.grid_graph.specs.declared.grid_parts.GridParts.{GridParts}
+use Rattle.grid_base.specs.Numbers.{cols, rows, layers}
 use Rattle.grid_graph.specs.declared.net_spec.NetSpec.{NetSpec}
-use Rattle.ispd_reader.specs.Header.{Extent, Layout}
+use Rattle.grid_graph.specs.Layouts.{Layout}
+use Rattle.ispd_reader.specs.Header.{Extent, Header}
 use Rattle.ispd_reader.specs.Nets.{Net}
 
 -- the numbers of a size
 abbrev pub extent_of_size : Size → Extent
-extent_of_size s = record { cols = s.cols; rows = s.rows; layers = s.layers }
+extent_of_size s = record { cols = cols s; rows = rows s; layers = layers s }
 
--- what a grid is made of
-abbrev pub layout_of_parts : GridParts → Layout
-layout_of_parts p = record { extent = extent_of_size p.size; vertical = p.vertical.items; horizontal = p.horizontal.items; widths = p.widths.items; spacings = p.spacings.items; origin = p.origin; tile = p.tile }
-
--- what a grid was made of
-abbrev pub layout_of : Grid → Layout
-layout_of g = record { extent = extent_of_size g.size; vertical = g.vertical.items; horizontal = g.horizontal.items; widths = g.widths.items; spacings = g.spacings.items; origin = g.origin; tile = g.tile }
+-- a layout, with its size by numbers
+abbrev pub header_of : Layout → Header
+header_of y = record { extent = extent_of_size y.size; vertical = y.vertical; horizontal = y.horizontal; widths = y.widths; spacings = y.spacings; origin = y.origin; tile = y.tile }
 
 -- the numbers of vertices
 abbrev pub numbers : List Vertex → List ℕ

@@ -3,7 +3,8 @@
 ghost use Rattle.std.specs.Prelude.{◌≡◌, ◌≤◌, IfOk, IfSome, option_map};
 ghost use Rattle.grid_base.specs.declared.piece.Piece.{Piece};
 ghost use Rattle.grid_base.specs.Numbers.{IsInside, IsPiece, distance};
-ghost use Rattle.ispd_reader.specs.Parsing.{Reads};
+ghost use Rattle.grid_graph.specs.Grids.{size_of};
+ghost use Rattle.ispd_reader.specs.Parsing.{IsReadAs, refusal_in};
 ghost use Rattle.ispd_reader.specs.Adjustments.{place_in, edge_between, step_between, tile_place_at, adjustment_at};
 ghost use Rattle.ispd_reader.specs.Views.{extent_of_size};
 ghost use Rattle.ispd_reader.specs.Adjusted.{adjustment_of, IsAdjustedBy, Adjusts};
@@ -14,7 +15,7 @@ use crate::input_error::InputError;
 use crate::input_fault::InputFault;
 use crate::number::Number;
 use crate::tokens_left::TokensLeft;
-use grid_base::{Edge, Place, Size};
+use grid_base::{Axis, Edge, Place, Size};
 use grid_graph::{Grid, MAX_CAPACITY};
 
 /// The most adjustments of a design.
@@ -23,7 +24,7 @@ const MAX_ADJUSTMENTS: u32 = 1 << 23;
 /// The tile at three numbers, where it is inside the grid, and the place of the third.
 #[tactic(auto, unfolding(crate::specs::Adjustments::tile_place_at))]
 fn tile(tokens: &mut TokensLeft<'_>, size: Size) -> Result<(Option<Place>, usize), InputError>
-    ensures tile { Reads (λ x. x) result tokens.new (tile_place_at (extent_of_size size) tokens.old) }
+    ensures tile { IsReadAs refusal_in (λ x. x) result tokens.new (tile_place_at (extent_of_size size) tokens.old) }
     ensures inside { IfOk result (λ x. IfSome x.0 (λ place. IsInside size place)) }
 {
     let col = tokens.number()?;
@@ -62,8 +63,8 @@ fn edge_between(size: Size, a: Place, b: Place) -> Option<Edge>
         layer: a.layer,
     };
     let vertex = size.vertex_of(near).unwrap();
-    let along_y = u32::from(a.row != b.row);
-    Some(Edge(2 * vertex.0 + along_y))
+    let axis = if a.row == b.row { Axis::X } else { Axis::Y };
+    Some(Edge::along(vertex, axis))
 }
 
 /// What lies between two tiles of the grid that are neighbours.
@@ -87,7 +88,7 @@ fn step_between(size: Size, a: Option<Place>, b: Option<Place>) -> Option<Option
 /// The adjustment that has this number.
 #[tactic(auto, unfolding(crate::specs::Adjustments::adjustment_at))]
 fn adjustment(tokens: &mut TokensLeft<'_>, size: Size, index: u32) -> Result<Adjustment, InputError>
-    ensures adjustment { Reads adjustment_of result tokens.new (adjustment_at (extent_of_size size) index tokens.old) }
+    ensures adjustment { IsReadAs refusal_in adjustment_of result tokens.new (adjustment_at (extent_of_size size) index tokens.old) }
     ensures edge { IfOk result (λ a. IfSome a.edge (λ e. IsPiece size (Piece.Edge e))) }
     ensures level { IfOk result (λ a. a.level ≤ MAX_CAPACITY) }
 {
@@ -100,7 +101,7 @@ fn adjustment(tokens: &mut TokensLeft<'_>, size: Size, index: u32) -> Result<Adj
 
 /// Adjusts one edge of the grid, or none.
 fn apply(grid: &mut Grid, adjustment: Adjustment)
-    requires edge { IfSome adjustment.edge (λ e. IsPiece grid.old.size (Piece.Edge e)) }
+    requires edge { IfSome adjustment.edge (λ e. IsPiece (size_of grid.old) (Piece.Edge e)) }
     requires level { adjustment.level ≤ MAX_CAPACITY }
     ensures { IsAdjustedBy grid.old grid.new (adjustment_of adjustment) }
 {

@@ -1,8 +1,8 @@
 //! The single numbers of the format.
 
 ghost use Rattle.std.specs.Prelude.{◌≡◌, ◌≤◌, IfOk};
-ghost use Rattle.grid_graph.specs.GridLimits.{IsTileSize};
-ghost use Rattle.ispd_reader.specs.Parsing.{Reads};
+ghost use Rattle.grid_graph.specs.Layouts.{IsTileSize};
+ghost use Rattle.ispd_reader.specs.Parsing.{IsReadAs, refusal_in};
 ghost use Rattle.ispd_reader.specs.Numbers.{capacity_at, width_at, spacing_at, side_at, count_at};
 
 use crate::input_error::InputError;
@@ -13,7 +13,7 @@ use grid_graph::{MAX_CAPACITY, MAX_DEMAND};
 /// The capacity of a layer, or the level of an adjustment.
 #[tactic(auto, using(crate::proofs::Ranges::within_bounds), unfolding(crate::specs::Numbers::number_within))]
 pub fn capacity(tokens: &mut TokensLeft<'_>) -> Result<u32, InputError>
-    ensures capacity { Reads (λ x. x) result tokens.new (capacity_at tokens.old) }
+    ensures capacity { IsReadAs refusal_in (λ x. x) result tokens.new (capacity_at tokens.old) }
     ensures limit { IfOk result (λ x. x ≤ MAX_CAPACITY) }
 {
     let number = tokens.number()?;
@@ -26,7 +26,7 @@ pub fn capacity(tokens: &mut TokensLeft<'_>) -> Result<u32, InputError>
 /// The minimum width of a layer.
 #[tactic(auto, unfolding(crate::specs::Numbers::number_within))]
 pub fn width(tokens: &mut TokensLeft<'_>) -> Result<u32, InputError>
-    ensures { Reads (λ x. x) result tokens.new (width_at tokens.old) }
+    ensures { IsReadAs refusal_in (λ x. x) result tokens.new (width_at tokens.old) }
 {
     let number = tokens.number()?;
     let width = number
@@ -38,7 +38,7 @@ pub fn width(tokens: &mut TokensLeft<'_>) -> Result<u32, InputError>
 /// The minimum spacing of a layer of this width.
 #[tactic(auto, unfolding(crate::specs::Numbers::number_within))]
 pub fn spacing(tokens: &mut TokensLeft<'_>, width: u32) -> Result<u32, InputError>
-    ensures { Reads (λ x. x) result tokens.new (spacing_at width tokens.old) }
+    ensures { IsReadAs refusal_in (λ x. x) result tokens.new (spacing_at width tokens.old) }
 {
     let number = tokens.number()?;
     let spacing = number
@@ -50,7 +50,7 @@ pub fn spacing(tokens: &mut TokensLeft<'_>, width: u32) -> Result<u32, InputErro
 /// The width or the height of a tile.
 #[tactic(auto, unfolding(crate::specs::Numbers::side_at))]
 pub fn side(tokens: &mut TokensLeft<'_>) -> Result<i64, InputError>
-    ensures side { Reads (λ x. x) result tokens.new (side_at tokens.old) }
+    ensures side { IsReadAs refusal_in (λ x. x) result tokens.new (side_at tokens.old) }
     ensures size { IfOk result (λ x. IsTileSize x) }
 {
     let number = tokens.number()?;
@@ -63,7 +63,7 @@ pub fn side(tokens: &mut TokensLeft<'_>) -> Result<i64, InputError>
 /// How many nets, pins or adjustments follow.
 #[tactic(auto, using(crate::proofs::Ranges::within_bounds), unfolding(crate::specs::Numbers::number_within))]
 pub fn count(tokens: &mut TokensLeft<'_>, limit: u32) -> Result<u32, InputError>
-    ensures count { Reads (λ x. x) result tokens.new (count_at limit tokens.old) }
+    ensures count { IsReadAs refusal_in (λ x. x) result tokens.new (count_at limit tokens.old) }
     ensures limit { IfOk result (λ x. x ≤ limit) }
 {
     let number = tokens.number()?;

@@ -1,11 +1,10 @@
 //! What stands before the nets.
 
 ghost use Rattle.std.specs.Prelude.{◌≡◌, IfOk, option_map};
-ghost use Rattle.grid_graph.specs.GridLimits.{IsPosition, IsTileSize};
-ghost use Rattle.grid_graph.specs.Grids.{IsGridParts};
-ghost use Rattle.ispd_reader.specs.Parsing.{Reads};
-ghost use Rattle.ispd_reader.specs.Header.{extent_of, extent_at, origin_at, tile_at, layout_at};
-ghost use Rattle.ispd_reader.specs.Views.{extent_of_size, layout_of_parts};
+ghost use Rattle.grid_graph.specs.Layouts.{IsPosition, IsTileSize, IsGridParts, layout_of_parts};
+ghost use Rattle.ispd_reader.specs.Parsing.{IsReadAs, refusal_in};
+ghost use Rattle.ispd_reader.specs.Header.{extent_of, extent_at, origin_at, tile_at, header_at};
+ghost use Rattle.ispd_reader.specs.Views.{extent_of_size, header_of};
 
 use crate::fields::side;
 use crate::input_error::InputError;
@@ -21,7 +20,7 @@ use std::alloc::Global;
 /// The size of the grid.
 #[tactic(auto, unfolding(crate::specs::Header::extent_at))]
 fn size(tokens: &mut TokensLeft<'_>) -> Result<Size, InputError>
-    ensures { Reads extent_of_size result tokens.new (extent_at tokens.old) }
+    ensures { IsReadAs refusal_in extent_of_size result tokens.new (extent_at tokens.old) }
 {
     tokens.word(Wanted::Grid)?;
     let cols = tokens.number()?;
@@ -45,7 +44,7 @@ fn size_of(cols: Number, rows: Number, layers: Number) -> Option<Size>
 /// The lower left corner.
 #[tactic(auto, unfolding(crate::specs::Header::origin_at))]
 fn origin(tokens: &mut TokensLeft<'_>) -> Result<(i64, i64), InputError>
-    ensures origin { Reads (λ x. x) result tokens.new (origin_at tokens.old) }
+    ensures origin { IsReadAs refusal_in (λ x. x) result tokens.new (origin_at tokens.old) }
     ensures left { IfOk result (λ x. IsPosition x.0) }
     ensures lower { IfOk result (λ x. IsPosition x.1) }
 {
@@ -57,7 +56,7 @@ fn origin(tokens: &mut TokensLeft<'_>) -> Result<(i64, i64), InputError>
 /// The size of a tile.
 #[tactic(auto, unfolding(crate::specs::Header::tile_at))]
 fn tile(tokens: &mut TokensLeft<'_>) -> Result<(i64, i64), InputError>
-    ensures tile { Reads (λ x. x) result tokens.new (tile_at tokens.old) }
+    ensures tile { IsReadAs refusal_in (λ x. x) result tokens.new (tile_at tokens.old) }
     ensures width { IfOk result (λ x. IsTileSize x.0) }
     ensures height { IfOk result (λ x. IsTileSize x.1) }
 {
@@ -67,9 +66,9 @@ fn tile(tokens: &mut TokensLeft<'_>) -> Result<(i64, i64), InputError>
 }
 
 /// All that stands before the nets.
-#[tactic(auto, unfolding(crate::specs::Header::layout_at))]
+#[tactic(auto, unfolding(crate::specs::Header::header_at))]
 pub fn parts(alloc: Global, tokens: &mut TokensLeft<'_>) -> Result<GridParts, InputError>
-    ensures parts { Reads layout_of_parts result tokens.new (layout_at tokens.old) }
+    ensures parts { IsReadAs refusal_in (λ p. header_of (layout_of_parts p)) result tokens.new (header_at tokens.old) }
     ensures limits { IfOk result IsGridParts }
 {
     let size = size(tokens)?;

@@ -1,5 +1,9 @@
 //! Why a text is no design.
 
+ghost use Rattle.std.specs.Prelude.{◌≡◌};
+ghost use Rattle.ispd_reader.specs.Faults.{number_of, fields_of, wanted_of};
+
+use crate::fault_fields::FaultFields;
 use crate::wanted::Wanted;
 use thiserror::Error;
 
@@ -44,4 +48,61 @@ pub enum InputFault {
     /// The two tiles of an adjustment are not neighbours inside the grid.
     #[error("adjustment {index} between no neighbours at byte {at}")]
     AdjustmentPlace { at: usize, index: u32 },
+}
+
+impl InputFault {
+    /// Its number, 11 to 22 in the order above.
+    pub fn number(self) -> u32
+        ensures { result ≡ number_of self }
+    {
+        match self {
+            InputFault::Syntax { .. } => 11,
+            InputFault::Range { .. } => 12,
+            InputFault::TooLong => 13,
+            InputFault::GridSize { .. } => 14,
+            InputFault::TileSize { .. } => 15,
+            InputFault::CapacityLimit { .. } => 16,
+            InputFault::WidthLimit { .. } => 17,
+            InputFault::NetLimit { .. } => 18,
+            InputFault::DuplicateId { .. } => 19,
+            InputFault::PinOutside { .. } => 20,
+            InputFault::PinLayer { .. } => 21,
+            InputFault::AdjustmentPlace { .. } => 22,
+        }
+    }
+
+    /// What it names by number: its place, and then what stands at fault there.
+    pub fn fields(self) -> FaultFields
+        ensures { result ≡ fields_of self }
+    {
+        match self {
+            InputFault::TooLong => FaultFields::first(0, [0; 3]),
+            InputFault::Syntax { at, .. }
+            | InputFault::Range { at }
+            | InputFault::GridSize { at }
+            | InputFault::TileSize { at }
+            | InputFault::CapacityLimit { at }
+            | InputFault::WidthLimit { at }
+            | InputFault::NetLimit { at } => FaultFields::first(1, [at as u64, 0, 0]),
+            InputFault::DuplicateId { at, id } => {
+                FaultFields::first(2, [at as u64, u64::from(id), 0])
+            }
+            InputFault::PinOutside { at, id, pin } | InputFault::PinLayer { at, id, pin } => {
+                FaultFields::first(3, [at as u64, u64::from(id), u64::from(pin)])
+            }
+            InputFault::AdjustmentPlace { at, index } => {
+                FaultFields::first(2, [at as u64, u64::from(index), 0])
+            }
+        }
+    }
+
+    /// The word that was wanted, where one was.
+    pub fn wanted(self) -> Option<Wanted>
+        ensures { result ≡ wanted_of self }
+    {
+        match self {
+            InputFault::Syntax { wanted, .. } => Some(wanted),
+            _ => None,
+        }
+    }
 }

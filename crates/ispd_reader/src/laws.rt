@@ -4,13 +4,14 @@
 ghost use Rattle.std.specs.Prelude.{◌≤◌, ℕ, List, All, IsTrue};
 ghost use Rattle.text_scan.specs.Tokens.{is_word};
 ghost use Rattle.grid_graph.specs.declared.design.Design.{Design};
+ghost use Rattle.grid_graph.specs.Limits.{max_id};
 ghost use Rattle.ispd_reader.specs.Alike.{AreAlikeDesigns};
 ghost use Rattle.ispd_reader.specs.Designs.{IsDesignOfText};
 
 /// The name of each net of a design that a text names is a token, and its id is a number of 32 bits.
 pub fn names_of_a_design()
     ensures word { (text : List ℕ) (d : Design) → IsDesignOfText text d → All (λ n. IsTrue (is_word n.name)) d.nets }
-    ensures id { (text : List ℕ) (d : Design) → IsDesignOfText text d → All (λ n. n.id ≤ 4294967295) d.nets }
+    ensures id { (text : List ℕ) (d : Design) → IsDesignOfText text d → All (λ n. n.id ≤ max_id) d.nets }
 {}
 
 /// A text determines its design: two designs that one text names differ in nothing that a promise speaks of.

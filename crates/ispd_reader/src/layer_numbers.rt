@@ -1,7 +1,7 @@
 //! The numbers that the text has once per layer.
 
 ghost use Rattle.std.specs.Prelude.{◌≡◌};
-ghost use Rattle.ispd_reader.specs.Parsing.{Reads};
+ghost use Rattle.ispd_reader.specs.Parsing.{IsReadAs, refusal_in};
 ghost use Rattle.ispd_reader.specs.Header.{capacities_at, widths_at, spacings_at, vias_at};
 
 use crate::fields::{capacity, spacing, width};
@@ -18,7 +18,7 @@ pub fn capacities(
     direction: Wanted,
     layers: u32,
 ) -> Result<Vec<u32>, InputError>
-    ensures { Reads (λ v. v.items) result tokens.new (capacities_at direction layers tokens.old) }
+    ensures { IsReadAs refusal_in (λ v. v.items) result tokens.new (capacities_at direction layers tokens.old) }
 {
     tokens.word(direction)?;
     tokens.word(Wanted::Capacity)?;
@@ -36,7 +36,7 @@ pub fn widths(
     tokens: &mut TokensLeft<'_>,
     layers: u32,
 ) -> Result<Vec<u32>, InputError>
-    ensures { Reads (λ v. v.items) result tokens.new (widths_at layers tokens.old) }
+    ensures { IsReadAs refusal_in (λ v. v.items) result tokens.new (widths_at layers tokens.old) }
 {
     tokens.word(Wanted::Minimum)?;
     tokens.word(Wanted::Width)?;
@@ -54,7 +54,7 @@ pub fn spacings(
     tokens: &mut TokensLeft<'_>,
     widths: &[u32],
 ) -> Result<Vec<u32>, InputError>
-    ensures { Reads (λ v. v.items) result tokens.new (spacings_at widths.now tokens.old) }
+    ensures { IsReadAs refusal_in (λ v. v.items) result tokens.new (spacings_at widths.now tokens.old) }
 {
     tokens.word(Wanted::Minimum)?;
     tokens.word(Wanted::Spacing)?;
@@ -68,7 +68,7 @@ pub fn spacings(
 /// Passes over the spacings of the vias, which are not used.
 #[tactic(auto, unfolding(crate::specs::Header::vias_at))]
 pub fn skip_vias(tokens: &mut TokensLeft<'_>, layers: u32) -> Result<(), InputError>
-    ensures { Reads (λ _. tt) result tokens.new (vias_at layers tokens.old) }
+    ensures { IsReadAs refusal_in (λ _. tt) result tokens.new (vias_at layers tokens.old) }
 {
     tokens.word(Wanted::Via)?;
     tokens.word(Wanted::Spacing)?;

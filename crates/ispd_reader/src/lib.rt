@@ -1,4 +1,4 @@
-//! Reads a chip design: from the bytes of a text in the ISPD 2008 contest's input form to the
+//! IsReadAs refusal_in a chip design: from the bytes of a text in the ISPD 2008 contest's input form to the
 //! design that its tokens name.
 //!
 //! ```text
@@ -17,6 +17,7 @@
 
 mod adjustment;
 mod adjustments;
+mod fault_fields;
 mod fields;
 mod header;
 mod input_error;
@@ -30,11 +31,9 @@ mod reading;
 mod tokens_left;
 mod wanted;
 
+pub use fault_fields::FaultFields;
 pub use input_error::InputError;
 pub use input_fault::InputFault;
 pub use laws::{designs_of_a_text_are_alike, names_of_a_design};
 pub use reading::{MAX_BYTES, read_design};
 pub use wanted::Wanted;
-
-#[cfg(test)]
-mod tests;

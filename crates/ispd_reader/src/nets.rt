@@ -3,11 +3,12 @@
 ghost use Rattle.std.specs.Prelude.{◌≡◌, ℕ, ◌≤◌, ◌+◌, ◌||◌, ◌==◌, false, length, IfOk};
 ghost use Rattle.std.specs.BTreeSet.{contains};
 ghost use Rattle.std.specs.Ordering.{nat_cmp};
-ghost use Rattle.grid_graph.specs.Grids.{IsNetWidth};
+ghost use Rattle.grid_graph.specs.Grids.{layout_of, IsNetWidth};
+ghost use Rattle.grid_graph.specs.Limits.{max_id};
 ghost use Rattle.grid_graph.specs.Nets.{IsNet, IsDesign};
-ghost use Rattle.ispd_reader.specs.Parsing.{Reads};
+ghost use Rattle.ispd_reader.specs.Parsing.{IsReadAs, refusal_in};
 ghost use Rattle.ispd_reader.specs.Nets.{id_at, greatest, net_width_at, net_at, nets_at};
-ghost use Rattle.ispd_reader.specs.Views.{layout_of, net_of, nets_of};
+ghost use Rattle.ispd_reader.specs.Views.{header_of, net_of, nets_of};
 
 use crate::fields::count;
 use crate::input_error::InputError;
@@ -22,8 +23,8 @@ use std::collections::BTreeSet;
 /// The id of a net, which is taken from then on.
 #[tactic(auto, unfolding(crate::specs::Nets::id_at))]
 fn id(tokens: &mut TokensLeft<'_>, taken: &mut BTreeSet<u32>) -> Result<u32, InputError>
-    ensures id { Reads (λ id. id) result tokens.new (id_at (contains nat_cmp taken.old) tokens.old) }
-    ensures limit { IfOk result (λ id. id ≤ 4294967295) }
+    ensures id { IsReadAs refusal_in (λ id. id) result tokens.new (id_at (contains nat_cmp taken.old) tokens.old) }
+    ensures limit { IfOk result (λ id. id ≤ max_id) }
     ensures free { IfOk result (λ id. contains nat_cmp taken.old id ≡ false) }
     ensures taken { IfOk result (λ id. (q : ℕ) → contains nat_cmp taken.new q ≡ (q == id || contains nat_cmp taken.old q)) }
 {
@@ -40,7 +41,7 @@ fn id(tokens: &mut TokensLeft<'_>, taken: &mut BTreeSet<u32>) -> Result<u32, Inp
 /// The width of a net.
 #[tactic(auto, unfolding(crate::specs::Numbers::number_within))]
 fn net_width(tokens: &mut TokensLeft<'_>, grid: &Grid) -> Result<u32, InputError>
-    ensures width { Reads (λ w. w) result tokens.new (net_width_at (layout_of grid.now) tokens.old) }
+    ensures width { IsReadAs refusal_in (λ w. w) result tokens.new (net_width_at (header_of (layout_of grid.now)) tokens.old) }
     ensures limit { IfOk result (λ w. IsNetWidth grid.now w) }
 {
     let number = tokens.number()?;
@@ -52,7 +53,7 @@ fn net_width(tokens: &mut TokensLeft<'_>, grid: &Grid) -> Result<u32, InputError
 
 /// The greatest spacing of a layer.
 fn greatest_spacing(grid: &Grid) -> u32
-    ensures value { result ≡ greatest grid.now.spacings.items }
+    ensures value { result ≡ greatest (layout_of grid.now).spacings }
     ensures limit { result ≤ MAX_DEMAND }
 {
     let mut spacing = 0;
@@ -72,7 +73,7 @@ fn net(
     pins_before: u32,
 ) -> Result<(NetSpec, u32), InputError>
     requires { pins_before ≤ MAX_PINS }
-    ensures net { Reads (λ x. (net_of x.0, x.1)) result tokens.new (net_at (layout_of grid.now) (contains nat_cmp taken.old) pins_before tokens.old) }
+    ensures net { IsReadAs refusal_in (λ x. (net_of x.0, x.1)) result tokens.new (net_at (header_of (layout_of grid.now)) (contains nat_cmp taken.old) pins_before tokens.old) }
     ensures free { IfOk result (λ x. contains nat_cmp taken.old x.0.id ≡ false) }
     ensures taken { IfOk result (λ x. (q : ℕ) → contains nat_cmp taken.new q ≡ (q == x.0.id || contains nat_cmp taken.old q)) }
     ensures fits { IfOk result (λ x. IsNet grid.now x.0) }
@@ -98,7 +99,7 @@ fn net(
 /// All nets.
 #[tactic(auto, unfolding(crate::specs::Nets::nets_at))]
 pub fn nets(alloc: Global, tokens: &mut TokensLeft<'_>, grid: &Grid) -> Result<Nets, InputError>
-    ensures nets { Reads nets_of result tokens.new (nets_at (layout_of grid.now) tokens.old) }
+    ensures nets { IsReadAs refusal_in nets_of result tokens.new (nets_at (header_of (layout_of grid.now)) tokens.old) }
     ensures limits { IfOk result (λ nets. IsDesign grid.now nets) }
 {
     tokens.word(Wanted::Num)?;

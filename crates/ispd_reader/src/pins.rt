@@ -1,12 +1,13 @@
 //! The pins of a net, and its terminals.
 
 ghost use Rattle.std.specs.Prelude.{◌≡◌, ◌<◌, IfOk, IfErr, IfSome, All, length};
-ghost use Rattle.grid_base.specs.Numbers.{IsVertex, vertices};
-ghost use Rattle.grid_graph.specs.GridLimits.{IsPosition};
+ghost use Rattle.grid_base.specs.Numbers.{cols, rows, IsVertex, vertices};
+ghost use Rattle.grid_graph.specs.Grids.{size_of, layout_of};
+ghost use Rattle.grid_graph.specs.Layouts.{IsPosition};
 ghost use Rattle.grid_graph.specs.Lists.{HasNoRepeats};
-ghost use Rattle.ispd_reader.specs.Parsing.{Reads};
-ghost use Rattle.ispd_reader.specs.Nets.{tile_of, pin_at, pins_at, without_repeats};
-ghost use Rattle.ispd_reader.specs.Views.{layout_of, numbers};
+ghost use Rattle.ispd_reader.specs.Parsing.{IsReadAs, refusal_in};
+ghost use Rattle.ispd_reader.specs.Nets.{tile_along, pin_at, pins_at, without_repeats};
+ghost use Rattle.ispd_reader.specs.Views.{header_of, numbers};
 
 use crate::input_error::InputError;
 use crate::input_fault::InputFault;
@@ -18,21 +19,21 @@ use std::alloc::Global;
 use std::collections::BTreeSet;
 
 /// The column of a position, where it is inside the grid.
-#[tactic(auto, unfolding(crate::specs::Nets::tile_of))]
+#[tactic(auto, unfolding(crate::specs::Nets::tile_along))]
 fn column(grid: &Grid, x: Number) -> Option<u32>
     requires { IsPosition x.value }
-    ensures column { result ≡ tile_of grid.now.origin.0 grid.now.tile.0 grid.now.size.cols x.value }
-    ensures below { IfSome result (λ i. i < grid.now.size.cols) }
+    ensures column { result ≡ tile_along (layout_of grid.now).origin.0 (layout_of grid.now).tile.0 (cols (size_of grid.now)) x.value }
+    ensures below { IfSome result (λ i. i < cols (size_of grid.now)) }
 {
     tile_index(grid.origin().0, grid.tile().0, grid.size().cols(), x.value)
 }
 
 /// The row of a position, where it is inside the grid.
-#[tactic(auto, unfolding(crate::specs::Nets::tile_of))]
+#[tactic(auto, unfolding(crate::specs::Nets::tile_along))]
 fn row(grid: &Grid, y: Number) -> Option<u32>
     requires { IsPosition y.value }
-    ensures row { result ≡ tile_of grid.now.origin.1 grid.now.tile.1 grid.now.size.rows y.value }
-    ensures below { IfSome result (λ i. i < grid.now.size.rows) }
+    ensures row { result ≡ tile_along (layout_of grid.now).origin.1 (layout_of grid.now).tile.1 (rows (size_of grid.now)) y.value }
+    ensures below { IfSome result (λ i. i < rows (size_of grid.now)) }
 {
     tile_index(grid.origin().1, grid.tile().1, grid.size().rows(), y.value)
 }
@@ -40,8 +41,8 @@ fn row(grid: &Grid, y: Number) -> Option<u32>
 /// The vertex of a pin, which has this number within the net.
 #[tactic(auto, using(crate::proofs::Ranges::within_bounds), unfolding(crate::specs::Nets::pin_at))]
 fn pin(tokens: &mut TokensLeft<'_>, grid: &Grid, id: u32, pin: u32) -> Result<Vertex, InputError>
-    ensures pin { Reads (λ v. v.0) result tokens.new (pin_at (layout_of grid.now) id pin tokens.old) }
-    ensures vertex { IfOk result (λ v. IsVertex grid.now.size v.0) }
+    ensures pin { IsReadAs refusal_in (λ v. v.0) result tokens.new (pin_at (header_of (layout_of grid.now)) id pin tokens.old) }
+    ensures vertex { IfOk result (λ v. IsVertex (size_of grid.now) v.0) }
 {
     let x = tokens.number()?;
     let col = column(grid, x).ok_or(InputFault::PinOutside { at: x.at, id, pin })?;
@@ -72,9 +73,9 @@ pub fn pins(
     id: u32,
     count: u32,
 ) -> Result<Vec<Vertex>, InputError>
-    ensures pins { Reads (λ v. numbers v.items) result tokens.new (pins_at (layout_of grid.now) id count tokens.old) }
+    ensures pins { IsReadAs refusal_in (λ v. numbers v.items) result tokens.new (pins_at (header_of (layout_of grid.now)) id count tokens.old) }
     ensures count { IfOk result (λ v. length v.items ≡ count) }
-    ensures vertices { IfOk result (λ v. All (λ w. w < vertices grid.now.size) (numbers v.items)) }
+    ensures vertices { IfOk result (λ v. All (λ w. w < vertices (size_of grid.now)) (numbers v.items)) }
 {
     let mut pins = Vec::new(alloc);
     for index in 0..count {

@@ -1,7 +1,7 @@
 //! Reading a design.
 
 ghost use Rattle.std.specs.Prelude.{IfOk, IfErr};
-ghost use Rattle.ispd_reader.specs.Parsing.{Refuses};
+ghost use Rattle.ispd_reader.specs.Parsing.{Refuses, refusal_in};
 ghost use Rattle.ispd_reader.specs.Designs.{contents_of, IsDesignOfText};
 
 use crate::adjustments::adjust;
@@ -21,7 +21,7 @@ pub const MAX_BYTES: usize = 1 << 30;
 #[tactic(auto, using(crate::proofs::Whole::layout_refused))]
 pub fn read_design(alloc: Global, bytes: &[u8]) -> Result<Design, InputError>
     ensures design { IfOk result (λ d. IsDesignOfText bytes.now d) }
-    ensures refusal { IfErr result (λ e. Refuses e (contents_of bytes.now)) }
+    ensures refusal { IfErr result (λ e. Refuses refusal_in e (contents_of bytes.now)) }
 {
     if bytes.len() > MAX_BYTES {
         return Err(InputError::Input(InputFault::TooLong));

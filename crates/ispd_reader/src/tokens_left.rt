@@ -1,8 +1,8 @@
 //! The tokens of a text that are left to be read.
 
 ghost use Rattle.std.specs.Prelude.{◌≡◌, ◌↔◌, [], IsTrue, IfOk};
-ghost use Rattle.grid_graph.specs.GridLimits.{IsPosition};
-ghost use Rattle.ispd_reader.specs.Parsing.{Reads, rest_of};
+ghost use Rattle.grid_graph.specs.Layouts.{IsPosition};
+ghost use Rattle.ispd_reader.specs.Parsing.{IsReadAs, refusal_in, all_of};
 ghost use Rattle.ispd_reader.specs.Numbers.{word_at, name_at, number_at};
 
 use crate::input_error::InputError;
@@ -21,13 +21,13 @@ pub struct TokensLeft<'a> {
 }
 
 impl<'a> Model for TokensLeft<'a> {
-    ghost use Rattle.std.specs.Prelude.{◌≡◌, length};
-    ghost use Rattle.text_scan.specs.Reading.{tokens_left};
-    ghost use Rattle.ispd_reader.specs.Rest.{Rest};
+    ghost use Rattle.std.specs.Prelude.{◌≡◌};
+    ghost use Rattle.text_scan.specs.Reading.{rest_of};
+    ghost use Rattle.text_scan.specs.Rest.{Rest};
 
     ghost Value = { Rest };
 
-    ghost view = { λ s. record { end = length s.bytes.now; tokens = tokens_left s.scanner } };
+    ghost view = { λ s. rest_of s.scanner };
 
     ghost invariant = { λ s. s.scanner.text ≡ s.bytes.now };
 }
@@ -35,7 +35,7 @@ impl<'a> Model for TokensLeft<'a> {
 impl<'a> TokensLeft<'a> {
     /// All tokens of the text.
     pub fn of(bytes: &'a [u8]) -> Self
-        ensures { result ≡ rest_of bytes.entry.now }
+        ensures { result ≡ all_of bytes.entry.now }
     {
         TokensLeft {
             bytes,
@@ -54,7 +54,7 @@ impl<'a> TokensLeft<'a> {
     /// The next token, which has to be this word.
     #[tactic(auto, using(crate::proofs::Places::first_of_tokens), unfolding(crate::specs::Numbers::word_at))]
     pub fn word(&mut self, wanted: Wanted) -> Result<(), InputError>
-        ensures { Reads (λ _. tt) result self.new (word_at wanted self.old) }
+        ensures { IsReadAs refusal_in (λ _. tt) result self.new (word_at wanted self.old) }
     {
         let Some(span) = self.scanner.token() else {
             return Err(self.missing(wanted));
@@ -71,7 +71,7 @@ impl<'a> TokensLeft<'a> {
     /// The next token, whatever it is.
     #[tactic(auto, using(crate::proofs::Places::first_of_tokens), unfolding(crate::specs::Numbers::name_at))]
     pub fn name(&mut self) -> Result<&'a [u8], InputError>
-        ensures { Reads (λ x. x.now) result self.new (name_at self.old) }
+        ensures { IsReadAs refusal_in (λ x. x.now) result self.new (name_at self.old) }
     {
         let bytes = self.bytes;
         let Some(span) = self.scanner.token() else {
@@ -82,7 +82,7 @@ impl<'a> TokensLeft<'a> {
 
     /// The next token, which has to be a number from -2^40 to 2^40.
     pub fn number(&mut self) -> Result<Number, InputError>
-        ensures number { Reads (λ x. x) result self.new (number_at self.old) }
+        ensures number { IsReadAs refusal_in (λ x. x) result self.new (number_at self.old) }
         ensures range { IfOk result (λ x. IsPosition x.value) }
     {
         self.scanner.peek();

@@ -1,16 +1,7 @@
-pub mod Edges
 pub mod Texts
-pub mod Blanks
-pub mod Ranges
-pub mod SegmentSteps
-pub mod BlockSteps
-pub mod Bounds
-pub mod ReadBackParts
+pub mod Takes
 pub mod ReadBackPoints
 pub mod ReadBackBlocks
 pub mod Places
-pub mod Ways
-pub mod RunPieces
-pub mod LongestRuns
 pub mod NamedPieces
 pub mod ReadBack

@@ -3,14 +3,16 @@ use Rattle.std.proofs.Common.{◌≡◌, ℕ, ◌+◌, ◌-◌, ◌*◌, ◌/◌
 use Rattle.std.proofs.lemmas.Bool.{lt-ltb, le-ltb}
 use Rattle.std.proofs.lemmas.Int.{ints}
 use Rattle.std.proofs.lemmas.Nat.{div-mul-add, mul-add-lt}
+use Rattle.std.proofs.lemmas.Option.{same_Some}
 use Rattle.grid_base.specs.declared.piece.Piece.{Piece}
-use Rattle.grid_base.specs.declared.place.Place.{Place}
-use Rattle.grid_base.specs.declared.size.Size.{Size}
-use Rattle.grid_base.specs.Numbers.{IsPiece, IsVertex, near_end, place_at, far_place, col_of, row_of, layer_of}
+use Rattle.grid_base.specs.Lines.{AreInLine}
+use Rattle.grid_base.specs.Numbers.{IsVertex, cols, rows, layers, place_at, col_of, row_of, layer_of}
+use Rattle.grid_base.proofs.Lines.{GoesBetween}
 use Rattle.grid_base.proofs.Places.{place_at-inside}
 use Rattle.grid_graph.specs.declared.grid.Grid.{Grid}
+use Rattle.grid_graph.specs.Grids.{layout_of, size_of}
 use Rattle.grid_graph.specs.Tiles.{tile_index, written_position}
-use Rattle.route_text.specs.BlockPieces.{layer_index, place_of_point, AreInLine, IsBetween, LiesOn}
+use Rattle.route_text.specs.BlockPieces.{layer_index, point_place, LiesOn}
 use Rattle.route_text.specs.Written.{written_point, written_segment}
 
 abs_positive : (t : ℤ) → pos 1 ≤ℤ t → 0 < nat_abs t
@@ -43,40 +45,31 @@ layer_of_written layers l below =
     rw (low, high, back) refl
 
 -- the point written for a vertex lies in its place
-pub place_of_written : (g : Grid) (v : ℕ) → IsVertex g.size v → place_of_point g (written_point g v) ≡ Some (place_at g.size v)
-place_of_written g v vertex =
-    let inside = place_at-inside g.size v vertex in
+pub point_place-written : (g : Grid) (v : ℕ) → IsVertex (size_of g) v → point_place g (written_point g v) ≡ Some (place_at (size_of g) v)
+point_place-written g v vertex =
+    let inside = place_at-inside (size_of g) v vertex in
     rw (
-      tile_of_written g.origin.0 g.tile.0 g.size.cols (col_of g.size v) g.layout.tile_width.low inside.0,
-      tile_of_written g.origin.1 g.tile.1 g.size.rows (row_of g.size v) g.layout.tile_height.low inside.1,
-      layer_of_written g.size.layers (layer_of g.size v) inside.2,
+      tile_of_written (layout_of g).origin.0 (layout_of g).tile.0 (cols (size_of g)) (col_of (size_of g) v) g.limits.tile_width.low inside.0,
+      tile_of_written (layout_of g).origin.1 (layout_of g).tile.1 (rows (size_of g)) (row_of (size_of g) v) g.limits.tile_height.low inside.1,
+      layer_of_written (layers (size_of g)) (layer_of (size_of g) v) inside.2,
     ) refl
 
--- the piece goes from a place between two others to a place between them
-pub record GoesBetween (s : Size) (from to : Place) (piece : Piece) : Type 0 where
-  pub of_grid : IsPiece s piece
-  pub near : IsBetween from to (place_at s (near_end piece))
-  pub far : IsBetween from to (far_place s piece)
-
-same_Some : {X : Type 0} (x y : X) → Some x ≡ Some y → x ≡ y
-same_Some x y is = cc
-
 -- a piece on the segment that is written for two vertices goes between their places
-pub lies_between : (g : Grid) (a b : ℕ) (p : Piece) → IsVertex g.size a → IsVertex g.size b → LiesOn g (written_segment g (a, b)) p → GoesBetween g.size (place_at g.size a) (place_at g.size b) p
+pub lies_between : (g : Grid) (a b : ℕ) (p : Piece) → IsVertex (size_of g) a → IsVertex (size_of g) b → LiesOn g (written_segment g (a, b)) p → GoesBetween (size_of g) (place_at (size_of g) a) (place_at (size_of g) b) p
 lies_between g a b p start end lies =
-    let from : lies.from ≡ place_at g.size a = same_Some _ _ (sym lies.starts ∙ place_of_written g a start) in
-    let to : lies.to ≡ place_at g.size b = same_Some _ _ (sym lies.ends ∙ place_of_written g b end) in
-    rw (sym from, sym to) (record { of_grid = lies.of_grid; near = lies.near; far = lies.far })
+    let from : lies.from ≡ place_at (size_of g) a = same_Some _ _ (sym lies.starts ∙ point_place-written g a start) in
+    let to : lies.to ≡ place_at (size_of g) b = same_Some _ _ (sym lies.ends ∙ point_place-written g b end) in
+    rw (sym from, sym to) (record { of_grid = lies.of_grid; starts = lies.start; ends = lies.end })
 
 -- and a piece that goes between them lies on it, where they are in line
-pub lies_on : (g : Grid) (a b : ℕ) (p : Piece) → IsVertex g.size a → IsVertex g.size b → AreInLine (place_at g.size a) (place_at g.size b) → GoesBetween g.size (place_at g.size a) (place_at g.size b) p → LiesOn g (written_segment g (a, b)) p
+pub lies_on : (g : Grid) (a b : ℕ) (p : Piece) → IsVertex (size_of g) a → IsVertex (size_of g) b → AreInLine (place_at (size_of g) a) (place_at (size_of g) b) → GoesBetween (size_of g) (place_at (size_of g) a) (place_at (size_of g) b) p → LiesOn g (written_segment g (a, b)) p
 lies_on g a b p start end straight goes = record {
-  from = place_at g.size a;
-  to = place_at g.size b;
-  starts = place_of_written g a start;
-  ends = place_of_written g b end;
+  from = place_at (size_of g) a;
+  to = place_at (size_of g) b;
+  starts = point_place-written g a start;
+  ends = point_place-written g b end;
   straight = straight;
   of_grid = goes.of_grid;
-  near = goes.near;
-  far = goes.far;
+  start = goes.starts;
+  end = goes.ends;
 }

@@ -1,13 +1,17 @@
 -- How a route text is read: as a list of blocks, each a name, an id, at most one further number, segments and a `!`.
-use Rattle.std.specs.Prelude.{ℕ, zero, suc, Bool, false, ◌||◌, ◌^◌, if◌then◌else◌, List, [], ◌∷◌, length, ℤ, pos, neg_ℤ, nat_abs, Option, Some, None, Result, Ok, Err}
+use Rattle.std.specs.Prelude.{ℕ, Bool, false, ◌||◌, if◌then◌else◌, List, ℤ, pos, neg_ℤ, nat_abs, Option, Some, None, is_none, Result, Ok, Err}
 use Rattle.std.specs.Char.{is_ascii_digit}
-use Rattle.text_scan.specs.Tokens.{Token}
+use Rattle.grid_graph.specs.Limits.{max_id, max_number}
 use Rattle.text_scan.specs.Numbers.{is_sign, first_number}
-use Rattle.text_scan.specs.Reading.{Reading, left, tokens_left, next_byte, is_next, next_number, past_token, past_number, past_byte}
+use Rattle.text_scan.specs.Faults.{fault_place}
+use Rattle.text_scan.specs.Parts.{◌>>=◌, refused_as}
+use Rattle.text_scan.specs.Reading.{Reading, rest_of, next_place, next_byte, is_next, next_number, past_blanks, past_token, past_number, past_byte}
+use Rattle.text_scan.specs.Rest.{first_token}
+use Rattle.text_scan.specs.Until.{parts_until}
 use Rattle.route_text.specs.declared.block.Block.{Block}
 use Rattle.route_text.specs.declared.point.Point.{Point}
 use Rattle.route_text.specs.declared.segment.Segment.{Segment}
-use Rattle.route_text.specs.Reads.{Read, ◌>>=◌, next_place, number_or_place}
+use Rattle.route_text.specs.Reads.{Read}
 
 -- the byte b, after blanks
 abbrev pub mark_at : ℕ → Reading → Read (Unit {0})
@@ -15,11 +19,15 @@ mark_at b r = if is_next b r then Ok (tt, past_byte b r) else Err (next_place r)
 
 -- a number of a point, which may end without a blank
 abbrev pub coordinate_at : Reading → Read ℤ
-coordinate_at r = number_or_place (next_number (neg_ℤ (pos (2 ^ 40))) (pos (2 ^ 40)) r) (past_number r)
+coordinate_at r = do
+  number ← refused_as fault_place (next_number (neg_ℤ (pos max_number)) (pos max_number) r)
+  Ok (number, past_number r)
 
 -- a number from lo to hi that is a whole token
 abbrev pub token_number_at : ℤ → ℤ → Reading → Read ℤ
-token_number_at lo hi r = number_or_place (first_number lo hi (length r.text) (tokens_left r)) (past_token r)
+token_number_at lo hi r = do
+  number ← refused_as fault_place (first_number lo hi (rest_of r))
+  Ok (number, past_token r)
 
 -- `(`, x, `,`, y, `,`, layer, `)`
 unfoldable pub point_at : Reading → Read Point
@@ -41,17 +49,9 @@ segment_at r = do
   to ← point_at mark.1
   Ok (record { from = from.0; to = to.0 }, to.1)
 
--- fewer than n segments, and the `!` behind them
-unfoldable pub segments_within : ℕ → Reading → Read (List Segment)
-segments_within zero r = Err (next_place r)
-segments_within (suc n) r = if is_next 33 r then Ok ([], past_byte 33 r) else do
-  segment ← segment_at r
-  more ← segments_within n segment.1
-  Ok (segment.0 ∷ more.0, more.1)
-
--- the segments up to the `!`, and the `!`: each takes a byte at least, so any higher bound reads the same
+-- the segments up to a `!`, and the `!`
 abbrev pub segments_at : Reading → Read (List Segment)
-segments_at r = segments_within (suc (length (left r))) r
+segments_at r = parts_until (is_next 33) (past_byte 33) segment_at r
 
 -- a number begins with a digit or a sign
 abbrev pub begins_number : Option ℕ → Bool
@@ -61,35 +61,34 @@ begins_number (Some b) = is_ascii_digit b || is_sign b
 -- the further number, where one follows: its value is ignored
 unfoldable pub further_at : Reading → Read (Unit {0})
 further_at r = if begins_number (next_byte r) then (do
-  number ← token_number_at (neg_ℤ (pos (2 ^ 40))) (pos (2 ^ 40)) r
-  Ok (tt, number.1)) else Ok (tt, r)
+  number ← token_number_at (neg_ℤ (pos max_number)) (pos max_number) r
+  Ok (tt, number.1)) else Ok (tt, past_blanks r)
 
--- the block of this name, from its id on
-unfoldable pub block_at : List ℕ → Reading → Read Block
-block_at name r = do
-  id ← token_number_at (pos 0) (pos 4294967295) r
+-- a name: any token
+abbrev pub name_at : Reading → Read (List ℕ)
+name_at r = do
+  name ← first_token (λ end. end) (rest_of r)
+  Ok (name.bytes, past_token r)
+
+-- a name, an id, at most one further number, and the segments
+unfoldable pub block_at : Reading → Read Block
+block_at r = do
+  name ← name_at r
+  id ← token_number_at (pos 0) (pos max_id) name.1
   further ← further_at id.1
   segments ← segments_at further.1
-  Ok (record { name = name; id = nat_abs id.0; segments = segments.0 }, segments.1)
+  Ok (record { name = name.0; id = nat_abs id.0; segments = segments.0 }, segments.1)
 
--- the next token, where one is left
-abbrev pub first_of : List Token → Option (List ℕ)
-first_of [] = None
-first_of (token ∷ tokens) = Some token.bytes
+-- only blanks are left
+abbrev pub is_over : Reading → Bool
+is_over r = is_none (next_byte r)
 
--- the block of the name that comes next and the blocks behind it; none where only blanks are left
-unfoldable pub blocks_by : (Reading → Result (List Block) ℕ) → Option (List ℕ) → Reading → Result (List Block) ℕ
-blocks_by behind None r = Ok []
-blocks_by behind (Some name) r = do
-  block ← block_at name (past_token r)
-  more ← behind block.1
-  Ok (block.0 ∷ more)
+-- the blocks up to the end of the text
+abbrev pub blocks_at : Reading → Read (List Block)
+blocks_at r = parts_until is_over past_blanks block_at r
 
--- fewer than n blocks
-unfoldable pub blocks_within : ℕ → Reading → Result (List Block) ℕ
-blocks_within zero r = Err (next_place r)
-blocks_within (suc n) r = blocks_by (blocks_within n) (first_of (tokens_left r)) r
-
--- the blocks of a text, or the place at which the next part of it can't be read: any higher bound reads the same
+-- the blocks of a text, or the place at which the next part of it can't be read
 abbrev pub blocks_of : List ℕ → Result (List Block) ℕ
-blocks_of text = blocks_within (suc (length text)) (record { text = text; place = 0 })
+blocks_of text = do
+  blocks ← blocks_at (record { text = text; place = 0 })
+  Ok blocks.0

@@ -6,14 +6,14 @@ use Rattle.grid_base.specs.declared.piece.Piece.{Piece}
 use Rattle.grid_base.specs.Numbers.{layer_of}
 use Rattle.grid_graph.specs.declared.grid.Grid.{Grid}
 use Rattle.grid_graph.specs.declared.net_spec.NetSpec.{NetSpec}
-use Rattle.grid_graph.specs.Grids.{position_of}
+use Rattle.grid_graph.specs.Grids.{size_of, position_of}
 use Rattle.route_text.specs.Segments.{segments}
 
 -- a vertex as (x,y,layer): the position written for it, and its layer, which counts from 1
 abbrev pub point_text : Grid → ℕ → List ℕ
 point_text g v =
     codes "(" ++ signed_decimal (position_of g v).0 ++ codes "," ++ signed_decimal (position_of g v).1
-    ++ codes "," ++ decimal (layer_of g.size v + 1) ++ codes ")"
+    ++ codes "," ++ decimal (layer_of (size_of g) v + 1) ++ codes ")"
 
 -- a segment on a line of its own, from one end to the other
 abbrev pub segment_text : Grid → ℕ × ℕ → List ℕ
@@ -23,7 +23,7 @@ segment_text g ends = point_text g ends.0 ++ codes "-" ++ point_text g ends.1 ++
 abbrev pub net_text : Grid → NetSpec → List Piece → List ℕ
 net_text g net pieces =
     net.name ++ codes " " ++ decimal net.id ++ codes "\n"
-    ++ flat_map (segment_text g) (segments g.size pieces) ++ codes "!\n"
+    ++ flat_map (segment_text g) (segments (size_of g) pieces) ++ codes "!\n"
 
 -- the blocks of the nets of a design, where `trees` has one set per net
 abbrev pub routes_text : Grid → List NetSpec → List (List Piece) → List ℕ

@@ -20,7 +20,6 @@
 
 #![tactic(auto)]
 
-mod axis;
 mod block;
 mod laws;
 mod net;
@@ -45,8 +44,3 @@ pub use route_error::RouteError;
 pub use routes::write_routes;
 pub use segment::Segment;
 pub use segments::Segments;
-
-#[cfg(test)]
-mod reading_tests;
-#[cfg(test)]
-mod tests;

@@ -1,24 +1,25 @@
 //! The text of one net.
 
 ghost use Rattle.std.specs.Prelude.{◌≡◌, All, filter, flat_map};
+ghost use Rattle.grid_base.specs.Lines.{is_along};
 ghost use Rattle.grid_base.specs.Numbers.{IsPiece};
+ghost use Rattle.grid_graph.specs.Grids.{size_of};
 ghost use Rattle.tree_set.specs.Order.{IsRising};
+ghost use Rattle.tree_set.specs.Runs.{runs, vias};
 ghost use Rattle.gr_desk.specs.Pens.{Puts, pen_told};
 ghost use Rattle.route_text.specs.RouteText.{segment_text, net_text};
-ghost use Rattle.route_text.specs.Segments.{is_along, runs, vias};
 ghost use Rattle.route_text.specs.Pieces.{run_text, via_text};
 
-use crate::axis::Axis;
 use crate::points::{put_number, put_segment};
-use crate::runs::{begins_run, run_end};
+use crate::runs::{begins_run, is_along, run_end};
 use gr_desk::{Desk, Pen};
-use grid_base::Piece;
+use grid_base::{Axis, Piece};
 use grid_graph::{Grid, NetSpec};
 use tree_set::Tree;
 
 /// Puts the block of one net.
 pub(crate) fn put_net<D: Desk>(pen: &mut Pen<'_, D>, grid: &Grid, net: &NetSpec, tree: &Tree)
-    requires { All (IsPiece grid.now.size) tree.now }
+    requires { All (IsPiece (size_of grid.now)) tree.now }
     ensures same_desk { pen.new.desk.ghost_name ≡ pen.old.desk.ghost_name }
     ensures puts { Puts (pen_told D.told pen.old) (pen_told D.told pen.new) (net_text grid.now net.now tree.now) }
 {
@@ -34,9 +35,9 @@ pub(crate) fn put_net<D: Desk>(pen: &mut Pen<'_, D>, grid: &Grid, net: &NetSpec,
 
 /// Puts the runs of edges along one axis.
 fn put_runs<D: Desk>(pen: &mut Pen<'_, D>, grid: &Grid, tree: &Tree, axis: Axis)
-    requires { All (IsPiece grid.now.size) tree.now }
+    requires { All (IsPiece (size_of grid.now)) tree.now }
     ensures same_desk { pen.new.desk.ghost_name ≡ pen.old.desk.ghost_name }
-    ensures puts { Puts (pen_told D.told pen.old) (pen_told D.told pen.new) (flat_map (segment_text grid.now) (runs grid.now.size (filter (is_along axis) tree.now))) }
+    ensures puts { Puts (pen_told D.told pen.old) (pen_told D.told pen.new) (flat_map (segment_text grid.now) (runs (size_of grid.now) (filter (is_along axis) tree.now))) }
 {
     for piece in tree.pieces() {
         put_run(pen, grid, tree, axis, *piece);
@@ -45,24 +46,24 @@ fn put_runs<D: Desk>(pen: &mut Pen<'_, D>, grid: &Grid, tree: &Tree, axis: Axis)
 
 /// Puts the run along the axis that begins with the piece, if one does.
 fn put_run<D: Desk>(pen: &mut Pen<'_, D>, grid: &Grid, tree: &Tree, axis: Axis, piece: Piece)
-    requires pieces { All (IsPiece grid.now.size) tree.now }
+    requires pieces { All (IsPiece (size_of grid.now)) tree.now }
     requires rising { IsRising tree.now }
-    requires piece { IsPiece grid.now.size piece }
+    requires piece { IsPiece (size_of grid.now) piece }
     ensures same_desk { pen.new.desk.ghost_name ≡ pen.old.desk.ghost_name }
     ensures puts { Puts (pen_told D.told pen.old) (pen_told D.told pen.new) (run_text grid.now (filter (is_along axis) tree.now) (is_along axis piece) piece) }
 {
     let size = grid.size();
     let (start, _) = size.ends_of(piece);
-    if axis.has(piece) && begins_run(&size, tree, axis, start) {
+    if is_along(piece, axis) && begins_run(&size, tree, axis, start) {
         put_segment(pen, grid, start, run_end(&size, tree, axis, start));
     }
 }
 
 /// Puts the vias.
 fn put_vias<D: Desk>(pen: &mut Pen<'_, D>, grid: &Grid, tree: &Tree)
-    requires { All (IsPiece grid.now.size) tree.now }
+    requires { All (IsPiece (size_of grid.now)) tree.now }
     ensures same_desk { pen.new.desk.ghost_name ≡ pen.old.desk.ghost_name }
-    ensures puts { Puts (pen_told D.told pen.old) (pen_told D.told pen.new) (flat_map (segment_text grid.now) (vias grid.now.size tree.now)) }
+    ensures puts { Puts (pen_told D.told pen.old) (pen_told D.told pen.new) (flat_map (segment_text grid.now) (vias (size_of grid.now) tree.now)) }
 {
     for piece in tree.pieces() {
         put_via(pen, grid, *piece);
@@ -71,7 +72,7 @@ fn put_vias<D: Desk>(pen: &mut Pen<'_, D>, grid: &Grid, tree: &Tree)
 
 /// Puts the piece, if it is a via.
 fn put_via<D: Desk>(pen: &mut Pen<'_, D>, grid: &Grid, piece: Piece)
-    requires { IsPiece grid.now.size piece }
+    requires { IsPiece (size_of grid.now) piece }
     ensures same_desk { pen.new.desk.ghost_name ≡ pen.old.desk.ghost_name }
     ensures puts { Puts (pen_told D.told pen.old) (pen_told D.told pen.new) (via_text grid.now piece) }
 {

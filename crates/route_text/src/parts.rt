@@ -1,10 +1,11 @@
 //! The small parts of a route text: marks, numbers, points and segments.
 
 ghost use Rattle.std.specs.Prelude.{◌≡◌, ◌≤ℤ◌, IfOk};
-ghost use Rattle.grid_graph.specs.GridLimits.{IsPosition};
+ghost use Rattle.grid_graph.specs.Layouts.{IsPosition};
+ghost use Rattle.text_scan.specs.Moves.{Moves};
 ghost use Rattle.route_text.specs.Blocks.{mark_at, coordinate_at, token_number_at, point_at, segment_at};
-ghost use Rattle.route_text.specs.ReadLimits.{IsNearPoint, IsNearSegment};
-ghost use Rattle.route_text.specs.Reads.{Reads, Moves};
+ghost use Rattle.route_text.specs.ReadLimits.{IsPointInRange, IsSegmentInRange};
+ghost use Rattle.route_text.specs.Reads.{IsReadAs};
 
 use crate::point::Point;
 use crate::route_error::RouteError;
@@ -14,7 +15,7 @@ use text_scan::Scanner;
 
 /// The byte `b`, after blanks.
 fn mark(scanner: &mut Scanner<'_>, b: u8) -> Result<(), RouteError>
-    ensures mark { Reads (λ _. tt) result scanner.new (mark_at b scanner.old) }
+    ensures mark { IsReadAs (λ _. tt) result scanner.new (mark_at b scanner.old) }
     ensures passed { IfOk result (λ _. Moves 1 scanner.old scanner.new) }
 {
     if scanner.mark(b) {
@@ -28,7 +29,7 @@ fn mark(scanner: &mut Scanner<'_>, b: u8) -> Result<(), RouteError>
 
 /// A number of a point, which may end without a blank.
 fn coordinate(scanner: &mut Scanner<'_>) -> Result<i64, RouteError>
-    ensures number { Reads (λ x. x) result scanner.new (coordinate_at scanner.old) }
+    ensures number { IsReadAs (λ x. x) result scanner.new (coordinate_at scanner.old) }
     ensures passed { IfOk result (λ _. Moves 1 scanner.old scanner.new) }
     ensures range { IfOk result (λ x. IsPosition x) }
 {
@@ -38,7 +39,7 @@ fn coordinate(scanner: &mut Scanner<'_>) -> Result<i64, RouteError>
 
 /// A number from `lo` to `hi` that is a whole token.
 pub(crate) fn token_number(scanner: &mut Scanner<'_>, lo: i64, hi: i64) -> Result<i64, RouteError>
-    ensures number { Reads (λ x. x) result scanner.new (token_number_at lo hi scanner.old) }
+    ensures number { IsReadAs (λ x. x) result scanner.new (token_number_at lo hi scanner.old) }
     ensures passed { IfOk result (λ _. Moves 1 scanner.old scanner.new) }
     ensures range { IfOk result (λ x. (lo ≤ℤ x) × (x ≤ℤ hi)) }
 {
@@ -48,9 +49,9 @@ pub(crate) fn token_number(scanner: &mut Scanner<'_>, lo: i64, hi: i64) -> Resul
 /// `(`, x, `,`, y, `,`, layer, `)`.
 #[tactic(auto, unfolding(crate::specs::Blocks::point_at))]
 fn point(scanner: &mut Scanner<'_>) -> Result<Point, RouteError>
-    ensures point { Reads (λ p. p) result scanner.new (point_at scanner.old) }
+    ensures point { IsReadAs (λ p. p) result scanner.new (point_at scanner.old) }
     ensures passed { IfOk result (λ _. Moves 1 scanner.old scanner.new) }
-    ensures range { IfOk result IsNearPoint }
+    ensures range { IfOk result IsPointInRange }
 {
     mark(scanner, b'(')?;
     let x = coordinate(scanner)?;
@@ -65,9 +66,9 @@ fn point(scanner: &mut Scanner<'_>) -> Result<Point, RouteError>
 /// A point, `-`, a point.
 #[tactic(auto, unfolding(crate::specs::Blocks::segment_at))]
 pub(crate) fn segment(scanner: &mut Scanner<'_>) -> Result<Segment, RouteError>
-    ensures segment { Reads (λ s. s) result scanner.new (segment_at scanner.old) }
+    ensures segment { IsReadAs (λ s. s) result scanner.new (segment_at scanner.old) }
     ensures passed { IfOk result (λ _. Moves 1 scanner.old scanner.new) }
-    ensures range { IfOk result IsNearSegment }
+    ensures range { IfOk result IsSegmentInRange }
 {
     let from = point(scanner)?;
     mark(scanner, b'-')?;

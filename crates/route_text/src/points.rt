@@ -2,6 +2,7 @@
 
 ghost use Rattle.std.specs.Prelude.{◌≡◌};
 ghost use Rattle.grid_base.specs.Numbers.{IsVertex};
+ghost use Rattle.grid_graph.specs.Grids.{size_of};
 ghost use Rattle.gr_desk.specs.Pens.{Puts, pen_told};
 ghost use Rattle.route_text.specs.RouteText.{point_text, segment_text};
 
@@ -21,7 +22,7 @@ pub(crate) fn put_number<D: Desk, I: Integer>(pen: &mut Pen<'_, D>, number: I)
 
 /// Puts a vertex as a point.
 fn put_point<D: Desk>(pen: &mut Pen<'_, D>, grid: &Grid, v: Vertex)
-    requires { IsVertex grid.now.size v.0 }
+    requires { IsVertex (size_of grid.now) v.0 }
     ensures same_desk { pen.new.desk.ghost_name ≡ pen.old.desk.ghost_name }
     ensures puts { Puts (pen_told D.told pen.old) (pen_told D.told pen.new) (point_text grid.now v.0) }
 {
@@ -37,8 +38,8 @@ fn put_point<D: Desk>(pen: &mut Pen<'_, D>, grid: &Grid, v: Vertex)
 
 /// Puts a segment from one vertex to another, on a line of its own.
 pub(crate) fn put_segment<D: Desk>(pen: &mut Pen<'_, D>, grid: &Grid, from: Vertex, to: Vertex)
-    requires from { IsVertex grid.now.size from.0 }
-    requires to { IsVertex grid.now.size to.0 }
+    requires from { IsVertex (size_of grid.now) from.0 }
+    requires to { IsVertex (size_of grid.now) to.0 }
     ensures same_desk { pen.new.desk.ghost_name ≡ pen.old.desk.ghost_name }
     ensures puts { Puts (pen_told D.told pen.old) (pen_told D.told pen.new) (segment_text grid.now (from.0, to.0)) }
 {

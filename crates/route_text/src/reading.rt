@@ -1,11 +1,11 @@
 //! Reads a route text.
 
-ghost use Rattle.std.specs.Prelude.{◌≡◌, ℕ, ◌<◌, ◌≤◌, ◌+◌, length, IfOk, IfErr};
+ghost use Rattle.std.specs.Prelude.{◌≡◌, ◌≤◌, ◌+◌, length, slice_range, IfOk, IfErr};
 ghost use Rattle.std.specs.List.{All};
-ghost use Rattle.text_scan.specs.Reading.{left};
-ghost use Rattle.route_text.specs.Blocks.{begins_number, further_at, segments_within, block_at, blocks_of};
-ghost use Rattle.route_text.specs.ReadLimits.{IsNearSegment, IsNearBlock, block_and_segment_count};
-ghost use Rattle.route_text.specs.Reads.{Refuses, Reads, ReadsWithBlanks, Moves};
+ghost use Rattle.text_scan.specs.Moves.{Moves};
+ghost use Rattle.route_text.specs.Blocks.{begins_number, further_at, segments_at, name_at, block_at, blocks_of};
+ghost use Rattle.route_text.specs.ReadLimits.{IsSegmentInRange, IsBlockInRange, block_and_segment_count};
+ghost use Rattle.route_text.specs.Reads.{Refuses, IsReadAs};
 
 use crate::block::Block;
 use crate::parts::{segment, token_number};
@@ -14,45 +14,61 @@ use crate::segment::Segment;
 use crate::segments::Segments;
 use grid_graph::{MAX_NUMBER, Name};
 use std::alloc::Global;
-use text_scan::Scanner;
+use text_scan::{Scanner, Span};
 
 /// The blocks of a route text.
 pub fn read_routes(alloc: Global, bytes: &[u8]) -> Result<Vec<Block>, RouteError>
     ensures blocks { IfOk result (λ blocks. blocks_of bytes.now ≡ Ok blocks.items) }
     ensures refusal { IfErr result (λ e. Refuses e (blocks_of bytes.now)) }
-    ensures near { IfOk result (λ blocks. All IsNearBlock blocks.items) }
+    ensures range { IfOk result (λ blocks. All IsBlockInRange blocks.items) }
     ensures few { IfOk result (λ blocks. block_and_segment_count blocks.items ≤ length bytes.now) }
 {
     let mut scanner = Scanner::over(bytes);
     let mut blocks = Vec::new(alloc);
-    while let Some(name) = scanner.token() {
-        let name = &bytes[name.start..name.end];
-        blocks.push(block(alloc, &mut scanner, name)?)?;
+    while scanner.peek().is_some() {
+        blocks.push(block(alloc, &mut scanner, bytes)?)?;
     }
     Ok(blocks)
 }
 
-/// The block of this name, from its id on.
+/// The next block of the text, which the scanner reads.
 #[tactic(auto, unfolding(crate::specs::Blocks::block_at))]
-fn block(alloc: Global, scanner: &mut Scanner<'_>, name: &[u8]) -> Result<Block, RouteError>
-    ensures block { Reads (λ b. b) result scanner.new (block_at name.now scanner.old) }
+fn block(alloc: Global, scanner: &mut Scanner<'_>, text: &[u8]) -> Result<Block, RouteError>
+    requires { scanner.old.text ≡ text.now }
+    ensures block { IsReadAs (λ b. b) result scanner.new (block_at scanner.old) }
     ensures passed { IfOk result (λ b. Moves (1 + length b.segments) scanner.old scanner.new) }
-    ensures near { IfOk result (λ b. IsNearBlock b) }
+    ensures range { IfOk result (λ b. IsBlockInRange b) }
 {
+    let name = name(scanner)?;
     let id = token_number(scanner, 0, i64::from(u32::MAX))?;
     further(scanner)?;
     let segments = segments(alloc, scanner)?;
+    let name = Vec::from_slice(alloc, &text[name.start..name.end])?;
     Ok(Block {
-        name: Name::of(Vec::from_slice(alloc, name)?),
+        name: Name::of(name),
         id: id as u32,
         segments: Segments::of(segments),
     })
 }
 
+/// A name: any token.
+fn name(scanner: &mut Scanner<'_>) -> Result<Span, RouteError>
+    ensures name { IsReadAs (λ name. slice_range scanner.old.text name.start name.end) result scanner.new (name_at scanner.old) }
+    ensures passed { IfOk result (λ _. Moves 1 scanner.old scanner.new) }
+    ensures bounds { IfOk result (λ name. (name.start ≤ name.end) × (name.end ≤ length scanner.old.text)) }
+{
+    match scanner.token() {
+        Some(name) => Ok(name),
+        None => Err(RouteError::Syntax {
+            at: scanner.place(),
+        }),
+    }
+}
+
 /// The further number, where one follows: its value is ignored.
 #[tactic(auto, unfolding(crate::specs::Blocks::further_at))]
 fn further(scanner: &mut Scanner<'_>) -> Result<(), RouteError>
-    ensures further { ReadsWithBlanks (λ _. tt) result scanner.new (further_at scanner.old) }
+    ensures further { IsReadAs (λ _. tt) result scanner.new (further_at scanner.old) }
     ensures passed { IfOk result (λ _. Moves 0 scanner.old scanner.new) }
 {
     if begins_number(scanner.peek()) {
@@ -72,9 +88,9 @@ fn begins_number(byte: Option<u8>) -> bool
 
 /// The segments up to the `!`, and the `!`.
 fn segments(alloc: Global, scanner: &mut Scanner<'_>) -> Result<Vec<Segment>, RouteError>
-    ensures segments { (n : ℕ) → length (left scanner.old) < n → Reads (λ s. s.items) result scanner.new (segments_within n scanner.old) }
+    ensures segments { IsReadAs (λ s. s.items) result scanner.new (segments_at scanner.old) }
     ensures passed { IfOk result (λ s. Moves (1 + length s.items) scanner.old scanner.new) }
-    ensures near { IfOk result (λ s. All IsNearSegment s.items) }
+    ensures range { IfOk result (λ s. All IsSegmentInRange s.items) }
 {
     let mut segments = Vec::new(alloc);
     while !scanner.mark(b'!') {

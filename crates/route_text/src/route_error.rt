@@ -2,7 +2,7 @@
 
 ghost use Rattle.std.specs.Prelude.{◌≡◌};
 ghost use Rattle.route_text.specs.declared.route_error.RouteError.TheVariants.{Syntax, NoMemory};
-ghost use Rattle.route_text.specs.Reads.{place_of};
+ghost use Rattle.text_scan.specs.Faults.{fault_place};
 
 use std::alloc::{AllocError, AllocFailed};
 use text_scan::NumberFault;
@@ -20,16 +20,25 @@ pub enum RouteError {
     NoMemory,
 }
 
+impl RouteError {
+    ghost use Rattle.route_text.specs.Faults.{number_of};
+
+    /// The number of the refusal; none for want of memory.
+    pub fn number(self) -> Option<u32>
+        ensures { result ≡ number_of self }
+    {
+        match self {
+            RouteError::Syntax { .. } => Some(31),
+            RouteError::NoMemory => None,
+        }
+    }
+}
+
 impl From<NumberFault> for RouteError {
-    ghost from_gives = { λ fault e. e ≡ Syntax (place_of fault) };
+    ghost from_gives = { λ fault e. e ≡ Syntax (fault_place fault) };
 
     fn from(fault: NumberFault) -> RouteError {
-        let at = match fault {
-            NumberFault::NotNumber { at } => at,
-            NumberFault::OutOfRange { at } => at,
-            NumberFault::End { at } => at,
-        };
-        RouteError::Syntax { at }
+        RouteError::Syntax { at: fault.place() }
     }
 }
 

@@ -1,6 +1,7 @@
 //! The text of a routing.
 
 ghost use Rattle.std.specs.Prelude.{◌≡◌, All, length};
+ghost use Rattle.grid_graph.specs.Grids.{size_of};
 ghost use Rattle.tree_set.specs.Routings.{ArePieces};
 ghost use Rattle.gr_desk.specs.Pens.{Ends, Puts, pen_told};
 ghost use Rattle.route_text.specs.RouteText.{routes_text};
@@ -20,7 +21,7 @@ pub fn write_routes<D: Desk>(
     trees: &[Tree],
 ) -> Result<(), Failed>
     requires one_each { length trees.now ≡ length design.now.nets }
-    requires pieces { All (ArePieces design.now.grid.size) trees.now }
+    requires pieces { All (ArePieces (size_of design.now.grid)) trees.now }
     ensures ends { Ends (D.told desk.old) (D.told desk.new) port (routes_text design.now.grid design.now.nets trees.now) result }
 {
     let mut pen = Pen::new(desk, port);
@@ -31,7 +32,7 @@ pub fn write_routes<D: Desk>(
 /// Puts the blocks of all nets.
 fn put_nets<D: Desk>(pen: &mut Pen<'_, D>, design: &Design, trees: &[Tree])
     requires one_each { length trees.now ≡ length design.now.nets }
-    requires pieces { All (ArePieces design.now.grid.size) trees.now }
+    requires pieces { All (ArePieces (size_of design.now.grid)) trees.now }
     ensures same_desk { pen.new.desk.ghost_name ≡ pen.old.desk.ghost_name }
     ensures puts { Puts (pen_told D.told pen.old) (pen_told D.told pen.new) (routes_text design.now.grid design.now.nets trees.now) }
 {

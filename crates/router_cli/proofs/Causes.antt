@@ -1,9 +1,10 @@
 -- What refuses a text: it is one cause, and it never refuses a text that has a routing.
-use Rattle.std.proofs.Common.{◌≡◌, ℕ, ◌<◌, List, [], length, refl, sym, ◌∙◌, subst, arith, Ok, Err, get_or, inl, inr}
+use Rattle.std.proofs.Common.{◌≡◌, ℕ, ◌<◌, List, [], length, refl, sym, ◌∙◌, subst, arith, Some, Ok, Err, get_or, inl, inr}
 use Rattle.std.specs.Prelude.{◌⊎◌}
 use Rattle.std.proofs.lemmas.Option.{slice_get-get_or, slice_get_within}
-use Rattle.std.specs.declared.string.String.{String}
 use Rattle.grid_base.specs.declared.piece.Piece.{Piece}
+use Rattle.std.proofs.lemmas.Slice.Zip.{AllZip-long}
+use Rattle.grid_base.proofs.Lists.{AllZip-at}
 use Rattle.grid_graph.specs.declared.design.Design.{Design}
 use Rattle.grid_graph.specs.declared.grid.Grid.{Grid}
 use Rattle.grid_graph.specs.declared.net_spec.NetSpec.{NetSpec}
@@ -13,18 +14,17 @@ use Rattle.ispd_reader.specs.Designs.{IsDesignOfText}
 use Rattle.ispd_reader.proofs.Alike.{one_design}
 use Rattle.ispd_reader.proofs.AlikeGrounds.{IsFirstCutOff-alike}
 use Rattle.ispd_reader.proofs.AlikeCutOff.{first_cut_off-once, cut_off-unreachable}
-use Rattle.tree_set.specs.Routings.{IsRouting}
+use Rattle.tree_set.specs.Routings.{IsRoute, IsRouting}
 use Rattle.router_cli.specs.declared.refusal.Refusal.{Refusal}
 use Rattle.router_cli.specs.declared.refusal.Refusal.TheVariants.{NoCommand, Unbuilt, Input, Unreachable, Unread, NoMemory}
-use Rattle.router_cli.specs.Words.{IsNoCommand}
-use Rattle.router_cli.specs.Inputs.{HaveAtMostTwoTerminals, AreReachable}
-use Rattle.router_cli.specs.Refusals.{IsRefusedFor, IsTextRefusal, IsInputRefused, IsCause, IsCutOffText, InputFailed}
+use Rattle.router_cli.specs.Refusals.{HaveAtMostTwoTerminals, AreReachable, IsRefusedFor, IsCause, IsCutOffText}
+use Rattle.router_cli.specs.Traces.{InputFailed}
 
 -- the nets of a routing are reachable
 pub routed_reachable : (g : Grid) (nets : List NetSpec) (trees : List (List Piece)) → IsRouting g nets trees → AreReachable g nets
 routed_reachable g nets trees routing k n at =
-    let within : k < length trees = omega (arith, slice_get_within nets k n at, routing.long) in
-    let route = routing.each k n (get_or trees k []) at (slice_get-get_or trees k [] within) in
+    let within : k < length trees = omega (arith, slice_get_within nets k n at, AllZip-long (IsRoute g) nets trees routing) in
+    let route = AllZip-at (IsRoute g) nets trees k n (get_or trees k []) routing at (slice_get-get_or trees k [] within) in
     joins_with_choked g n.terminals route.over route.is_ground
 
 -- the first net that is cut off is one, in whatever design of the text
@@ -63,20 +63,30 @@ not_refused text d (Unreachable id t) named small reachable h =
     let alike = one_design text h.design d h.named named in
     cut_off-unreachable d.grid d.nets id t (IsFirstCutOff-alike h.design.grid d.grid d.nets id t alike.grids (rw alike.nets at h.first)) reachable
 
--- the cause of each refusal
-pub its_cause : {Z : Type 0} (words : List (String Z)) (before after : Told) (r : Refusal) → (r ≡ NoCommand → IsNoCommand words) → (IsTextRefusal r → IsInputRefused words before r) → (r ≡ Unread → InputFailed before after) → IsCause words before after r
-its_cause words before after NoCommand no_command of_text unread = no_command refl
-its_cause words before after Unbuilt no_command of_text unread = of_text tt
-its_cause words before after (Input fault) no_command of_text unread = of_text tt
-its_cause words before after (Unreachable id terminal) no_command of_text unread = of_text tt
-its_cause words before after Unread no_command of_text unread = unread refl
-its_cause words before after NoMemory no_command of_text unread = tt
+-- a refusal with a cause, where no open or read failed, is for what the text says, or want of memory
+pub text_or_memory : (name text : List ℕ) (before after : Told) (r : Refusal) → IsCause name before after r → before.files name ≡ Some text → ¬ InputFailed before after → IsRefusedFor text r ⊎ (r ≡ NoMemory)
+text_or_memory name text before after NoCommand cause under calm = absurd cause
+text_or_memory name text before after Unbuilt cause under calm = inl (cause text under)
+text_or_memory name text before after (Input fault) cause under calm = inl (cause text under)
+text_or_memory name text before after (Unreachable id terminal) cause under calm = inl (cause text under)
+text_or_memory name text before after Unread cause under calm = absurd (calm cause)
+text_or_memory name text before after NoMemory cause under calm = inr refl
 
--- a refusal that is for neither the words nor a failed read is for what the text says, or want of memory
-pub text_or_memory : (r : Refusal) → (r ≡ NoCommand → ⊥) → (r ≡ Unread → ⊥) → IsTextRefusal r ⊎ (r ≡ NoMemory)
-text_or_memory NoCommand a b = absurd (a refl)
-text_or_memory Unbuilt a b = inl tt
-text_or_memory (Input fault) a b = inl tt
-text_or_memory (Unreachable id terminal) a b = inl tt
-text_or_memory Unread a b = absurd (b refl)
-text_or_memory NoMemory a b = inr refl
+-- what a text is refused for is a cause, and so is want of memory
+pub cause-of_text : (name text : List ℕ) (before after : Told) (r : Refusal) → ((bytes : List ℕ) → before.files name ≡ Some bytes → text ≡ bytes) → IsRefusedFor text r ⊎ (r ≡ NoMemory) → IsCause name before after r
+cause-of_text name text before after NoCommand same (inl for) = absurd for
+cause-of_text name text before after Unread same (inl for) = absurd for
+cause-of_text name text before after NoMemory same for = tt
+cause-of_text name text before after Unbuilt same (inl for) = λ bytes under. subst (λ (t : List ℕ). IsRefusedFor t Unbuilt) (same bytes under) for
+cause-of_text name text before after (Input fault) same (inl for) = λ bytes under. subst (λ (t : List ℕ). IsRefusedFor t (Input fault)) (same bytes under) for
+cause-of_text name text before after (Unreachable id terminal) same (inl for) = λ bytes under. subst (λ (t : List ℕ). IsRefusedFor t (Unreachable id terminal)) (same bytes under) for
+cause-of_text name text before after r same (inr memory) = subst (IsCause name before after) (sym memory) tt
+
+-- a cause stays one where no open or read follows
+pub cause-later : (name : List ℕ) (a b c : Told) (r : Refusal) → c.in_faults ≡ b.in_faults → IsCause name a b r → IsCause name a c r
+cause-later name a b c NoCommand same cause = cause
+cause-later name a b c Unbuilt same cause = cause
+cause-later name a b c (Input fault) same cause = cause
+cause-later name a b c (Unreachable id terminal) same cause = cause
+cause-later name a b c Unread same cause = rw same cause
+cause-later name a b c NoMemory same cause = cause

@@ -1,6 +1,7 @@
 pub mod Pairs
 pub mod Endings
 pub mod Outcomes
+pub mod Traces
 pub mod Visits
 pub mod WayBack
 pub mod TwoTerminals

@@ -1,17 +1,24 @@
 -- Refusals and their statuses, and the one name of a command.
-use Rattle.std.proofs.Common.{◌≡◌, [], ◌∷◌, Contains, refl, arith, Err, Ok, IsErrOf, IsErrAnd}
+use Rattle.std.proofs.Common.{◌≡◌, ◌≢◌, ℕ, List, Err, Ok, IsErrOf, IsErrAnd}
 use Rattle.std.specs.Prelude.{Result}
+use Rattle.std.specs.declared.string.String.{String}
 use Rattle.router_cli.specs.declared.refusal.Refusal.{Refusal}
 use Rattle.router_cli.specs.declared.refusal.Refusal.TheVariants.{NoCommand, Unbuilt, Input, Unreachable, Unread, NoMemory}
-use Rattle.router_cli.specs.Refusals.{status_of}
+use Rattle.router_cli.specs.Lines.{status_of}
+use Rattle.router_cli.specs.Runs.{IsRouteCommand}
 
-pub has_status : (r : Refusal) → Contains (0 ∷ 2 ∷ 3 ∷ 5 ∷ 6 ∷ 7 ∷ 8 ∷ []) (status_of r)
-has_status NoCommand = (1, omega arith, refl)
-has_status Unbuilt = (2, omega arith, refl)
-has_status (Input fault) = (2, omega arith, refl)
-has_status (Unreachable id terminal) = (3, omega arith, refl)
-has_status Unread = (4, omega arith, refl)
-has_status NoMemory = (6, omega arith, refl)
+-- the words have one name
+pub one_name : {Z : Type 0} (words : List (String Z)) (a b : List ℕ) → IsRouteCommand words a → IsRouteCommand words b → a ≡ b
+one_name words a b (is, named) (also, other) = cc
+
+-- no refusal has the status of a report, whole or not
+pub status-no_report : (r : Refusal) → (status_of r ≢ 0) × (status_of r ≢ 7)
+status-no_report NoCommand = ((λ h. cc), (λ h. cc))
+status-no_report Unbuilt = ((λ h. cc), (λ h. cc))
+status-no_report (Input fault) = ((λ h. cc), (λ h. cc))
+status-no_report (Unreachable id terminal) = ((λ h. cc), (λ h. cc))
+status-no_report Unread = ((λ h. cc), (λ h. cc))
+status-no_report NoMemory = ((λ h. cc), (λ h. cc))
 
 -- an answer that fails with this refusal fails with that one
 pub same_refusal : {T : Type 0} (r : Result T Refusal) (e x : Refusal) → IsErrAnd r (λ y. y ≡ e) → IsErrOf r x → e ≡ x

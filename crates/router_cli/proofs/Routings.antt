@@ -3,7 +3,7 @@ use Rattle.std.proofs.Common.{ℕ, List, [], ◌∷◌, ◌++◌, length, sym, s
 use Rattle.grid_base.specs.declared.piece.Piece.{Piece}
 use Rattle.grid_base.proofs.Lists.{At-push_cases}
 use Rattle.grid_graph.specs.declared.net_spec.NetSpec.{NetSpec}
-use Rattle.grid_graph.specs.Lists.{At}
+use Rattle.grid_base.specs.Lists.{At}
 
 -- it holds of each of the first nets with its set
 abbrev pub HoldsSoFar : (NetSpec → List Piece → Type 0) → List NetSpec → List (List Piece) → Type 0

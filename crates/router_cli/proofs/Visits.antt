@@ -16,12 +16,12 @@ use Rattle.grid_base.proofs.Lists.{At-push, At-pushed, At-push_cases}
 use Rattle.grid_base.proofs.Walks.{AreLinked-sym, linked_vertex, closed_under_walks}
 use Rattle.grid_graph.specs.declared.grid.Grid.{Grid}
 use Rattle.grid_graph.specs.declared.ground.Ground.{Ground}
-use Rattle.grid_graph.specs.Grids.{Allows}
+use Rattle.grid_graph.specs.Grids.{size_of, Allows}
 use Rattle.grid_graph.specs.Grounds.{Reaches}
-use Rattle.grid_graph.specs.Lists.{At}
-use Rattle.grid_graph.specs.Neighbours.{steps}
+use Rattle.grid_base.specs.Lists.{At}
+use Rattle.grid_base.specs.Neighbours.{steps}
 use Rattle.grid_graph.proofs.Grounds.{at_place}
-use Rattle.grid_graph.proofs.Neighbours.{connects_step}
+use Rattle.grid_base.proofs.Neighbours.{connects_step}
 use Rattle.router_cli.specs.declared.visit.Visit.{Visit}
 use Rattle.router_cli.specs.Visits.{IsVisitOf, WasVisited, WasMet, IsMetFrom, Came, AreVisits, KeepsVisits, IsVisitedAround}
 
@@ -41,8 +41,8 @@ IsVisitOf-only visits place v w is also =
     let same : is.visit ≡ also.visit = same_Some _ _ (sym is.stands ∙ also.stands) in
     sym is.here ∙ ap (λ (x : Visit). x.vertex.0) same ∙ also.here
 
-pub visited_vertex : (g : Grid) (over : Ground) (places : List ℕ) (visits : List Visit) (place v : ℕ) → AreVisits g over places visits → IsVisitOf visits place v → IsVertex g.size v
-visited_vertex g over places visits place v are is = subst (IsVertex g.size) is.here (are.vertex place is.visit is.stands)
+pub visited_vertex : (g : Grid) (over : Ground) (places : List ℕ) (visits : List Visit) (place v : ℕ) → AreVisits g over places visits → IsVisitOf visits place v → IsVertex (size_of g) v
+visited_vertex g over places visits place v are is = subst (IsVertex (size_of g)) is.here (are.vertex place is.visit is.stands)
 
 -- a visit that was pushed is the last one
 pub WasMet-push : (visits : List Visit) (x : Visit) → WasMet (visits ++ x ∷ []) x.vertex.0
@@ -65,13 +65,13 @@ Came-kept g over old new place x kept came =
     record { earlier = came.earlier; before = came.before; stands = kept x.came_from came.before came.stands; linked = came.linked }
 
 -- a vertex that was not visited is, by a piece of the ground
-pub AreVisits-push : (g : Grid) (over : Ground) (places : List ℕ) (visits : List Visit) (place : ℕ) (by : Piece) (next : Vertex) → AreVisits g over places visits → IsMetFrom g.size visits place by next.0 → Allows g over by → ¬ WasVisited visits next.0 → AreVisits g over (slice_set places next.0 (length visits)) (visits ++ record { vertex = next; came_from = place } ∷ [])
+pub AreVisits-push : (g : Grid) (over : Ground) (places : List ℕ) (visits : List Visit) (place : ℕ) (by : Piece) (next : Vertex) → AreVisits g over places visits → IsMetFrom (size_of g) visits place by next.0 → Allows g over by → ¬ WasVisited visits next.0 → AreVisits g over (slice_set places next.0 (length visits)) (visits ++ record { vertex = next; came_from = place } ∷ [])
 AreVisits-push g over places visits place by next before from allowed new =
     let F = Allows g over in
     let x : Visit = record { vertex = next; came_from = place } in
     let all = visits ++ x ∷ [] in
-    let link : AreLinked g.size F from.visit.vertex.0 next.0 = record { piece = by; in_set = allowed; connects = from.connects } in
-    let vertex : IsVertex g.size next.0 = linked_vertex g.size F next.0 from.visit.vertex.0 (AreLinked-sym g.size F from.visit.vertex.0 next.0 link) in
+    let link : AreLinked (size_of g) F from.visit.vertex.0 next.0 = record { piece = by; in_set = allowed; connects = from.connects } in
+    let vertex : IsVertex (size_of g) next.0 = linked_vertex (size_of g) F next.0 from.visit.vertex.0 (AreLinked-sym (size_of g) F from.visit.vertex.0 next.0 link) in
     let here : slice_index (slice_set places next.0 (length visits)) next.0 ≡ length visits = get_or-set_same places next.0 (length visits) 0 (rw before.long vertex) in
     let came : Came g over all (length visits) x =
     record { earlier = slice_get_within visits place from.visit from.stands; before = from.visit; stands = At-push visits x from.visit place from.stands; linked = link } in
@@ -79,7 +79,7 @@ AreVisits-push g over places visits place by next before from allowed new =
       long = length-set places next.0 (length visits) ∙ before.long;
       vertex = λ p y at. ⊎_elim
           (λ old. before.vertex p y old)
-          (λ last. subst (λ (z : Visit). IsVertex g.size z.vertex.0) (sym last.1) vertex)
+          (λ last. subst (λ (z : Visit). IsVertex (size_of g) z.vertex.0) (sym last.1) vertex)
           (At-push_cases visits x y p at);
       placed = λ p y at. ⊎_elim
           (λ old. get_or-set_other places next.0 y.vertex.0 (length visits) 0 (λ is. new (record { place = p; seen = record { visit = y; stands = old; here = is } })) ∙ before.placed p y old)
@@ -91,12 +91,8 @@ AreVisits-push g over places visits place by next before from allowed new =
           (At-push_cases visits x y p at);
     }
 
--- the only visit of a list of one
-alone : (x y : Visit) (place : ℕ) → At (x ∷ []) place y → (place ≡ 0) × (y ≡ x)
-alone x y place at = ⊎_elim (λ old. absurd (omega (arith, slice_get_within [] place y old))) (λ last. last) (At-push_cases [] x y place at)
-
 -- no vertex is visited twice, so there are at most as many visits as vertices
-pub few_visits : (g : Grid) (over : Ground) (places : List ℕ) (visits : List Visit) → AreVisits g over places visits → length visits ≤ vertices g.size
+pub few_visits : (g : Grid) (over : Ground) (places : List ℕ) (visits : List Visit) → AreVisits g over places visits → length visits ≤ vertices (size_of g)
 few_visits g over places visits are =
     let each : (q : ℕ) → q < length visits → list_any (eqb q) places ≡ true = λ q below.
     let x = at_place visits q below in
@@ -119,17 +115,17 @@ VisitedBelow-next g over visits found n step here now passed k w p below at allo
     (cases_eq k n)
 
 -- where the six steps from a vertex lead to visited ones, all that the ground links to it was visited
-pub visited_around : (g : Grid) (over : Ground) (visits : List Visit) (v w : ℕ) → VisitedBelow g over visits (steps g.size v) 6 → AreLinked g.size (Allows g over) v w → WasVisited visits w
+pub visited_around : (g : Grid) (over : Ground) (visits : List Visit) (v w : ℕ) → VisitedBelow g over visits (steps (size_of g) v) 6 → AreLinked (size_of g) (Allows g over) v w → WasVisited visits w
 visited_around g over visits v w passed link =
-    let step = connects_step g.size link.piece v w link.connects in
+    let step = connects_step (size_of g) link.piece v w link.connects in
     passed step.0 (record { 0 = w }) link.piece step.1 step.2 link.in_set
 
 -- where all that is linked to a visit was visited, all that a walk leads to from a visited vertex was
 pub visited_all : (g : Grid) (over : Ground) (visits : List Visit) (from to : ℕ) → WasVisited visits from → ((place : ℕ) → place < length visits → IsVisitedAround g over visits place) → Reaches g over from to → WasVisited visits to
 visited_all g over visits from to first around walk =
-    closed_under_walks g.size (Allows g over) (WasVisited visits)
+    closed_under_walks (size_of g) (Allows g over) (WasVisited visits)
     (λ u w was link. around was.place (slice_get_within visits was.place was.seen.visit was.seen.stands) was.seen.visit w was.seen.stands
-    (subst (λ (x : ℕ). AreLinked g.size (Allows g over) x w) (sym was.seen.here) link))
+    (subst (λ (x : ℕ). AreLinked (size_of g) (Allows g over) x w) (sym was.seen.here) link))
     from to first walk
 
 -- so the queue is not used up before a vertex is met to which a walk leads
@@ -144,4 +140,4 @@ pub IsVisitedAround-kept : (g : Grid) (over : Ground) (old new : List Visit) (pl
 IsVisitedAround-kept g over old new place kept within around x w at link =
     let known = at_place old place within in
     let same : x ≡ known.0 = same_Some _ _ (sym at ∙ kept place known.0 known.1) in
-    WasVisited-kept old new w kept (around known.0 w known.1 (subst (λ (y : Visit). AreLinked g.size (Allows g over) y.vertex.0 w) same link))
+    WasVisited-kept old new w kept (around known.0 w known.1 (subst (λ (y : Visit). AreLinked (size_of g) (Allows g over) y.vertex.0 w) same link))

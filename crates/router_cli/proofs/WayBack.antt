@@ -9,17 +9,17 @@ use Rattle.grid_base.specs.Walks.{AreLinked, WalkBetween, InPieces}
 use Rattle.grid_base.proofs.Walks.{WalkBetween-trans, WalkBetween-piece, WalkBetween-superset}
 use Rattle.grid_graph.specs.declared.grid.Grid.{Grid}
 use Rattle.grid_graph.specs.declared.ground.Ground.{Ground}
-use Rattle.grid_graph.specs.Grids.{Allows}
-use Rattle.grid_graph.specs.Lists.{At}
+use Rattle.grid_graph.specs.Grids.{size_of, Allows}
+use Rattle.grid_base.specs.Lists.{At}
 use Rattle.router_cli.specs.declared.visit.Visit.{Visit}
 use Rattle.router_cli.specs.Visits.{AreVisits}
 
 -- a later visit is linked to the one that it names
-pub step_back : (g : Grid) (over : Ground) (places : List ℕ) (visits : List Visit) (place : ℕ) (here before : Visit) → AreVisits g over places visits → At visits place here → 0 < place → At visits here.came_from before → AreLinked g.size (Allows g over) before.vertex.0 here.vertex.0
+pub step_back : (g : Grid) (over : Ground) (places : List ℕ) (visits : List Visit) (place : ℕ) (here before : Visit) → AreVisits g over places visits → At visits place here → 0 < place → At visits here.came_from before → AreLinked (size_of g) (Allows g over) before.vertex.0 here.vertex.0
 step_back g over places visits place here before are at later at_before =
     let came = are.came place here at later in
     let same : came.before ≡ before = same_Some _ _ (sym came.stands ∙ at_before) in
-    subst (λ (x : Visit). AreLinked g.size (Allows g over) x.vertex.0 here.vertex.0) same came.linked
+    subst (λ (x : Visit). AreLinked (size_of g) (Allows g over) x.vertex.0 here.vertex.0) same came.linked
 
 -- a walk of the pieces so far is one more step away
 pub walk_from_before : (s : Size) (pieces : List Piece) (by : Piece) (a b c : ℕ) → Connects s by a b → WalkBetween s (InPieces pieces) b c → WalkBetween s (InPieces (pieces ++ by ∷ [])) a c

@@ -1,7 +1,9 @@
 -- Lines of the report.
-use Rattle.std.specs.Prelude.{ℕ, List, ◌∷◌, [], ◌++◌, flat_map, codes, decimal}
+use Rattle.std.specs.Prelude.{ℕ, List, ◌∷◌, [], ◌++◌, flat_map, codes, decimal, Some, None}
+use Rattle.std.specs.declared.option.Option.{Option}
 use Rattle.ispd_reader.specs.declared.input_fault.InputFault.{InputFault}
-use Rattle.ispd_reader.specs.declared.input_fault.InputFault.TheVariants.{Syntax, Range, TooLong, GridSize, TileSize, CapacityLimit, WidthLimit, NetLimit, DuplicateId, PinOutside, PinLayer, AdjustmentPlace}
+use Rattle.ispd_reader.specs.declared.wanted.Wanted.{Wanted}
+use Rattle.ispd_reader.specs.Faults.{number_of, fields_of, wanted_of}
 use Rattle.ispd_reader.specs.Words.{spelling}
 use Rattle.router_cli.specs.declared.refusal.Refusal.{Refusal}
 use Rattle.router_cli.specs.declared.refusal.Refusal.TheVariants.{NoCommand, Unbuilt, Input, Unreachable, Unread, NoMemory}
@@ -18,20 +20,23 @@ line word numbers = word ++ fields numbers ++ codes "\n"
 abbrev pub measure_lines : ℕ → ℕ → List ℕ
 measure_lines overflow wirelength = line (codes "overflow") (overflow ∷ []) ++ line (codes "wirelength") (wirelength ∷ [])
 
--- what the report says of a text that is no design
+-- the word that was wanted, behind a space, where one was
+abbrev pub wanted_part : Option Wanted → List ℕ
+wanted_part None = []
+wanted_part (Some wanted) = codes " " ++ spelling wanted
+
+-- what the report says of a text that is no design: the fault's number, what the fault names, and the word that was wanted
 abbrev pub fault_line : InputFault → List ℕ
-fault_line (Syntax at wanted) = codes "refused 3 11" ++ fields (at ∷ []) ++ codes " " ++ spelling wanted ++ codes "\n"
-fault_line (Range at) = line (codes "refused 3 12") (at ∷ [])
-fault_line TooLong = line (codes "refused 3 13") []
-fault_line (GridSize at) = line (codes "refused 3 14") (at ∷ [])
-fault_line (TileSize at) = line (codes "refused 3 15") (at ∷ [])
-fault_line (CapacityLimit at) = line (codes "refused 3 16") (at ∷ [])
-fault_line (WidthLimit at) = line (codes "refused 3 17") (at ∷ [])
-fault_line (NetLimit at) = line (codes "refused 3 18") (at ∷ [])
-fault_line (DuplicateId at id) = line (codes "refused 3 19") (at ∷ id ∷ [])
-fault_line (PinOutside at id pin) = line (codes "refused 3 20") (at ∷ id ∷ pin ∷ [])
-fault_line (PinLayer at id pin) = line (codes "refused 3 21") (at ∷ id ∷ pin ∷ [])
-fault_line (AdjustmentPlace at index) = line (codes "refused 3 22") (at ∷ index ∷ [])
+fault_line fault = codes "refused 3" ++ fields (number_of fault ∷ []) ++ fields (fields_of fault) ++ wanted_part (wanted_of fault) ++ codes "\n"
+
+-- the status of a refusal
+abbrev pub status_of : Refusal → ℕ
+status_of NoCommand = 2
+status_of Unbuilt = 3
+status_of (Input fault) = 3
+status_of (Unreachable id terminal) = 5
+status_of Unread = 6
+status_of NoMemory = 8
 
 -- what a refusal says on the report
 abbrev pub lines_of : Refusal → List ℕ

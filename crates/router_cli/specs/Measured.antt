@@ -5,7 +5,8 @@ use Rattle.tree_set.specs.Measures.{overflow, wirelength}
 use Rattle.tree_set.specs.Order.{IsRising}
 use Rattle.tree_set.specs.Routings.{ArePieces, IsRouting}
 use Rattle.router_cli.specs.declared.routed_design.RoutedDesign.{RoutedDesign}
-use Rattle.router_cli.specs.Unwired.{LeavesUnwired}
+use Rattle.router_cli.specs.RouteRun.{LeavesUnwired}
+use Rattle.grid_graph.specs.Grids.{size_of}
 
 -- the measures are those of the trees
 pub record IsMeasured (r : RoutedDesign) : Type 0 where
@@ -15,7 +16,7 @@ pub record IsMeasured (r : RoutedDesign) : Type 0 where
 -- the trees are a routing of the design, and measured
 pub record IsRouted (r : RoutedDesign) : Type 0 where
   pub sets : All IsRising r.trees.items
-  pub pieces : All (ArePieces r.design.grid.size) r.trees.items
+  pub pieces : All (ArePieces (size_of r.design.grid)) r.trees.items
   pub routing : IsRouting r.design.grid r.design.nets r.trees.items
   pub unwired : LeavesUnwired r.design.nets r.trees.items
   pub measured : IsMeasured r

@@ -6,8 +6,8 @@ use Rattle.grid_base.specs.Numbers.{vertices, IsVertex, Connects}
 use Rattle.grid_base.specs.Walks.{AreLinked}
 use Rattle.grid_graph.specs.declared.grid.Grid.{Grid}
 use Rattle.grid_graph.specs.declared.ground.Ground.{Ground}
-use Rattle.grid_graph.specs.Grids.{Allows}
-use Rattle.grid_graph.specs.Lists.{At}
+use Rattle.grid_graph.specs.Grids.{size_of, Allows}
+use Rattle.grid_base.specs.Lists.{At}
 use Rattle.router_cli.specs.declared.visit.Visit.{Visit}
 
 -- the visit at this place is one of the vertex v
@@ -40,12 +40,12 @@ pub record Came (g : Grid) (over : Ground) (visits : List Visit) (place : ℕ) (
   pub earlier : x.came_from < place
   pub before : Visit
   pub stands : At visits x.came_from before
-  pub linked : AreLinked g.size (Allows g over) before.vertex.0 x.vertex.0
+  pub linked : AreLinked (size_of g) (Allows g over) before.vertex.0 x.vertex.0
 
 -- visits of a walk in the ground: each has its place, and came from an earlier one, but for the first
 pub record AreVisits (g : Grid) (over : Ground) (places : List ℕ) (visits : List Visit) : Type 0 where
-  pub long : length places ≡ vertices g.size
-  pub vertex : (place : ℕ) (x : Visit) → At visits place x → IsVertex g.size x.vertex.0
+  pub long : length places ≡ vertices (size_of g)
+  pub vertex : (place : ℕ) (x : Visit) → At visits place x → IsVertex (size_of g) x.vertex.0
   pub placed : ArePlaces places visits
   pub came : (place : ℕ) (x : Visit) → At visits place x → 0 < place → Came g over visits place x
 
@@ -56,4 +56,4 @@ KeepsVisits old new = (place : ℕ) (x : Visit) → At old place x → At new pl
 -- all that the ground links to the vertex of the visit at this place was visited
 abbrev pub IsVisitedAround : Grid → Ground → List Visit → ℕ → Type 0
 IsVisitedAround g over visits place =
-    (x : Visit) (w : ℕ) → At visits place x → AreLinked g.size (Allows g over) x.vertex.0 w → WasVisited visits w
+    (x : Visit) (w : ℕ) → At visits place x → AreLinked (size_of g) (Allows g over) x.vertex.0 w → WasVisited visits w

@@ -3,7 +3,7 @@
 ghost use Rattle.std.specs.Prelude.{◌≡◌, ℕ, List, All, Ok, length};
 ghost use Rattle.grid_base.specs.declared.piece.Piece.{Piece};
 ghost use Rattle.grid_graph.specs.declared.design.Design.{Design};
-ghost use Rattle.grid_graph.specs.Near.{IsNear};
+ghost use Rattle.grid_graph.specs.Borders.{HasBordersInRange};
 ghost use Rattle.ispd_reader.specs.Designs.{IsDesignOfText};
 ghost use Rattle.route_text.specs.declared.block.Block.{Block};
 ghost use Rattle.route_text.specs.Blocks.{blocks_of};
@@ -15,7 +15,7 @@ ghost use Rattle.route_text.specs.RouteText.{routes_text};
 pub fn reported_routes_read_back()
     ensures { (text : List ℕ) (d : Design) (trees : List (List Piece))
         → IsDesignOfText text d
-        → IsNear d.grid
+        → HasBordersInRange d.grid
         → length trees ≡ length d.nets
         → All (IsSet d.grid) trees
         → (blocks : List Block) × (blocks_of (routes_text d.grid d.nets trees) ≡ Ok blocks) × AreBlocksOf d.grid d.nets trees blocks }

@@ -12,8 +12,8 @@
 //! It stands on `ispd_reader` for the design, `grid_base` and `grid_graph` for pieces and the nets' grounds, `tree_set` for routes and their
 //! measures, `route_text` for their text, `gr_desk` to read from and write to, and `itoa`.
 //!
-//! Promised, in the words of `specs/Promise.antt`: where the status is 0, the report has the route
-//! text of one set of pieces per net that joins the net's terminals in its ground, and the overflow and the
+//! Promised, in the words of `specs/Runs.antt`, which is the page to begin with: where the status is 0, the report has
+//! the route text of one set of pieces per net that joins the net's terminals in its ground, and the overflow and the
 //! wirelength of these very sets; every other status but 8, want of memory, has its cause, and no output file is
 //! touched.
 
@@ -23,11 +23,11 @@ mod laws;
 mod lines;
 mod prepared;
 mod refusal;
+mod refuse;
 mod report;
+mod route;
 mod routed_design;
 mod routes;
-#[cfg(test)]
-mod tests;
 mod top;
 mod visit;
 mod walk;

@@ -3,8 +3,7 @@
 ghost use Rattle.std.specs.Prelude.{◌≡◌};
 ghost use Rattle.gr_desk.specs.declared.port.Port.TheVariants.{Report};
 ghost use Rattle.gr_desk.specs.Pens.{Puts, Ends, pen_told};
-ghost use Rattle.ispd_reader.specs.declared.input_fault.InputFault.TheVariants.{Syntax};
-ghost use Rattle.router_cli.specs.Lines.{fields, line, fault_line, lines_of};
+ghost use Rattle.router_cli.specs.Lines.{fields, line, wanted_part, fault_line, lines_of};
 
 use crate::refusal::Refusal;
 use gr_desk::{Desk, Failed, Pen, Port};
@@ -32,16 +31,18 @@ pub(crate) fn put_line<D: Desk>(pen: &mut Pen<'_, D>, word: &[u8], numbers: &[u6
     pen.put(b"\n");
 }
 
-/// Puts what is said of a text in which something else was wanted.
-fn put_wanted<D: Desk>(pen: &mut Pen<'_, D>, at: usize, wanted: Wanted)
+/// Puts the word that was wanted, where one was.
+fn put_wanted<D: Desk>(pen: &mut Pen<'_, D>, wanted: Option<Wanted>)
     ensures same_desk { pen.new.desk.ghost_name ≡ pen.old.desk.ghost_name }
-    ensures puts { Puts (pen_told D.told pen.old) (pen_told D.told pen.new) (fault_line (Syntax at wanted)) }
+    ensures puts { Puts (pen_told D.told pen.old) (pen_told D.told pen.new) (wanted_part wanted) }
 {
-    pen.put(b"refused 3 11");
-    put_fields(pen, &[at as u64]);
-    pen.put(b" ");
-    pen.put(wanted.word().as_bytes());
-    pen.put(b"\n");
+    match wanted {
+        Some(wanted) => {
+            pen.put(b" ");
+            pen.put(wanted.word().as_bytes());
+        }
+        None => {}
+    }
 }
 
 /// Puts what is said of a text that is no design.
@@ -49,32 +50,11 @@ fn put_fault<D: Desk>(pen: &mut Pen<'_, D>, fault: InputFault)
     ensures same_desk { pen.new.desk.ghost_name ≡ pen.old.desk.ghost_name }
     ensures puts { Puts (pen_told D.told pen.old) (pen_told D.told pen.new) (fault_line fault) }
 {
-    match fault {
-        InputFault::Syntax { at, wanted } => put_wanted(pen, at, wanted),
-        InputFault::Range { at } => put_line(pen, b"refused 3 12", &[at as u64]),
-        InputFault::TooLong => put_line(pen, b"refused 3 13", &[]),
-        InputFault::GridSize { at } => put_line(pen, b"refused 3 14", &[at as u64]),
-        InputFault::TileSize { at } => put_line(pen, b"refused 3 15", &[at as u64]),
-        InputFault::CapacityLimit { at } => put_line(pen, b"refused 3 16", &[at as u64]),
-        InputFault::WidthLimit { at } => put_line(pen, b"refused 3 17", &[at as u64]),
-        InputFault::NetLimit { at } => put_line(pen, b"refused 3 18", &[at as u64]),
-        InputFault::DuplicateId { at, id } => {
-            put_line(pen, b"refused 3 19", &[at as u64, u64::from(id)])
-        }
-        InputFault::PinOutside { at, id, pin } => put_line(
-            pen,
-            b"refused 3 20",
-            &[at as u64, u64::from(id), u64::from(pin)],
-        ),
-        InputFault::PinLayer { at, id, pin } => put_line(
-            pen,
-            b"refused 3 21",
-            &[at as u64, u64::from(id), u64::from(pin)],
-        ),
-        InputFault::AdjustmentPlace { at, index } => {
-            put_line(pen, b"refused 3 22", &[at as u64, u64::from(index)])
-        }
-    }
+    pen.put(b"refused 3");
+    put_fields(pen, &[u64::from(fault.number())]);
+    put_fields(pen, fault.fields().as_slice());
+    put_wanted(pen, fault.wanted());
+    pen.put(b"\n");
 }
 
 /// Puts what a refusal says.

@@ -2,7 +2,7 @@
 
 ghost use Rattle.std.specs.Prelude.{◌≡◌};
 ghost use Rattle.router_cli.specs.declared.refusal.Refusal.TheVariants.{NoMemory};
-ghost use Rattle.router_cli.specs.Refusals.{status_of};
+ghost use Rattle.router_cli.specs.Lines.{status_of};
 ghost use Rattle.router_cli.specs.Steps.{of_port_fault, of_input_error, of_ground_error};
 
 use gr_desk::PortFault;

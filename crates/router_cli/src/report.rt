@@ -5,8 +5,9 @@ ghost use Rattle.gr_desk.specs.declared.port.Port.TheVariants.{Report};
 ghost use Rattle.gr_desk.specs.Pens.{Ends};
 ghost use Rattle.tree_set.specs.Routings.{ArePieces};
 ghost use Rattle.router_cli.specs.Lines.{measure_lines};
-ghost use Rattle.router_cli.specs.Promise.{report_of};
+ghost use Rattle.router_cli.specs.RouteRun.{report_of};
 ghost use Rattle.router_cli.specs.Measured.{IsMeasured};
+ghost use Rattle.grid_graph.specs.Grids.{size_of};
 
 use crate::lines::put_line;
 use crate::routed_design::RoutedDesign;
@@ -17,7 +18,7 @@ use tree_set::Measure;
 /// Writes the report: the nets' route text, then the overflow and the wirelength.
 pub fn write_report<D: Desk>(desk: &mut D, routed: &RoutedDesign) -> Result<(), Failed>
     requires one_each { length routed.now.trees.items ≡ length routed.now.design.nets }
-    requires pieces { All (ArePieces routed.now.design.grid.size) routed.now.trees.items }
+    requires pieces { All (ArePieces (size_of routed.now.design.grid)) routed.now.trees.items }
     requires measured { IsMeasured routed.now }
     ensures { Ends (D.told desk.old) (D.told desk.new) Report (report_of routed.now.design routed.now.trees.items) result }
 {

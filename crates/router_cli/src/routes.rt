@@ -2,10 +2,11 @@
 
 ghost use Rattle.std.specs.Prelude.{◌≡◌, IfOk, length, All};
 ghost use Rattle.grid_graph.specs.Grounds.{AreGrounds};
+ghost use Rattle.grid_graph.specs.Grids.{size_of};
 ghost use Rattle.tree_set.specs.Order.{IsRising};
 ghost use Rattle.tree_set.specs.Routings.{ArePieces, IsRouting};
-ghost use Rattle.router_cli.specs.Inputs.{HaveAtMostTwoTerminals};
-ghost use Rattle.router_cli.specs.Unwired.{LeavesUnwired};
+ghost use Rattle.router_cli.specs.Refusals.{HaveAtMostTwoTerminals};
+ghost use Rattle.router_cli.specs.RouteRun.{LeavesUnwired};
 
 use crate::walker::Walker;
 use grid_base::NoMemory;
@@ -18,7 +19,7 @@ pub fn route_nets(alloc: Global, design: &Design, grounds: &[Ground]) -> Result<
     requires small { HaveAtMostTwoTerminals design.now.nets }
     requires grounds { AreGrounds design.now.grid design.now.nets grounds.now }
     ensures sets { IfOk result (λ trees. All IsRising trees.items) }
-    ensures pieces { IfOk result (λ trees. All (ArePieces design.now.grid.size) trees.items) }
+    ensures pieces { IfOk result (λ trees. All (ArePieces (size_of design.now.grid)) trees.items) }
     ensures routing { IfOk result (λ trees. IsRouting design.now.grid design.now.nets trees.items) }
     ensures unwired { IfOk result (λ trees. LeavesUnwired design.now.nets trees.items) }
 {

@@ -7,9 +7,9 @@
 ghost use Rattle.std.specs.Prelude.{◌≡◌, ◌≢◌, ◌↔◌, ◌⊎◌, ◌<◌, ℕ, false, [], length, IfOk, IsTrue};
 ghost use Rattle.grid_base.specs.Numbers.{vertices, IsVertex};
 ghost use Rattle.grid_base.specs.Walks.{WalkBetween, InPieces};
-ghost use Rattle.grid_graph.specs.Grids.{Allows};
+ghost use Rattle.grid_graph.specs.Grids.{size_of, Allows};
 ghost use Rattle.grid_graph.specs.Grounds.{Reaches};
-ghost use Rattle.tree_set.specs.Routings.{IsInside};
+ghost use Rattle.tree_set.specs.Routings.{KeepsTo};
 ghost use Rattle.router_cli.specs.Visits.{IsVisitOf, WasVisited, ArePlaces, AreVisits, KeepsVisits, IsMetFrom, IsVisitedAround, WasMet};
 
 use crate::visit::Visit;
@@ -27,10 +27,10 @@ pub(crate) fn pieces_between(
     places: &mut [u32],
     visits: &mut Vec<Visit>,
 ) -> Result<Vec<Piece>, NoMemory>
-    requires places { length places.old ≡ vertices grid.now.size }
+    requires places { length places.old ≡ vertices (size_of grid.now) }
     requires joined { Reaches grid.now over from.0 to.0 }
-    ensures inside { IfOk result (λ pieces. IsInside grid.now over pieces.items) }
-    ensures joins { IfOk result (λ pieces. WalkBetween grid.now.size (InPieces pieces.items) from.0 to.0) }
+    ensures inside { IfOk result (λ pieces. KeepsTo grid.now over pieces.items) }
+    ensures joins { IfOk result (λ pieces. WalkBetween (size_of grid.now) (InPieces pieces.items) from.0 to.0) }
     ensures none { from.0 ≡ to.0 → IfOk result (λ pieces. pieces.items ≡ []) }
 {
     let mut pieces = Vec::new(alloc);
@@ -63,8 +63,8 @@ fn search(
     places: &mut [u32],
     visits: &mut Vec<Visit>,
 ) -> Result<(), NoMemory>
-    requires places { length places.old ≡ vertices grid.now.size }
-    requires from { IsVertex grid.now.size from.0 }
+    requires places { length places.old ≡ vertices (size_of grid.now) }
+    requires from { IsVertex (size_of grid.now) from.0 }
     requires apart { from.0 ≢ to.0 }
     requires joined { Reaches grid.now over from.0 to.0 }
     ensures visits { IfOk result (λ _. AreVisits grid.now over places.new visits.new.items) }
@@ -89,8 +89,8 @@ fn start(
     visits: &mut Vec<Visit>,
     from: Vertex,
 ) -> Result<(), NoMemory>
-    requires places { length places.old ≡ vertices grid.now.size }
-    requires from { IsVertex grid.now.size from.0 }
+    requires places { length places.old ≡ vertices (size_of grid.now) }
+    requires from { IsVertex (size_of grid.now) from.0 }
     ensures visits { IfOk result (λ _. AreVisits grid.now over places.new visits.new.items) }
     ensures first { IfOk result (λ _. IsVisitOf visits.new.items 0 from.0) }
     ensures only { IfOk result (λ _. (v : ℕ) → WasVisited visits.new.items v → v ≡ from.0) }
@@ -146,7 +146,7 @@ fn visit(
     by: Piece,
 ) -> Result<bool, NoMemory>
     requires visits { AreVisits grid.now over places.old visits.old.items }
-    requires connects { IsMetFrom grid.now.size visits.old.items place by next.0 }
+    requires connects { IsMetFrom (size_of grid.now) visits.old.items place by next.0 }
     ensures visits { IfOk result (λ _. AreVisits grid.now over places.new visits.new.items) }
     ensures kept { IfOk result (λ _. KeepsVisits visits.old.items visits.new.items) }
     ensures passed { IfOk result (λ _. Allows grid.now over by → WasVisited visits.new.items next.0) }

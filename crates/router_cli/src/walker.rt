@@ -3,8 +3,9 @@
 ghost use Rattle.std.specs.Prelude.{◌≡◌, ◌<◌, ◌≤◌, [], IfOk, length};
 ghost use Rattle.grid_base.specs.Walks.{WalkBetween, InPieces, JoinsList};
 ghost use Rattle.grid_graph.specs.Grounds.{Reaches, JoinsTerminals};
+ghost use Rattle.grid_graph.specs.Grids.{size_of};
 ghost use Rattle.tree_set.specs.Order.{IsRising};
-ghost use Rattle.tree_set.specs.Routings.{IsInside};
+ghost use Rattle.tree_set.specs.Routings.{KeepsTo};
 ghost use Rattle.router_cli.specs.Walker.{Fits};
 
 use crate::visit::Visit;
@@ -42,12 +43,12 @@ impl Walker {
         from: Vertex,
         to: Vertex,
     ) -> Result<Tree, NoMemory>
-        requires fits { Fits grid.now.size self.old }
+        requires fits { Fits (size_of grid.now) self.old }
         requires joined { Reaches grid.now over from.0 to.0 }
         ensures set { IfOk result (λ tree. IsRising tree) }
-        ensures inside { IfOk result (λ tree. IsInside grid.now over tree) }
-        ensures joins { IfOk result (λ tree. WalkBetween grid.now.size (InPieces tree) from.0 to.0) }
-        ensures fits { Fits grid.now.size self.new }
+        ensures inside { IfOk result (λ tree. KeepsTo grid.now over tree) }
+        ensures joins { IfOk result (λ tree. WalkBetween (size_of grid.now) (InPieces tree) from.0 to.0) }
+        ensures fits { Fits (size_of grid.now) self.new }
     {
         let alloc = *self.visits.allocator();
         let pieces = pieces_between(
@@ -69,14 +70,14 @@ impl Walker {
         over: Ground,
         terminals: &[Vertex],
     ) -> Result<Tree, NoMemory>
-        requires fits { Fits grid.now.size self.old }
+        requires fits { Fits (size_of grid.now) self.old }
         requires few { length terminals.now ≤ 2 }
         requires joined { JoinsTerminals grid.now over terminals.now }
         ensures set { IfOk result (λ tree. IsRising tree) }
-        ensures inside { IfOk result (λ tree. IsInside grid.now over tree) }
-        ensures joins { IfOk result (λ tree. JoinsList grid.now.size tree terminals.now) }
+        ensures inside { IfOk result (λ tree. KeepsTo grid.now over tree) }
+        ensures joins { IfOk result (λ tree. JoinsList (size_of grid.now) tree terminals.now) }
         ensures none { length terminals.now < 2 → IfOk result (λ tree. tree ≡ []) }
-        ensures fits { Fits grid.now.size self.new }
+        ensures fits { Fits (size_of grid.now) self.new }
     {
         if terminals.len() < 2 {
             return Ok(Tree::empty(*self.visits.allocator()));

@@ -1,7 +1,7 @@
 //! Which words are a command.
 
 ghost use Rattle.std.specs.Prelude.{◌≡◌, ◌↔◌, ℕ, List, MatchOption, IsTrue};
-ghost use Rattle.router_cli.specs.Words.{IsName, IsRouteCommand, IsNoCommand};
+ghost use Rattle.router_cli.specs.Runs.{IsName, IsRouteCommand, IsNoCommand};
 
 /// Whether a word can be the name of a file.
 fn is_name(word: &str) -> bool

@@ -3,4 +3,10 @@ pub mod Numbers
 pub mod Tokens
 pub mod Words
 pub mod Reading
+pub mod FirstToken
 pub mod Parts
+pub mod InTurn
+pub mod Bounds
+pub mod Blanks
+pub mod Texts
+pub mod Ranges

@@ -5,7 +5,7 @@ use Rattle.std.proofs.lemmas.Bool.{cases_Bool, and_parts}
 use Rattle.std.proofs.lemmas.Int.{ints}
 use Rattle.text_scan.specs.declared.number_fault.NumberFault.TheVariants.{OutOfRange}
 use Rattle.text_scan.specs.Tokens.{Token}
-use Rattle.text_scan.specs.Numbers.{is_number, value_of, number_front, is_within, number_of, front_number}
+use Rattle.text_scan.specs.Numbers.{is_number, value_of, number_front, is_within, token_number, front_number}
 
 -- a number that the bytes begin with is in range or not
 pub front_read : (lo hi : ℤ) (len place : ℕ) (rest front : List ℕ) → 0 < length rest → front ≡ number_front rest → is_number front ≡ true →
@@ -17,7 +17,7 @@ le_z_holds : (a b : ℤ) → le_z a b ≡ true → a ≤ℤ b
 le_z_holds a b h = grind (arith, ints)
 
 -- a number that was read is in range
-pub read_is_within : (lo hi v : ℤ) (t : Token) → number_of lo hi t ≡ Ok v → (lo ≤ℤ v) × (v ≤ℤ hi)
+pub read_is_within : (lo hi v : ℤ) (t : Token) → token_number lo hi t ≡ Ok v → (lo ≤ℤ v) × (v ≤ℤ hi)
 read_is_within lo hi v t read = ⊎_elim
     (λ (number : is_number t.bytes ≡ true). ⊎_elim
     (λ (within : is_within lo hi (value_of t.bytes) ≡ true).

@@ -1,14 +1,14 @@
 -- What is left of a text that is being read.
-use Rattle.std.proofs.Common.{◌≡◌, ℕ, ◌+◌, ◌-◌, ◌<◌, ◌≤◌, false, [], ◌∷◌, length, take, drop, get_or, slice_range, refl, sym, ap, subst, true≢false, true, ◌∙◌, arith, ◌↔◌, IsNone, Some, None, ⊎_elim, length-drop, length-take-le, get_or-drop, drop-drop, add-zero}
+use Rattle.std.proofs.Common.{◌≡◌, ℕ, ◌+◌, ◌-◌, ◌<◌, ◌≤◌, false, List, [], ◌∷◌, length, take, drop, get_or, slice_range, refl, sym, ap, subst, true≢false, true, ◌∙◌, arith, ◌↔◌, IsNone, Some, None, ⊎_elim, length-drop, length-take-le, get_or-drop, drop-drop, add-zero}
 use Rattle.std.specs.List.{prefix_len, position_or_len}
 use Rattle.std.proofs.lemmas.List.{drop_all}
 use Rattle.std.proofs.lemmas.Option.{slice_get-get_or, slice_get_past}
 use Rattle.std.proofs.lemmas.Bool.{cases_lt, cases_eq}
 use Rattle.std.proofs.lemmas.List.Sums.{prefix_len_stops}
-use Rattle.text_scan.specs.Tokens.{is_blank, tokens_from, first_end}
+use Rattle.text_scan.specs.Tokens.{is_blank, Token, tokens_from, first_end}
 use Rattle.std.specs.Char.{is_ascii_digit}
 use Rattle.text_scan.specs.Numbers.{sign_len, unsigned, is_number, number_front}
-use Rattle.text_scan.specs.Reading.{Reading, left, tokens_left, past_blanks, next_byte, past_number}
+use Rattle.text_scan.specs.Reading.{Reading, left, tokens_left, rest_of, past_blanks, next_byte, past_number}
 use Rattle.text_scan.proofs.Tokens.{tokens_after_blanks, tokens_of_run, run_is_nonempty}
 
 -- the blanks that come next are no part of a token
@@ -16,6 +16,10 @@ pub tokens_past_blanks : (r : Reading) → tokens_left (past_blanks r) ≡ token
 tokens_past_blanks r =
     let k = prefix_len is_blank (left r) in
     sym (tokens_after_blanks r.place (left r) ∙ ap (tokens_from (r.place + k)) (drop-drop k r.place r.text))
+
+-- so what is left token by token stays
+pub rest_past_blanks : (r : Reading) → rest_of (past_blanks r) ≡ rest_of r
+rest_past_blanks r = ap (λ (ts : List Token). record { end = length r.text; tokens = ts }) (tokens_past_blanks r)
 
 -- where only blanks are left, no token is
 pub no_token : (r : Reading) → length r.text ≤ (past_blanks r).place → tokens_left r ≡ []
@@ -30,9 +34,9 @@ next_is_no_blank r inside =
     ap is_blank here ∙ prefix_len_stops is_blank (left r) 0 (omega (arith, length-drop r.place r.text))
 
 -- and the next token begins there, and goes up to the next blank
-pub first_token : (r : Reading) (start end : ℕ) → start ≡ (past_blanks r).place → end ≡ start + position_or_len is_blank (drop start r.text) → start < length r.text →
+pub first_token_is : (r : Reading) (start end : ℕ) → start ≡ (past_blanks r).place → end ≡ start + position_or_len is_blank (drop start r.text) → start < length r.text →
     tokens_left r ≡ record { place = start; bytes = slice_range r.text start end } ∷ tokens_from end (drop end r.text)
-first_token r start end from to inside =
+first_token_is r start end from to inside =
     let rest = drop start r.text in
     let n = position_or_len is_blank rest in
     let next : tokens_from start rest ≡ tokens_left r = ap (λ p. tokens_from p (drop p r.text)) from ∙ tokens_past_blanks r in
@@ -50,7 +54,7 @@ pub no_byte : (r : Reading) → IsNone (next_byte r) ↔ (tokens_left r ≡ [])
 no_byte r = ⊎_elim
     (λ (inside : (past_blanks r).place < length r.text).
     let byte : next_byte r ≡ Some (get_or (left (past_blanks r)) 0 0) = slice_get-get_or (left (past_blanks r)) 0 0 (omega (arith, length-drop (past_blanks r).place r.text)) in
-    let first = first_token r (past_blanks r).place _ refl refl inside in
+    let first = first_token_is r (past_blanks r).place _ refl refl inside in
     (λ none. absurd (true≢false (rw byte at none)), λ none. absurd (cc (first, none))))
     (λ (ends : length r.text ≤ (past_blanks r).place).
     let byte : next_byte r ≡ None = slice_get_past (left (past_blanks r)) 0 (omega (arith, length-drop (past_blanks r).place r.text)) in
@@ -85,7 +89,7 @@ module _ {r : Reading} {start end : ℕ} (run : IsNextRun r start end) where
 
   -- else it is the first token
   pub token_in_run : (start ≡ end → ⊥) → tokens_left r ≡ record { place = start; bytes = slice_range r.text start end } ∷ tokens_from end (drop end r.text)
-  token_in_run more = first_token r start end run.starts run.ends (⊎_elim
+  token_in_run more = first_token_is r start end run.starts run.ends (⊎_elim
       (λ (inside : start < length r.text). inside)
       (λ (ends : length r.text ≤ start).
       let empty : drop start r.text ≡ [] = drop_all start r.text ends in

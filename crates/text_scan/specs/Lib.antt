@@ -1,4 +1,8 @@
 pub mod Tokens
+pub mod Faults
+pub mod Parts
+pub mod Rest
 pub mod Numbers
 pub mod Reading
-pub mod Parts
+pub mod Moves
+pub mod Until

@@ -8,6 +8,8 @@ use Rattle.std.specs.List.{prefix_len}
 use Rattle.text_scan.specs.declared.number_fault.NumberFault.{NumberFault}
 use Rattle.text_scan.specs.declared.number_fault.NumberFault.TheVariants.{NotNumber, OutOfRange, End}
 use Rattle.text_scan.specs.Tokens.{Token}
+use Rattle.text_scan.specs.Parts.{◌>>=◌}
+use Rattle.text_scan.specs.Rest.{Rest, first_token}
 
 -- a plus or a minus
 abbrev pub is_sign : ℕ → Bool
@@ -42,20 +44,19 @@ abbrev pub is_within : ℤ → ℤ → ℤ → Bool
 is_within lo hi value = le_z lo value && le_z value hi
 
 -- the number from lo to hi that a token is, or why it is none
-abbrev pub number_of : ℤ → ℤ → Token → Result ℤ NumberFault
-number_of lo hi t =
+abbrev pub token_number : ℤ → ℤ → Token → Result ℤ NumberFault
+token_number lo hi t =
     if is_number t.bytes then (if is_within lo hi (value_of t.bytes) then Ok (value_of t.bytes) else Err (OutOfRange t.place))
     else Err (NotNumber t.place)
 
--- the number that the first token is, in a text of this length
-abbrev pub first_number : ℤ → ℤ → ℕ → List Token → Result ℤ NumberFault
-first_number lo hi len [] = Err (End len)
-first_number lo hi len (t ∷ ts) = number_of lo hi t
+-- the number that the first token is
+abbrev pub first_number : ℤ → ℤ → Rest → Result ℤ NumberFault
+first_number lo hi rest = first_token End rest >>= token_number lo hi
 
 -- the number that the bytes begin with, of which the first stands at a place, in a text of this length
 abbrev pub front_number : ℤ → ℤ → ℕ → ℕ → List ℕ → Result ℤ NumberFault
 front_number lo hi len place [] = Err (End len)
-front_number lo hi len place (b ∷ bs) = number_of lo hi (record { place = place; bytes = number_front (b ∷ bs) })
+front_number lo hi len place (b ∷ bs) = token_number lo hi (record { place = place; bytes = number_front (b ∷ bs) })
 
 -- nothing, or bytes of which the first is no digit
 abbrev pub ends_number : List ℕ → Bool

@@ -2,6 +2,7 @@
 use Rattle.std.specs.Prelude.{ℕ, Bool, ◌+◌, ◌==◌, List, length, drop, if◌then◌else◌, Option, None, Some, slice_get, false, ℤ, Result}
 use Rattle.std.specs.List.{prefix_len}
 use Rattle.text_scan.specs.Tokens.{is_blank, Token, tokens_from, first_end}
+use Rattle.text_scan.specs.Rest.{Rest}
 use Rattle.text_scan.specs.Numbers.{number_front, is_number, front_number}
 use Rattle.text_scan.specs.declared.number_fault.NumberFault.{NumberFault}
 
@@ -23,6 +24,10 @@ left r = drop r.place r.text
 abbrev pub tokens_left : Reading → List Token
 tokens_left r = tokens_from r.place (left r)
 
+-- what is left, token by token
+abbrev pub rest_of : Reading → Rest
+rest_of r = record { end = length r.text; tokens = tokens_left r }
+
 -- after n more bytes
 abbrev pub past : ℕ → Reading → Reading
 past n r = record { text = r.text; place = r.place + n }
@@ -31,11 +36,15 @@ past n r = record { text = r.text; place = r.place + n }
 abbrev pub past_blanks : Reading → Reading
 past_blanks r = past (prefix_len is_blank (left r)) r
 
--- the first byte that is left and is no blank
+-- the place of the first byte that is left and is no blank; the length of the text where there is none
+abbrev pub next_place : Reading → ℕ
+next_place r = (past_blanks r).place
+
+-- that byte
 abbrev pub next_byte : Reading → Option ℕ
 next_byte r = slice_get (left (past_blanks r)) 0
 
--- that byte is b
+-- it is b
 abbrev pub is_next : ℕ → Reading → Bool
 is_next b r = is_some_of b (next_byte r)
 

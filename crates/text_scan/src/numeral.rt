@@ -4,7 +4,7 @@ ghost use Rattle.std.specs.Prelude.{◌≡◌, ◌+◌, ◌≤◌, pos, neg_ℤ,
 ghost use Rattle.std.specs.Int.{w128};
 ghost use Rattle.std.specs.Char.{is_ascii_digit};
 ghost use Rattle.std.specs.List.{prefix_len};
-ghost use Rattle.text_scan.specs.Numbers.{is_negative, sign_len, unsigned, is_number, value_of, is_within, number_of};
+ghost use Rattle.text_scan.specs.Numbers.{is_negative, sign_len, unsigned, is_number, value_of, is_within, token_number};
 
 use crate::magnitude::magnitude;
 use crate::number_fault::NumberFault;
@@ -12,7 +12,7 @@ use crate::runs::digits_end;
 
 /// The number from `lo` to `hi` that the bytes spell, of which the first stands at `at`.
 pub fn number_in(bytes: &[u8], at: usize, lo: i128, hi: i128) -> Result<i128, NumberFault>
-    ensures { result ≡ number_of lo hi (record { place = at; bytes = bytes.now }) }
+    ensures { result ≡ token_number lo hi (record { place = at; bytes = bytes.now }) }
 {
     if is_number(bytes) {
         value_within(bytes, at, lo, hi)

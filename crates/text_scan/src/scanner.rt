@@ -1,9 +1,10 @@
 //! The scanner: a text, and how far it has been read.
 
 ghost use Rattle.std.specs.Prelude.{◌≡◌, ℕ, ◌<◌, ◌≤◌, ◌↔◌, List, [], ◌∷◌, length, IsNone, IfSome, OnOk, IsTrue};
-ghost use Rattle.text_scan.specs.Tokens.{token_at, tokens_from, after_first_token};
+ghost use Rattle.text_scan.specs.Tokens.{token_at};
+ghost use Rattle.text_scan.specs.Rest.{all_of, after_first};
 ghost use Rattle.text_scan.specs.Numbers.{first_number};
-ghost use Rattle.text_scan.specs.Reading.{Reading, tokens_left, next_byte, next_number, is_next, past_blanks, past_token, past_number, past_byte};
+ghost use Rattle.text_scan.specs.Reading.{Reading, tokens_left, rest_of, next_byte, next_number, is_next, past_blanks, past_token, past_number, past_byte};
 
 use crate::number_fault::NumberFault;
 use crate::numeral::{is_number, number_end, number_in, value_within};
@@ -35,7 +36,7 @@ impl<'a> Scanner<'a> {
     pub fn over(bytes: &'a [u8]) -> Self
         ensures text { result.text ≡ bytes.entry.now }
         ensures place { result.place ≡ 0 }
-        ensures tokens { tokens_left result ≡ tokens_from 0 bytes.entry.now }
+        ensures tokens { rest_of result ≡ all_of bytes.entry.now }
     {
         Scanner { bytes, at: 0 }
     }
@@ -53,7 +54,7 @@ impl<'a> Scanner<'a> {
         ensures byte { result ≡ next_byte self.old }
         ensures none { IsNone result ↔ (tokens_left self.old ≡ []) }
         ensures passed { self.new ≡ past_blanks self.old }
-        ensures tokens { tokens_left self.new ≡ tokens_left self.old }
+        ensures tokens { rest_of self.new ≡ rest_of self.old }
         ensures text { self.new.text ≡ self.old.text }
         ensures within { self.new.place ≤ length self.new.text }
     {
@@ -99,8 +100,8 @@ impl<'a> Scanner<'a> {
 
     /// The next token as a number from `lo` to `hi`. The token is passed over, also a refused one.
     pub fn number(&mut self, lo: i64, hi: i64) -> Result<i64, NumberFault>
-        ensures answer { result ≡ first_number lo hi (length self.old.text) (tokens_left self.old) }
-        ensures tokens { tokens_left self.new ≡ after_first_token (tokens_left self.old) }
+        ensures answer { result ≡ first_number lo hi (rest_of self.old) }
+        ensures tokens { rest_of self.new ≡ after_first (rest_of self.old) }
         ensures passed { self.new ≡ past_token self.old }
         ensures forward { OnOk result (self.old.place < self.new.place) }
         ensures text { self.new.text ≡ self.old.text }

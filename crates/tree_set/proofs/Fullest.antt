@@ -6,7 +6,7 @@ use Rattle.grid_base.specs.declared.edge.Edge.{Edge}
 use Rattle.grid_base.specs.Numbers.{vertices}
 use Rattle.grid_graph.specs.declared.grid.Grid.{Grid}
 use Rattle.grid_graph.specs.declared.kind.Kind.TheVariants.{Open, Choked, Wall}
-use Rattle.grid_graph.specs.Grids.{kind, capacity, first_capacity, IsEdgeNumber}
+use Rattle.grid_graph.specs.Grids.{kind, capacity, first_capacity, IsEdgeNumber, size_of}
 use Rattle.tree_set.specs.Fullest.{IsFullest, IsFullestBelow}
 use Rattle.tree_set.specs.Fractions.{IsRatio}
 use Rattle.tree_set.specs.Measures.{IsGreatest}
@@ -72,10 +72,10 @@ IsFullest-first g load n before number is_open = record {
 pub IsEdgeNumber-open : (g : Grid) (e : ℕ) → kind g e ≡ Open → IsEdgeNumber g e
 IsEdgeNumber-open g e is =
     let has = capacity-open g e is in
-    ⊎_elim (λ (inside : e < 2 * vertices g.size). inside) (λ (past : 2 * vertices g.size ≤ e). let none : capacity g e ≡ 0 = get_or_past g.capacities.items e 0 (rw g.table.long past) in absurd (omega arith)) (cases_lt e (2 * vertices g.size))
+    ⊎_elim (λ (inside : e < 2 * vertices (size_of g)). inside) (λ (past : 2 * vertices (size_of g) ≤ e). let none : capacity g e ≡ 0 = get_or_past g.capacities.items e 0 (rw g.table.long past) in absurd (omega arith)) (cases_lt e (2 * vertices (size_of g)))
 
 -- the ratio of the fullest of all edges is the peak
-pub IsGreatest-fullest : (g : Grid) (load : ℕ → ℕ) (n edge : ℕ) (f : Fraction) → IsFullest g load n edge → n ≡ 2 * vertices g.size → IsRatio (load edge) (capacity g edge) f → IsGreatest g load f
+pub IsGreatest-fullest : (g : Grid) (load : ℕ → ℕ) (n edge : ℕ) (f : Fraction) → IsFullest g load n edge → n ≡ 2 * vertices (size_of g) → IsRatio (load edge) (capacity g edge) f → IsGreatest g load f
 IsGreatest-fullest g load n edge f fullest all ratio = record {
   edge = edge;
   is_open = fullest.is_open;

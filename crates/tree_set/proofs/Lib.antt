@@ -1,9 +1,11 @@
-pub mod Around
 pub mod Counting
 pub mod Fullest
 pub mod Loads
 pub mod Peaks
 pub mod Order
 pub mod Ratios
-pub mod Reached
+pub mod Reaching
 pub mod Search
+pub mod RunEnds
+pub mod Ways
+pub mod Runs

@@ -22,6 +22,7 @@ use Rattle.grid_graph.specs.declared.net_spec.NetSpec.{NetSpec}
 use Rattle.grid_graph.specs.Grids.{demand_on}
 use Rattle.tree_set.specs.Loads.{is_edge_of, holds, net_load}
 use Rattle.tree_set.specs.Order.{piece_cmp, IsRising}
+use Rattle.grid_graph.specs.Limits.{max_demand}
 
 or_false : (b : Bool) → (b || false) ≡ b
 or_false true = refl
@@ -69,13 +70,13 @@ net_load-none g width ps i d x rising within is = ap (λ (b : Bool). cond b (dem
 -- what was counted of a net's load so far, and that no edge has more than the greatest demand
 pub record IsCounted (g : Grid) (width : ℕ) (ps : List Piece) (i : ℕ) (first loads : List ℕ) : Type 0 where
   pub value : (e : ℕ) → slice_index loads e ≡ slice_index first e + net_load g width (take i ps) e
-  pub limit : (e : ℕ) → net_load g width (take i ps) e ≤ 1023
+  pub limit : (e : ℕ) → net_load g width (take i ps) e ≤ max_demand
 
 put_together : (loads first before demand after : ℕ) → loads ≡ first + before → before ≡ 0 → after ≡ demand → loads + demand ≡ first + after
 put_together loads first before demand after is none new = omega arith
 
 -- an edge's demand is added to its load
-pub IsCounted-edge : (g : Grid) (width : ℕ) (ps : List Piece) (i : ℕ) (d : Piece) (x : EdgeNumber) (first loads : List ℕ) → IsRising ps → i < length ps → get_or ps i d ≡ Edge x → x.0 < length loads → demand_on g width x.0 ≤ 1023 → IsCounted g width ps i first loads → IsCounted g width ps (i + 1) first (slice_set loads x.0 (slice_index loads x.0 + demand_on g width x.0))
+pub IsCounted-edge : (g : Grid) (width : ℕ) (ps : List Piece) (i : ℕ) (d : Piece) (x : EdgeNumber) (first loads : List ℕ) → IsRising ps → i < length ps → get_or ps i d ≡ Edge x → x.0 < length loads → demand_on g width x.0 ≤ max_demand → IsCounted g width ps i first loads → IsCounted g width ps (i + 1) first (slice_set loads x.0 (slice_index loads x.0 + demand_on g width x.0))
 IsCounted-edge g width ps i d x first loads rising within is inside small before =
     let new = net_load-new g width ps i x.0 d (Edge x) within is (eq-eqb x.0 x.0 refl) in
     let off : (e : ℕ) → (x.0 ≡ e → ⊥) → net_load g width (take (i + 1) ps) e ≡ net_load g width (take i ps) e =
@@ -89,8 +90,8 @@ IsCounted-edge g width ps i d x first loads rising within is inside small before
           ∙ before.value e ∙ ap (λ (y : ℕ). slice_index first e + y) (sym (off e other)))
           (cases_eq x.0 e);
       limit = λ e. ⊎_elim
-          (λ (here : x.0 ≡ e). subst (λ (y : ℕ). net_load g width (take (i + 1) ps) y ≤ 1023) here (subst (λ (y : ℕ). y ≤ 1023) (sym new) small))
-          (λ (other : x.0 ≡ e → ⊥). subst (λ (y : ℕ). y ≤ 1023) (sym (off e other)) (before.limit e))
+          (λ (here : x.0 ≡ e). subst (λ (y : ℕ). net_load g width (take (i + 1) ps) y ≤ max_demand) here (subst (λ (y : ℕ). y ≤ max_demand) (sym new) small))
+          (λ (other : x.0 ≡ e → ⊥). subst (λ (y : ℕ). y ≤ max_demand) (sym (off e other)) (before.limit e))
           (cases_eq x.0 e);
     }
 
@@ -100,7 +101,7 @@ IsCounted-via g width ps i d v first loads within is before =
     let same : (e : ℕ) → net_load g width (take (i + 1) ps) e ≡ net_load g width (take i ps) e = λ e. net_load-other g width ps i e d (Via v) within is refl in
     record {
       value = λ e. before.value e ∙ ap (λ (y : ℕ). slice_index first e + y) (sym (same e));
-      limit = λ e. subst (λ (y : ℕ). y ≤ 1023) (sym (same e)) (before.limit e);
+      limit = λ e. subst (λ (y : ℕ). y ≤ max_demand) (sym (same e)) (before.limit e);
     }
 
 -- the number of an edge of the size is one of the table's

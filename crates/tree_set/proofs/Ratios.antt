@@ -1,9 +1,10 @@
 -- Numbers divided by their greatest common divisor, and ratios compared by cross products.
-use Rattle.std.proofs.Common.{◌≡◌, ℕ, ◌*◌, ◌/◌, ◌≤◌, ◌<◌, sym, ◌∙◌, ap, subst, arith, ◌^◌}
+use Rattle.std.proofs.Common.{◌≡◌, ℕ, ◌*◌, ◌/◌, ◌≤◌, ◌<◌, sym, ◌∙◌, ap, subst, arith}
 use Rattle.std.specs.Int.{IsGcd, ◌∣◌}
 use Rattle.std.proofs.Math.Nat.{div-mul_cancel, dvd-mul_right, mul-le-mul_right, le_of_mul-le-mul_right}
 use Rattle.std.proofs.lemmas.Nat.Gcd.{le_from_IsGcd}
 use Rattle.tree_set.specs.LowestTerms.{IsLowest}
+use Rattle.tree_set.specs.Limits.{numerator_limit, max_denominator}
 
 -- a product is positive only where both factors are
 left_positive : (a b n : ℕ) → a * b ≡ n → 0 < n → 0 < a
@@ -26,7 +27,7 @@ one_from_bounds : (k : ℕ) → k ≤ 1 → 0 < k → k ≡ 1
 one_from_bounds k below above = omega arith
 
 -- two numbers divided by their greatest common divisor have no divisor in common
-pub IsLowest-from_gcd : (num den g : ℕ) → IsGcd num den g → num < 2 ^ 70 → 1 ≤ den → den ≤ 2 ^ 57 → IsLowest (num / g) (den / g)
+pub IsLowest-from_gcd : (num den g : ℕ) → IsGcd num den g → num < numerator_limit → 1 ≤ den → den ≤ max_denominator → IsLowest (num / g) (den / g)
 IsLowest-from_gcd num den g gcd num_limit positive den_limit =
     let up : num / g * g ≡ num = div-mul_cancel g gcd.0 in
     let down : den / g * g ≡ den = div-mul_cancel g gcd.1 in

@@ -1,13 +1,15 @@
+pub use Rattle.grid_base.specs.Lines
 pub use Rattle.grid_base.specs.Numbers
 pub use Rattle.grid_base.specs.Walks
 pub use Rattle.grid_graph.specs.Grids
 pub use Rattle.grid_graph.specs.Grounds
-pub use Rattle.grid_graph.specs.Lists
 pub mod Fractions
 pub mod Fullest
 pub mod Loads
+pub mod Limits
 pub mod LowestTerms
 pub mod Measures
 pub mod Order
 pub mod Reached
 pub mod Routings
+pub mod Runs

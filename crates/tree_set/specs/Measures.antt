@@ -6,7 +6,7 @@ use Rattle.grid_base.specs.Numbers.{vertices}
 use Rattle.grid_graph.specs.declared.grid.Grid.{Grid}
 use Rattle.grid_graph.specs.declared.kind.Kind.{Kind}
 use Rattle.grid_graph.specs.declared.kind.Kind.TheVariants.{Open, Choked, Wall}
-use Rattle.grid_graph.specs.Grids.{kind, capacity}
+use Rattle.grid_graph.specs.Grids.{kind, capacity, size_of}
 use Rattle.tree_set.specs.declared.fraction.Fraction.{Fraction}
 use Rattle.tree_set.specs.Fractions.{IsRatio}
 
@@ -18,7 +18,7 @@ excess Wall load capacity = 0
 
 -- the overflow: the sum of the excesses over all edge numbers
 abbrev pub overflow : Grid → (ℕ → ℕ) → ℕ
-overflow g load = sum (map (λ e. excess (kind g e) (load e) (capacity g e)) (range_with_len 0 (2 * vertices g.size)))
+overflow g load = sum (map (λ e. excess (kind g e) (load e) (capacity g e)) (range_with_len 0 (2 * vertices (size_of g))))
 
 -- the wirelength: the number of pieces of all sets
 abbrev pub wirelength : List (List Piece) → ℕ

@@ -1,27 +1,13 @@
--- Vertices that were reached by the pieces of a set.
-use Rattle.std.specs.Prelude.{ℕ, ◌⊎◌, IsTrue}
-use Rattle.std.specs.BTreeSet.{BTreeSet, contains, IsOrdered}
+-- Vertices that were reached.
+use Rattle.std.specs.Prelude.{ℕ, IsTrue, Option, Some, None, cond}
+use Rattle.std.specs.BTreeSet.{contains}
 use Rattle.std.specs.Ordering.{nat_cmp}
-use Rattle.grid_base.specs.declared.piece.Piece.{Piece}
-use Rattle.grid_base.specs.declared.size.Size.{Size}
-use Rattle.grid_base.specs.Numbers.{Connects}
-use Rattle.grid_base.specs.Walks.{AreLinked, Joins}
+use Rattle.tree_set.specs.declared.reached.Reached.{Reached}
 
 -- the vertex was reached
-abbrev pub Has : BTreeSet ℕ → ℕ → Type 0
-Has reached v = IsTrue (contains nat_cmp reached v)
+unfoldable pub Has : Reached → ℕ → Type 0
+Has reached v = IsTrue (contains nat_cmp reached.numbers v)
 
--- what was reached stays so
-abbrev pub KeepsReached : BTreeSet ℕ → BTreeSet ℕ → Type 0
-KeepsReached old new = (v : ℕ) → Has old v → Has new v
-
--- F joins all that were reached, and each is linked only to others that were, unless it waits
-pub record AreReached (s : Size) (F : Piece → Type 0) (reached : BTreeSet ℕ) (Waits : ℕ → Type 0) : Type 0 where
-  pub ordered : IsOrdered nat_cmp reached
-  pub joined : Joins s F (Has reached)
-  pub spread : (v w : ℕ) → Has reached v → AreLinked s F v w → Has reached w ⊎ Waits v
-  pub known : (v : ℕ) → Waits v → Has reached v
-
--- the other end of the piece was reached, if the piece touches the vertex
-abbrev pub Spreads : Size → BTreeSet ℕ → ℕ → Piece → Type 0
-Spreads s reached v p = (w : ℕ) → Connects s p v w → Has reached w
+-- as marks: what was reached has the mark 0
+abbrev pub mark_of : Reached → ℕ → Option ℕ
+mark_of reached v = cond (contains nat_cmp reached.numbers v) (Some 0) None

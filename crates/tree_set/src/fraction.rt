@@ -1,15 +1,16 @@
 //! A fraction in lowest terms.
 
 ghost use Rattle.tree_set.specs.LowestTerms.{IsLowest};
+ghost use Rattle.tree_set.specs.Limits.{numerator_limit, max_denominator};
 
 use crate::divisor::greatest_divisor;
 
 /// A fraction in lowest terms, so that two are equal exactly where their numbers are.
 #[derive(Debug, Drop, Clone, Copy, PartialEq, Eq)]
 pub struct Fraction {
-    /// The numerator, below `NUMERATOR_LIMIT`.
+    /// The numerator, below 2^70.
     pub num: u128,
-    /// The denominator, from 1 to `MAX_DENOMINATOR`.
+    /// The denominator, from 1 to 2^57.
     pub den: u128,
     pub ghost lowest: { IsLowest num den },
 }
@@ -20,9 +21,9 @@ impl Fraction {
 
     /// The fraction num/den.
     pub fn of(num: u128, den: u128) -> Fraction
-        requires num { num < 2 ^ 70 }
+        requires num { num < numerator_limit }
         requires positive { 1 ≤ den }
-        requires den { den ≤ 2 ^ 57 }
+        requires den { den ≤ max_denominator }
         ensures { IsRatio num den result }
     {
         let divisor = greatest_divisor(num, den);

@@ -1,4 +1,4 @@
-//! Whether a tree joins vertices.
+//! Whether a set of pieces joins vertices.
 
 ghost use Rattle.std.specs.Prelude.{◌↔◌, IfOk, IsTrue, All};
 ghost use Rattle.grid_base.specs.Numbers.{IsVertex};
@@ -6,13 +6,12 @@ ghost use Rattle.grid_base.specs.Walks.{JoinsList};
 ghost use Rattle.tree_set.specs.Reached.{Has};
 ghost use Rattle.tree_set.specs.Routings.{ArePieces};
 
-use crate::reach::reached_from;
+use crate::reached::Reached;
 use crate::tree::Tree;
-use grid_base::{NoMemory, Size, Vertex};
+use grid_base::{NoMemory, Size, Vertex, flood};
 use std::alloc::Global;
-use std::collections::BTreeSet;
 
-/// Whether walks in the tree lead from each of the terminals to each other one. Fewer than two are always joined.
+/// Whether walks in the set lead from each of the terminals to each other one. Fewer than two are always joined.
 ///
 /// Takes about `n log n` steps for n pieces and terminals, whatever the size of the grid.
 pub fn joins(alloc: Global, size: Size, tree: &Tree, terminals: &[Vertex]) -> Result<bool, NoMemory>
@@ -23,18 +22,14 @@ pub fn joins(alloc: Global, size: Size, tree: &Tree, terminals: &[Vertex]) -> Re
     let Some(root) = terminals.first() else {
         return Ok(true);
     };
-    let reached = reached_from(alloc, size, tree, *root)?;
+    let mut reached = Reached::none(alloc);
+    flood(size, tree, &mut reached, *root, &mut Vec::new(alloc))?;
     Ok(are_reached(&reached, terminals))
 }
 
 /// Whether all terminals were reached.
-fn are_reached(reached: &BTreeSet<u32>, terminals: &[Vertex]) -> bool
+fn are_reached(reached: &Reached, terminals: &[Vertex]) -> bool
     ensures { IsTrue result ↔ All (λ t. Has reached.now t.0) terminals.now }
 {
-    for t in terminals {
-        if !reached.contains(&t.0) {
-            return false;
-        }
-    }
-    true
+    terminals.iter().all(|t| reached.has(*t))
 }

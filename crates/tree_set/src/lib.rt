@@ -1,4 +1,5 @@
-//! Trees, loads and measures: the sets of pieces that nets are routed with, and what they use of the edges.
+//! Trees, loads and measures: the sets of pieces that nets are routed with, and what they use of the edges. A set may
+//! hold cycles and loose pieces.
 //!
 //! ```text
 //! let tree = Tree::of(pieces);                                      // in any order, with repeats
@@ -8,10 +9,11 @@
 //! let measure = measure_of(alloc, &design, trees.as_slice())?;      // overflow, wirelength, peak
 //! ```
 //!
-//! It stands on `grid_base` and `grid_graph`, whose pieces, walks, grids and designs it speaks of.
+//! It stands on `grid_base` and `grid_graph`, whose pieces, walks, grids and designs it speaks of; `joins` is a flood of
+//! `grid_base`.
 //!
 //! Promised: a tree is the set of the pieces that it was made of, as a strictly rising list; `joins` and `inside`
-//! are true exactly where walks in the tree join the terminals and where the ground allows every piece; loads and
+//! are true exactly where walks in the set join the terminals and where the ground allows every piece; loads and
 //! measures are exactly those of `specs/Loads.antt` and `specs/Measures.antt`; and fractions are in lowest terms and
 //! compared exactly.
 
@@ -21,21 +23,18 @@ mod divisor;
 mod fraction;
 mod joining;
 mod laws;
-mod limits;
 mod load;
 mod measure;
 mod measures;
 mod overflow;
 mod peak;
-mod reach;
-mod touching;
+mod reached;
 mod tree;
 mod within;
 
 pub use fraction::Fraction;
 pub use joining::joins;
 pub use laws::loads_add_up;
-pub use limits::{MAX_DENOMINATOR, NUMERATOR_LIMIT};
 pub use load::add_load;
 pub use measure::Measure;
 pub use measures::measure_of;

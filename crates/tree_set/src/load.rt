@@ -2,22 +2,24 @@
 
 ghost use Rattle.std.specs.Prelude.{◌≡◌, ◌+◌, ◌*◌, ◌≤◌, ◌^◌, ℕ, length, slice_index};
 ghost use Rattle.grid_base.specs.Numbers.{vertices};
-ghost use Rattle.grid_graph.specs.Grids.{IsNetWidth};
+ghost use Rattle.grid_graph.specs.Grids.{IsNetWidth, size_of};
 ghost use Rattle.tree_set.specs.Loads.{net_load};
 ghost use Rattle.tree_set.specs.Routings.{ArePieces};
+ghost use Rattle.tree_set.specs.Limits.{max_load};
+ghost use Rattle.grid_graph.specs.Limits.{max_demand};
 
 use crate::tree::Tree;
 use grid_base::Piece;
 use grid_graph::Grid;
 
-/// Adds the demand of a net of this width to the load of each edge of its tree. `loads` has one load per edge number.
+/// Adds the demand of a net of this width to the load of each edge of its set. `loads` has one load per edge number.
 pub fn add_load(grid: &Grid, width: u32, tree: &Tree, loads: &mut [u64])
     requires width { IsNetWidth grid.now width }
-    requires pieces { ArePieces grid.now.size tree.now }
-    requires table { length loads.old ≡ 2 * vertices grid.now.size }
-    requires room { (e : ℕ) → slice_index loads.old e ≤ 2 ^ 62 }
+    requires pieces { ArePieces (size_of grid.now) tree.now }
+    requires table { length loads.old ≡ 2 * vertices (size_of grid.now) }
+    requires room { (e : ℕ) → slice_index loads.old e ≤ max_load }
     ensures value { (e : ℕ) → slice_index loads.new e ≡ slice_index loads.old e + net_load grid.now width tree.now e }
-    ensures limit { (e : ℕ) → slice_index loads.new e ≤ slice_index loads.old e + 1023 }
+    ensures limit { (e : ℕ) → slice_index loads.new e ≤ slice_index loads.old e + max_demand }
 {
     for p in tree.pieces() {
         if let Piece::Edge(e) = *p {

@@ -7,7 +7,7 @@ use crate::fraction::Fraction;
 pub struct Measure {
     /// How much more than the capacities the loads are, over all open and choked edges.
     pub overflow: u64,
-    /// How many pieces the nets' trees have: edges and vias.
+    /// How many pieces the nets' sets have: edges and vias.
     pub wirelength: u64,
     /// The greatest load/capacity of an open edge. `None` is a grid without open edges.
     pub peak: Option<Fraction>,

@@ -1,4 +1,4 @@
-//! The measures of trees, one per net of a design.
+//! The measures of sets of pieces, one per net of a design.
 
 ghost use Rattle.std.specs.Prelude.{◌≡◌, ◌*◌, ◌+◌, ◌≤◌, ◌^◌, ℕ, All, IfOk, length, slice_index};
 ghost use Rattle.grid_base.specs.Numbers.{vertices};
@@ -6,6 +6,9 @@ ghost use Rattle.grid_base.specs.declared.size.Size.{Size};
 ghost use Rattle.tree_set.specs.Loads.{load};
 ghost use Rattle.tree_set.specs.Measures as measures;
 ghost use Rattle.tree_set.specs.Routings.{ArePieces};
+ghost use Rattle.tree_set.specs.Limits.{max_routing_load};
+ghost use Rattle.grid_graph.specs.Limits.{max_nets};
+ghost use Rattle.grid_graph.specs.Grids.{size_of};
 
 use crate::load::add_load;
 use crate::measure::Measure;
@@ -16,12 +19,12 @@ use grid_base::{NoMemory, Size};
 use grid_graph::Design;
 use std::alloc::Global;
 
-/// Overflow, wirelength and peak of one tree per net, in the order of the nets.
+/// Overflow, wirelength and peak of one set per net, in the order of the nets.
 ///
 /// Takes one pass over all pieces and one over the edges.
 pub fn measure_of(alloc: Global, design: &Design, trees: &[Tree]) -> Result<Measure, NoMemory>
     requires one_each { length trees.now ≡ length design.now.nets }
-    requires pieces { All (ArePieces design.now.grid.size) trees.now }
+    requires pieces { All (ArePieces (size_of design.now.grid)) trees.now }
     ensures overflow { IfOk result (λ m. m.overflow ≡ measures.overflow design.now.grid (load design.now.grid design.now.nets trees.now)) }
     ensures wirelength { IfOk result (λ m. m.wirelength ≡ measures.wirelength trees.now) }
     ensures peak { IfOk result (λ m. measures.IsPeak design.now.grid (load design.now.grid design.now.nets trees.now) m.peak) }
@@ -36,14 +39,14 @@ pub fn measure_of(alloc: Global, design: &Design, trees: &[Tree]) -> Result<Meas
     })
 }
 
-/// Adds the loads of all trees to a table without loads.
+/// Adds the loads of all sets to a table without loads.
 fn add_all(design: &Design, trees: &[Tree], loads: &mut [u64])
     requires one_each { length trees.now ≡ length design.now.nets }
-    requires pieces { All (ArePieces design.now.grid.size) trees.now }
-    requires table { length loads.old ≡ 2 * vertices design.now.grid.size }
+    requires pieces { All (ArePieces (size_of design.now.grid)) trees.now }
+    requires table { length loads.old ≡ 2 * vertices (size_of design.now.grid) }
     requires blank { (e : ℕ) → slice_index loads.old e ≡ 0 }
     ensures value { (e : ℕ) → slice_index loads.new e ≡ load design.now.grid design.now.nets trees.now e }
-    ensures limit { (e : ℕ) → slice_index loads.new e ≤ 2 ^ 32 }
+    ensures limit { (e : ℕ) → slice_index loads.new e ≤ max_routing_load }
 {
     let nets = design.nets.list();
     for k in 0..trees.len() {
@@ -51,9 +54,9 @@ fn add_all(design: &Design, trees: &[Tree], loads: &mut [u64])
     }
 }
 
-/// The number of pieces of all trees.
+/// The number of pieces of all sets.
 fn wirelength_of(size: Size, trees: &[Tree]) -> u64
-    requires count { length trees.now ≤ 2 ^ 22 }
+    requires count { length trees.now ≤ max_nets }
     requires pieces { All (ArePieces size) trees.now }
     ensures { result ≡ measures.wirelength trees.now }
 {
@@ -64,7 +67,7 @@ fn wirelength_of(size: Size, trees: &[Tree]) -> u64
     total
 }
 
-/// The number of pieces of a tree, which is at most that of all pieces of the size.
+/// The number of pieces of a set, which is at most that of all pieces of the size.
 fn piece_count(size: Size, tree: &Tree) -> u64
     requires { ArePieces size tree.now }
     ensures value { result ≡ length tree.now }

@@ -4,14 +4,16 @@ ghost use Rattle.std.specs.Prelude.{◌≡◌, ◌*◌, ◌≤◌, ◌^◌, ℕ,
 ghost use Rattle.grid_base.specs.Numbers.{vertices};
 ghost use Rattle.grid_graph.specs.Grids as grids;
 ghost use Rattle.tree_set.specs.Measures as measures;
+ghost use Rattle.tree_set.specs.Limits.{max_routing_load};
+ghost use Rattle.grid_graph.specs.Grids.{size_of};
 
 use grid_base::Edge;
 use grid_graph::{Grid, Kind};
 
 /// How much more than the capacities the loads are. `loads` has one load per edge number.
 pub fn overflow_of(grid: &Grid, loads: &[u64]) -> u64
-    requires table { length loads.now ≡ 2 * vertices grid.now.size }
-    requires room { (e : ℕ) → slice_index loads.now e ≤ 2 ^ 32 }
+    requires table { length loads.now ≡ 2 * vertices (size_of grid.now) }
+    requires room { (e : ℕ) → slice_index loads.now e ≤ max_routing_load }
     ensures { result ≡ measures.overflow grid.now (slice_index loads.now) }
 {
     let mut total = 0;

@@ -5,6 +5,8 @@ ghost use Rattle.grid_base.specs.Numbers.{vertices};
 ghost use Rattle.grid_graph.specs.Grids as grids;
 ghost use Rattle.tree_set.specs.Measures as measures;
 ghost use Rattle.tree_set.specs.Fullest.{IsFullestBelow};
+ghost use Rattle.tree_set.specs.Limits.{max_load};
+ghost use Rattle.grid_graph.specs.Grids.{size_of};
 
 use crate::fraction::Fraction;
 use grid_base::Edge;
@@ -12,8 +14,8 @@ use grid_graph::{Grid, Kind};
 
 /// The greatest load/capacity of an open edge. `loads` has one load per edge number.
 pub fn peak_of(grid: &Grid, loads: &[u64]) -> Option<Fraction>
-    requires table { length loads.now ≡ 2 * vertices grid.now.size }
-    requires room { (e : ℕ) → slice_index loads.now e ≤ 2 ^ 62 }
+    requires table { length loads.now ≡ 2 * vertices (size_of grid.now) }
+    requires room { (e : ℕ) → slice_index loads.now e ≤ max_load }
     ensures { measures.IsPeak grid.now (slice_index loads.now) result }
 {
     let edge = fullest_edge(grid, loads)?;
@@ -23,9 +25,9 @@ pub fn peak_of(grid: &Grid, loads: &[u64]) -> Option<Fraction>
 
 /// An open edge with the greatest load/capacity.
 fn fullest_edge(grid: &Grid, loads: &[u64]) -> Option<Edge>
-    requires table { length loads.now ≡ 2 * vertices grid.now.size }
-    requires room { (e : ℕ) → slice_index loads.now e ≤ 2 ^ 62 }
-    ensures { IsFullestBelow grid.now (slice_index loads.now) (2 * vertices grid.now.size) result }
+    requires table { length loads.now ≡ 2 * vertices (size_of grid.now) }
+    requires room { (e : ℕ) → slice_index loads.now e ≤ max_load }
+    ensures { IsFullestBelow grid.now (slice_index loads.now) (2 * vertices (size_of grid.now)) result }
 {
     let mut fullest = None;
     for e in 0..2 * grid.size().vertices() {
@@ -36,8 +38,8 @@ fn fullest_edge(grid: &Grid, loads: &[u64]) -> Option<Edge>
 
 /// The next edge in place of the fullest so far, where it is open and fuller.
 fn fuller_of(grid: &Grid, loads: &[u64], fullest: Option<Edge>, next: Edge) -> Option<Edge>
-    requires table { length loads.now ≡ 2 * vertices grid.now.size }
-    requires room { (e : ℕ) → slice_index loads.now e ≤ 2 ^ 62 }
+    requires table { length loads.now ≡ 2 * vertices (size_of grid.now) }
+    requires room { (e : ℕ) → slice_index loads.now e ≤ max_load }
     requires edge { grids.IsEdgeNumber grid.now next.0 }
     requires before { IsFullestBelow grid.now (slice_index loads.now) next.0 fullest }
     ensures { IsFullestBelow grid.now (slice_index loads.now) (next.0 + 1) result }
@@ -53,8 +55,8 @@ fn fuller_of(grid: &Grid, loads: &[u64], fullest: Option<Edge>, next: Edge) -> O
 
 /// Whether the load/capacity of `edge` is greater than that of `other`, by cross products.
 fn is_fuller(grid: &Grid, loads: &[u64], edge: Edge, other: Edge) -> bool
-    requires table { length loads.now ≡ 2 * vertices grid.now.size }
-    requires room { (e : ℕ) → slice_index loads.now e ≤ 2 ^ 62 }
+    requires table { length loads.now ≡ 2 * vertices (size_of grid.now) }
+    requires room { (e : ℕ) → slice_index loads.now e ≤ max_load }
     requires edge { grids.IsEdgeNumber grid.now edge.0 }
     requires other { grids.IsEdgeNumber grid.now other.0 }
     ensures { IsTrue result

@@ -4,11 +4,11 @@ ghost use Rattle.std.specs.Prelude.{◌≡◌, ◌↔◌, [], Contains, IfOk, Is
 ghost use Rattle.grid_base.specs.declared.piece.Piece.{Piece};
 ghost use Rattle.tree_set.specs.Order.{IsRising};
 
-use grid_base::{NoMemory, Piece};
+use grid_base::{NoMemory, Piece, PieceSet};
 use std::alloc::Global;
 use std::marker::Model;
 
-/// A set of pieces, as the strictly rising list of them. It need not join anything.
+/// A set of pieces, as the strictly rising list of them. It need not join anything, and it may hold cycles.
 #[derive(Debug, Drop)]
 pub struct Tree {
     pieces: Vec<Piece>,
@@ -24,6 +24,16 @@ impl Model for Tree {
     ghost view = { λ t. t.pieces.items };
 
     ghost invariant = { λ t. IsRising t.pieces.items };
+}
+
+impl PieceSet for Tree {
+    ghost use Rattle.grid_base.specs.Walks.{InPieces};
+
+    ghost pieces = { InPieces };
+
+    fn allows(&self, p: Piece) -> bool {
+        self.contains(p)
+    }
 }
 
 impl Tree {

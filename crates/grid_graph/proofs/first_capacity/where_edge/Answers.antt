@@ -8,10 +8,10 @@ none_there true of_layer none = sym (none refl)
 none_there false of_layer none = refl
 
 pub returns-then-of_layer-eq0 : goal.returns-then-of_layer-eq0
-returns-then-of_layer-eq0 c = none_there (is_edge c.args.size c.args.e) c.args.of_layer (λ _. c.if-of_layer-eq0.true)
+returns-then-of_layer-eq0 c = none_there (is_edge c.args.size c.args.e.0) c.args.of_layer (λ _. c.if-of_layer-eq0.true)
 
 pub returns-else-is_piece : goal.returns-else-is_piece
-returns-else-is_piece c = none_there (is_edge c.args.size c.args.e) c.args.of_layer (λ edge.
-    let piece = c.is_piece.ensures.1 (is_edge-IsPiece c.args.size (record { 0 = c.args.e }) edge) in
+returns-else-is_piece c = none_there (is_edge c.args.size c.args.e.0) c.args.of_layer (λ edge.
+    let piece = c.is_piece.ensures.1 (is_edge-IsPiece c.args.size c.args.e edge) in
     let not = c.if-is_piece.false in
     cc)

@@ -1,10 +1,60 @@
-use Rattle.std.proofs.Common.{◌≡◌, ◌++◌, take, drop, length, arith}
-use Rattle.std.proofs.lemmas.Grind.{common_steps}
+use Rattle.std.proofs.Common.{◌≡◌, ℕ, length, sym, ◌∙◌, ap, subst, ⊎_elim, arith}
+use Rattle.std.proofs.lemmas.Bool.{cases_eq}
+use Rattle.std.proofs.lemmas.List.{length-replicate}
+use Rattle.grid_base.specs.declared.size.Size.{Size}
+use Rattle.grid_base.specs.Flood.{IsFlooded}
+use Rattle.grid_base.specs.Numbers.{vertices, IsVertex}
+use Rattle.grid_base.proofs.Floods.{some_is, some_value}
+use Rattle.grid_base.proofs.Walks.{WalkBetween-refl}
+use Rattle.grid_graph.specs.Grids.{Allows}
+use Rattle.grid_graph.specs.Labels.{AreLabels, label_of, no_label}
+use Rattle.grid_graph.proofs.SpreadLabels.{AreSpread-blank, AreSpread-flooded, IsClosed-spread, AreLabels-from_spread}
 use Rattle.grid_graph.proofs.labels.labels_of.Goals as goal
+
+pub loop-v-init : goal.loop-v-init
+loop-v-init c =
+    let s = c.size-size.result in
+    let F = Allows c.args.grid.now c.args.over in
+    let blank = c.in_ok-labelling.ensures in
+    record {
+      long = ap (length {A = ℕ}) blank ∙ length-replicate (vertices s) no_label;
+      spread = rw blank (AreSpread-blank s F);
+      labelled = λ k below. absurd (omega (arith, below));
+    }
+
+pub flood-requires-clause-limit : goal.flood-requires-clause-limit
+flood-requires-clause-limit c = omega (arith, ap (length {A = ℕ}) c.give.ensures.labels, c.loop-v.invariant.long)
+
+pub flood-requires-clause-closed : goal.flood-requires-clause-closed
+flood-requires-clause-closed c =
+    rw c.give.ensures.labels
+    (IsClosed-spread c.size-size.result (Allows c.args.grid.now c.args.over) (label_of c.loop-v.labelling.labels.items) c.loop-v.invariant.spread)
+
+pub loop-v-preserved : goal.loop-v-preserved
+loop-v-preserved c =
+    let s = c.size-size.result in
+    let F = Allows c.args.grid.now c.args.over in
+    let old = c.loop-v.labelling.labels.items in
+    let new = c.flood.new.marks.labels.items in
+    let root = c.loop-v.v in
+    let vertex : IsVertex s root = omega (arith, c.loop-v-test.true, c.vertices-v-end.ensures) in
+    let flooded : IsFlooded s F (label_of old) (label_of new) root root =
+    rw (sym c.give.ensures.labels) (subst (λ (m : ℕ). IsFlooded s F (label_of c.give.new.self.labels.items) (label_of new) m root) c.give.ensures.label c.in_ok-flood.ensures.flooded) in
+    record {
+      long = c.in_ok-flood.ensures.limit ∙ ap (length {A = ℕ}) c.give.ensures.labels ∙ c.loop-v.invariant.long;
+      spread = AreSpread-flooded s F (label_of old) (label_of new) root c.loop-v.invariant.spread flooded;
+      labelled = λ k below. ⊎_elim
+          (λ (is : k ≡ root). rw is (flooded.reached root (WalkBetween-refl s F root vertex)))
+          (λ other.
+          let value = some_value (label_of old k) (c.loop-v.invariant.labelled k (omega arith)) in
+          some_is (label_of new k) value.0 (flooded.kept k value.0 value.1))
+          (cases_eq k root);
+    }
 
 pub returns : goal.returns
 returns c =
-    let items = c.in_ok-labels.labels.items in
-    let new = c.label_all.new.labels in
-    let same : take c.in_ok-labels.labels.len (new ++ drop (length new) items) ≡ new = grind (arith, common_steps, c.label_all.auto.labels) in
-    rw same c.in_ok-label_all.ensures
+    let labels = c.loop-v.labelling.labels.items in
+    rw c.into_list.ensures
+    (subst (λ (s : Size). AreLabels s (Allows c.args.grid.now c.args.over) labels) c.size-size.ensures
+    (AreLabels-from_spread c.size-size.result (Allows c.args.grid.now c.args.over) labels c.loop-v.invariant.long c.loop-v.invariant.spread
+    (λ v vertex. c.loop-v.invariant.labelled v (omega (arith, vertex, c.loop-v-test.false, c.vertices-v-end.ensures)))))

@@ -1,6 +1,6 @@
 use Rattle.ispd_reader.specs.Numbers.{capacity_at}
 use Rattle.ispd_reader.specs.Header.{capacities_at}
-use Rattle.ispd_reader.proofs.InTurn.{goes_on}
+use Rattle.text_scan.proofs.InTurn.{goes_on}
 use Rattle.ispd_reader.proofs.layer_numbers.capacities.Goals as goal
 
 pub loop-preserved : goal.loop-preserved

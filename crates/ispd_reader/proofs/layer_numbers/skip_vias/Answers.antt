@@ -1,6 +1,6 @@
 use Rattle.ispd_reader.specs.Numbers.{number_at}
 use Rattle.ispd_reader.specs.Header.{vias_at}
-use Rattle.ispd_reader.proofs.InTurn.{passes_on}
+use Rattle.text_scan.proofs.InTurn.{passes_on}
 use Rattle.ispd_reader.proofs.layer_numbers.skip_vias.Goals as goal
 
 pub loop-preserved : goal.loop-preserved

@@ -2,7 +2,7 @@ use Rattle.std.proofs.Common.{ℕ, length, slice_index, arith}
 use Rattle.std.proofs.lemmas.List.{length_push}
 use Rattle.ispd_reader.specs.Numbers.{spacing_at}
 use Rattle.ispd_reader.specs.Header.{spacings_at}
-use Rattle.ispd_reader.proofs.InTurn.{goes_on}
+use Rattle.text_scan.proofs.InTurn.{goes_on}
 use Rattle.ispd_reader.proofs.layer_numbers.spacings.Goals as goal
 
 pub loop-width-preserved : goal.loop-width-preserved

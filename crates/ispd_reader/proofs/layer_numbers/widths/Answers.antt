@@ -1,6 +1,6 @@
 use Rattle.ispd_reader.specs.Numbers.{width_at}
 use Rattle.ispd_reader.specs.Header.{widths_at}
-use Rattle.ispd_reader.proofs.InTurn.{goes_on}
+use Rattle.text_scan.proofs.InTurn.{goes_on}
 use Rattle.ispd_reader.proofs.layer_numbers.widths.Goals as goal
 
 pub loop-preserved : goal.loop-preserved

@@ -1,4 +1,4 @@
-use Rattle.route_text.proofs.LongestRuns as runs
+use Rattle.tree_set.proofs.Runs as runs
 use Rattle.route_text.proofs.laws.runs_are_longest.Goals as goal
 
 pub returns : goal.returns

@@ -1,6 +1,6 @@
 use Rattle.std.proofs.Common.{◌∙◌}
 use Rattle.std.specs.Prelude.{filter}
-use Rattle.route_text.specs.Segments.{is_along}
+use Rattle.grid_base.specs.Lines.{is_along}
 use Rattle.route_text.specs.Pieces.{run_text}
 use Rattle.gr_desk.proofs.Pens.{puts-more, puts-whole}
 use Rattle.route_text.proofs.Texts.{runs-by_piece}

@@ -1,7 +1,7 @@
 use Rattle.std.proofs.Common.{◌≡◌, take}
 use Rattle.std.specs.Prelude.{filter, flat_map}
 use Rattle.gr_desk.specs.Pens.{Puts, pen_told}
-use Rattle.route_text.specs.Segments.{is_along}
+use Rattle.grid_base.specs.Lines.{is_along}
 use Rattle.route_text.specs.Pieces.{run_text}
 use Rattle.route_text.proofs.net.put_runs.Given as goal
 

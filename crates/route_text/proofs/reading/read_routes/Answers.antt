@@ -1,29 +1,42 @@
-use Rattle.std.proofs.Common.{◌<◌, arith, refl}
+use Rattle.std.proofs.Common.{◌≡◌, ◌+◌, true, false, not, length, refl, sym, ap, ◌∙◌, arith}
+use Rattle.std.specs.Prelude.{is_none}
+use Rattle.std.proofs.lemmas.List.Elements.{All-push}
+use Rattle.std.proofs.lemmas.List.Sums.{sum_by_push}
 use Rattle.std.proofs.lemmas.Result.{err_from_is_err_and}
-use Rattle.text_scan.specs.Reading.{tokens_left}
-use Rattle.route_text.proofs.BlockSteps.{no_blocks, one_more_block, block_refused, blocks_ended}
+use Rattle.text_scan.specs.Reading.{Reading, past_blanks}
+use Rattle.text_scan.proofs.Bounds.{one_more_part, part_refused, parts_ended}
+use Rattle.text_scan.proofs.Parts.{Refuses-with}
+use Rattle.route_text.specs.declared.block.Block.{Block}
+use Rattle.route_text.specs.Blocks.{block_at, blocks_of, is_over}
+use Rattle.route_text.specs.ReadLimits.{IsBlockInRange}
+use Rattle.route_text.specs.Faults.{refused_at}
+use Rattle.route_text.proofs.Takes.{next_block_takes}
 use Rattle.route_text.proofs.reading.read_routes.Goals as goal
-
-pub loop-name-init : goal.loop-name-init
-loop-name-init c = rw c.new-blocks.ensures.items (no_blocks c.args.bytes.now c.over-scanner.result c.over-scanner.ensures.text c.over-scanner.ensures.place)
 
 pub returns-in_err-block-clause-refusal : goal.returns-in_err-block-clause-refusal
 returns-in_err-block-clause-refusal c =
     let p = err_from_is_err_and c.from_residual.result c.from_residual.ensures.1 in
-    let r = c.loop-name.scanner in
-    let q = c.token.new.self in
-    let forward : r.place < q.place = omega (arith, c.in-Some.ensures.bounds, c.in-Some.ensures.end) in
-    rw (p.1, p.2) (block_refused c.args.bytes.now r q c.loop-name.blocks.items c.in_err-block.field-0.0 c.in-Some.name (tokens_left q) c.loop-name.invariant c.in-Some.ensures.token c.token.ensures.passed c.token.ensures.text forward c.token.ensures.within c.in_err-block.ensures.block)
+    let more : is_over c.loop-scanner.scanner ≡ false = ap is_none (sym c.peek.ensures.byte) ∙ ap not (sym c.loop-scanner-test.ensures) in
+    rw (p.1, p.2) (Refuses-with refused_at c.in_err-block.field-0.0 _ (blocks_of c.args.bytes.now)
+    (λ at refused. rw (part_refused is_over past_blanks block_at next_block_takes c.loop-scanner.invariant.read more refused) refl) (rw c.peek.ensures.passed at c.in_err-block.ensures.block))
 
-pub loop-name-preserved : goal.loop-name-preserved
-loop-name-preserved c =
-    let r = c.loop-name.scanner in
-    let q = c.token.new.self in
-    let forward : r.place < q.place = omega (arith, c.in-Some.ensures.bounds, c.in-Some.ensures.end) in
-    rw c.in_ok-push.ensures.items (one_more_block c.args.bytes.now r q c.block.new.scanner c.loop-name.blocks.items c.in_ok-block.field-0 c.in-Some.name (tokens_left q) c.loop-name.invariant c.in-Some.ensures.token c.token.ensures.passed c.token.ensures.text forward c.token.ensures.within c.in_ok-block.ensures.block c.in_ok-block.ensures.passed c.in_ok-block.ensures.near)
+pub loop-scanner-preserved : goal.loop-scanner-preserved
+loop-scanner-preserved c =
+    let so_far = c.loop-scanner.invariant in
+    let before = c.loop-scanner.blocks.items in
+    let one = c.in_ok-block.field-0 in
+    let more : is_over c.loop-scanner.scanner ≡ false = ap is_none (sym c.peek.ensures.byte) ∙ ap not (sym c.loop-scanner-test.ensures) in
+    let moves = c.in_ok-block.ensures.passed in
+    let text : c.block.new.scanner.text ≡ c.args.bytes.now = moves.text ∙ c.peek.ensures.text ∙ so_far.text in
+    rw c.in_ok-push.ensures.items (record {
+      text = text;
+      within = omega (arith, moves.within, ap length text);
+      few = omega (arith, so_far.few, moves.forward, ap (λ (q : Reading). q.place) c.peek.ensures.passed, sum_by_push (λ (b : Block). 1 + length b.segments) before one);
+      range = All-push IsBlockInRange before one so_far.range c.in_ok-block.ensures.range;
+      read = one_more_part is_over past_blanks block_at next_block_takes so_far.read more (rw c.peek.ensures.passed at c.in_ok-block.ensures.block);
+    })
 
 pub returns-clause-blocks : goal.returns-clause-blocks
-returns-clause-blocks c = blocks_ended c.args.bytes.now c.loop-name.scanner c.loop-name.blocks.items c.loop-name.invariant (c.in_default.ensures.none.0 refl)
-
-pub returns-clause-few : goal.returns-clause-few
-returns-clause-few c = omega (arith, c.loop-name.invariant.few, c.loop-name.invariant.within)
+returns-clause-blocks c =
+    let over : is_over c.loop-scanner.scanner ≡ true = ap is_none (sym c.peek.ensures.byte) ∙ ap not (sym c.loop-scanner-test.ensures) in
+    rw (parts_ended is_over past_blanks block_at next_block_takes c.loop-scanner.invariant.read over) refl

@@ -1,9 +1,20 @@
-use Rattle.std.proofs.Common.{◌-◌, length}
-use Rattle.route_text.proofs.BlockSteps.{AreBlocks}
+use Rattle.std.proofs.Common.{◌≡◌, ◌≤◌, ◌-◌, length}
+use Rattle.std.specs.List.{All}
+use Rattle.text_scan.specs.Reading.{past_blanks}
+use Rattle.text_scan.proofs.Bounds.{AreParts}
+use Rattle.route_text.specs.Blocks.{block_at, is_over}
+use Rattle.route_text.specs.ReadLimits.{IsBlockInRange, block_and_segment_count}
+use Rattle.route_text.proofs.Takes.{next_block_takes}
 use Rattle.route_text.proofs.reading.read_routes.Given as goal
 
-abbrev pub invariant-loop-name : goal.invariant-loop-name
-invariant-loop-name l = AreBlocks l.bytes l.scanner l.blocks.items
+abbrev pub invariant-loop-scanner : goal.invariant-loop-scanner
+invariant-loop-scanner l = record {
+  text : l.scanner.text ≡ l.bytes;
+  within : l.scanner.place ≤ length l.bytes;
+  few : block_and_segment_count l.blocks.items ≤ l.scanner.place;
+  range : All IsBlockInRange l.blocks.items;
+  read : AreParts is_over past_blanks block_at next_block_takes (record { text = l.bytes; place = 0 }) l.scanner l.blocks.items;
+}
 
-abbrev pub decreases-loop-name : goal.decreases-loop-name
-decreases-loop-name l = length l.bytes - l.scanner.place
+abbrev pub decreases-loop-scanner : goal.decreases-loop-scanner
+decreases-loop-scanner l = length l.bytes - l.scanner.place

@@ -1,7 +1,7 @@
 use Rattle.std.proofs.Common.{◌<◌, ◌≤◌, ◌∙◌, sym, arith}
 use Rattle.std.proofs.lemmas.Bool.{lt-ltb}
-use Rattle.route_text.specs.Segments.{step}
-use Rattle.route_text.proofs.Edges.{begins_run-low, begins_run-tested}
+use Rattle.grid_base.specs.Lines.{step}
+use Rattle.tree_set.proofs.RunEnds.{begins_run-low, begins_run-tested}
 use Rattle.route_text.proofs.runs.begins_run.Goals as goal
 
 pub returns-then-start-step : goal.returns-then-start-step
@@ -12,4 +12,4 @@ returns-then-start-step c =
 pub returns-else-start-step : goal.returns-else-start-step
 returns-else-start-step c =
     let high : step c.args.axis c.args.size.now ≤ c.args.start.0 = omega (arith, c.step-step.ensures, c.if-start-step.false) in
-    begins_run-tested c.args.size.now c.args.axis c.args.tree.now c.args.start.0 c.contains.result high (rw (c.edge_from.ensures, c.step-step.ensures) at c.contains.ensures.member)
+    begins_run-tested c.args.size.now c.args.axis c.args.tree.now c.args.start.0 c.contains.result high (rw (c.along.ensures, c.step-step.ensures) at c.contains.ensures.member)

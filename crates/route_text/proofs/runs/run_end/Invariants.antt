@@ -1,7 +1,8 @@
 use Rattle.std.proofs.Common.{◌≡◌, ◌-◌}
 use Rattle.std.specs.Prelude.{filter}
 use Rattle.grid_base.specs.Numbers.{IsVertex, vertices}
-use Rattle.route_text.specs.Segments.{is_along, run_end, step}
+use Rattle.grid_base.specs.Lines.{is_along, step}
+use Rattle.tree_set.specs.Runs.{run_end}
 use Rattle.route_text.proofs.runs.run_end.Given as goal
 
 abbrev pub invariant-loop-axis : goal.invariant-loop-axis

@@ -6,10 +6,11 @@ use Rattle.route_text.proofs.ReadBack.{are_blocks}
 use Rattle.route_text.proofs.ReadBackBlocks.{text_reads_back}
 use Rattle.router_cli.proofs.ReadBack.{nets_named}
 use Rattle.router_cli.proofs.laws.reported_routes_read_back.Goals as goal
+use Rattle.grid_graph.specs.Grids.{size_of}
 
 pub returns : goal.returns
 returns c = λ text d trees named near one_each sets. (
   written_blocks d.grid d.nets trees,
-  text_reads_back d.grid d.nets trees near (nets_named text d named) (All-weaker (IsSet d.grid) (ArePieces d.grid.size) (λ tree set. set.pieces) trees sets),
+  text_reads_back d.grid d.nets trees near (nets_named text d named) (All-weaker (IsSet d.grid) (ArePieces (size_of d.grid)) (λ tree set. set.pieces) trees sets),
   are_blocks d.grid d.nets trees one_each sets,
 )

@@ -1,6 +1,7 @@
 use Rattle.std.proofs.Common.{ℕ, ◌<◌, length}
 use Rattle.grid_base.specs.Walks.{WalkBetween, InPieces}
-use Rattle.tree_set.specs.Routings.{IsInside}
+use Rattle.grid_graph.specs.Grids.{size_of}
+use Rattle.tree_set.specs.Routings.{KeepsTo}
 use Rattle.router_cli.specs.Visits.{IsVisitOf}
 use Rattle.router_cli.proofs.walk.pieces_between.Given as goal
 
@@ -8,8 +9,8 @@ use Rattle.router_cli.proofs.walk.pieces_between.Given as goal
 abbrev pub invariant-loop-place : goal.invariant-loop-place
 invariant-loop-place l = record {
   within : l.place < length l.visits.items;
-  inside : IsInside l.grid l.fn.over l.pieces.items;
-  leads : (v : ℕ) → IsVisitOf l.visits.items l.place v → WalkBetween l.grid.size (InPieces l.pieces.items) v l.fn.to.0;
+  inside : KeepsTo l.grid l.fn.over l.pieces.items;
+  leads : (v : ℕ) → IsVisitOf l.visits.items l.place v → WalkBetween (size_of l.grid) (InPieces l.pieces.items) v l.fn.to.0;
 }
 
 abbrev pub decreases-loop-place : goal.decreases-loop-place

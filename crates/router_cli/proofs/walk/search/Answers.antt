@@ -1,6 +1,7 @@
 use Rattle.std.proofs.Common.{◌<◌, ◌≤◌, length, sym, subst, ⊎_elim, arith}
 use Rattle.std.proofs.lemmas.Bool.{cases_eq}
 use Rattle.grid_base.specs.Numbers.{vertices}
+use Rattle.grid_graph.specs.Grids.{size_of}
 use Rattle.router_cli.specs.Visits.{IsVisitedAround}
 use Rattle.router_cli.proofs.Visits.{few_visits, visit_left, IsVisitOf-kept, IsVisitedAround-kept}
 use Rattle.router_cli.proofs.walk.search.Goals as goal
@@ -32,14 +33,14 @@ pub overflow_add-place : goal.overflow_add-place
 overflow_add-place c =
     let i = c.loop-place.invariant in
     let within = visit_left c.args.grid.now c.args.over c.loop-place.visits.items c.args.from.0 c.args.to.0 c.loop-place.place i.first i.unmet i.around c.requires.joined in
-    let few : length c.loop-place.visits.items ≤ vertices c.args.grid.now.size = few_visits c.args.grid.now c.args.over c.loop-place.places c.loop-place.visits.items i.visits in
-    omega (arith, within, few, c.args.grid.now.size.within.vertex_limit)
+    let few : length c.loop-place.visits.items ≤ vertices (size_of c.args.grid.now) = few_visits c.args.grid.now c.args.over c.loop-place.places c.loop-place.visits.items i.visits in
+    omega (arith, within, few, (size_of c.args.grid.now).within.vertex_limit)
 
 pub loop-place-smaller : goal.loop-place-smaller
 loop-place-smaller c =
     let i = c.loop-place.invariant in
     let within = visit_left c.args.grid.now c.args.over c.loop-place.visits.items c.args.from.0 c.args.to.0 c.loop-place.place i.first i.unmet i.around c.requires.joined in
-    let few : length c.loop-place.visits.items ≤ vertices c.args.grid.now.size = few_visits c.args.grid.now c.args.over c.loop-place.places c.loop-place.visits.items i.visits in
+    let few : length c.loop-place.visits.items ≤ vertices (size_of c.args.grid.now) = few_visits c.args.grid.now c.args.over c.loop-place.places c.loop-place.visits.items i.visits in
     omega (arith, within, few)
 
 pub loop-place-preserved : goal.loop-place-preserved

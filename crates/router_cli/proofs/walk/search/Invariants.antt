@@ -1,5 +1,6 @@
 use Rattle.std.proofs.Common.{ℕ, ◌<◌, ◌-◌}
 use Rattle.grid_base.specs.Numbers.{vertices}
+use Rattle.grid_graph.specs.Grids.{size_of}
 use Rattle.router_cli.specs.Visits.{IsVisitOf, WasVisited, AreVisits, IsVisitedAround}
 use Rattle.router_cli.proofs.walk.search.Given as goal
 
@@ -13,4 +14,4 @@ invariant-loop-place l = record {
 }
 
 abbrev pub decreases-loop-place : goal.decreases-loop-place
-decreases-loop-place l = vertices l.grid.size - l.place
+decreases-loop-place l = vertices (size_of l.grid) - l.place

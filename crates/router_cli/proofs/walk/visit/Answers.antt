@@ -1,7 +1,7 @@
 use Rattle.std.proofs.Common.{◌≡◌, ◌≤◌, List, length, refl, sym, subst, inl, inr, ⊎_elim, rules, arith}
 use Rattle.std.proofs.lemmas.Option.{slice_get_within}
 use Rattle.grid_base.specs.Numbers.{vertices}
-use Rattle.grid_graph.specs.Grids.{Allows}
+use Rattle.grid_graph.specs.Grids.{size_of, Allows}
 use Rattle.router_cli.specs.declared.visit.Visit.{Visit}
 use Rattle.router_cli.specs.Visits.{WasVisited}
 use Rattle.router_cli.proofs.Visits.{few_visits, AreVisits-push, KeepsVisits-push, WasMet-push, WasVisited-push, WasVisited-push_cases}
@@ -9,14 +9,14 @@ use Rattle.router_cli.proofs.walk.visit.Goals as goal
 
 pub overflow_cast-places : goal.overflow_cast-places
 overflow_cast-places c =
-    let few : length c.args.visits.now.items ≤ vertices c.args.grid.now.size = few_visits c.args.grid.now c.args.over c.args.places.now c.args.visits.now.items c.requires.visits in
-    omega (arith, few, c.args.grid.now.size.within.vertex_limit, c.len.ensures)
+    let few : length c.args.visits.now.items ≤ vertices (size_of c.args.grid.now) = few_visits c.args.grid.now c.args.over c.args.places.now c.args.visits.now.items c.requires.visits in
+    omega (arith, few, (size_of c.args.grid.now).within.vertex_limit, c.len.ensures)
 
 pub overflow_cast-place : goal.overflow_cast-place
 overflow_cast-place c =
-    let few : length c.args.visits.now.items ≤ vertices c.args.grid.now.size = few_visits c.args.grid.now c.args.over c.args.places.now c.args.visits.now.items c.requires.visits in
+    let few : length c.args.visits.now.items ≤ vertices (size_of c.args.grid.now) = few_visits c.args.grid.now c.args.over c.args.places.now c.args.visits.now.items c.requires.visits in
     let within = slice_get_within c.args.visits.now.items c.args.place c.requires.connects.visit c.requires.connects.stands in
-    omega (arith, few, within, c.args.grid.now.size.within.vertex_limit)
+    omega (arith, few, within, (size_of c.args.grid.now).within.vertex_limit)
 
 pub returns-clause-visits : goal.returns-clause-visits
 returns-clause-visits c =

@@ -5,9 +5,9 @@ use Rattle.std.proofs.lemmas.Option.{same_Some, slice_get_read}
 use Rattle.grid_base.specs.declared.piece.Piece.{Piece}
 use Rattle.grid_base.specs.declared.vertex.Vertex.{Vertex}
 use Rattle.grid_base.specs.Walks.{AreLinked}
-use Rattle.grid_graph.specs.Grids.{Allows}
-use Rattle.grid_graph.specs.Lists.{At}
-use Rattle.grid_graph.specs.Neighbours.{LeadsFrom, steps}
+use Rattle.grid_graph.specs.Grids.{size_of, Allows}
+use Rattle.grid_base.specs.Lists.{At}
+use Rattle.grid_base.specs.Neighbours.{LeadsFrom, steps}
 use Rattle.router_cli.specs.declared.visit.Visit.{Visit}
 use Rattle.router_cli.specs.Visits.{WasVisited, WasMet}
 use Rattle.router_cli.proofs.Visits.{VisitedBelow, VisitedBelow-kept, VisitedBelow-next, visited_around}
@@ -23,7 +23,7 @@ visit-requires-clause-connects c =
     record {
       visit = here;
       stands = c.loop-step.invariant.kept c.args.place here at;
-      connects = subst (LeadsFrom c.args.grid.now.size here.vertex.0) c.in-Some.is (c.neighbours.ensures.connects c.loop-step.step-index None within);
+      connects = subst (LeadsFrom (size_of c.args.grid.now) here.vertex.0) c.in-Some.is (c.neighbours.ensures.connects c.loop-step.step-index None within);
     }
 
 pub returns-then-eq-clause-kept : goal.returns-then-eq-clause-kept
@@ -77,8 +77,8 @@ returns-clause-around c = λ _ x w at link.
     let at_here : At visits c.args.place here = slice_get_read visits (length visits) c.args.place here refl c.requires.place c.index.ensures in
     let same : x ≡ here = same_Some _ _ (sym at ∙ c.loop-step.invariant.kept c.args.place here at_here) in
     let all : c.loop-step.step-index ≡ 6 = omega arith in
-    let table : c.neighbours.result ≡ steps g.size here.vertex.0 = c.neighbours.ensures.value in
+    let table : c.neighbours.result ≡ steps (size_of g) here.vertex.0 = c.neighbours.ensures.value in
     visited_around g c.args.over c.loop-step.visits.items here.vertex.0 w
     (subst (λ (found : List (Option (Vertex × Piece))). VisitedBelow g c.args.over c.loop-step.visits.items found 6) table
     (subst (VisitedBelow g c.args.over c.loop-step.visits.items c.neighbours.result) all c.loop-step.invariant.passed))
-    (subst (λ (y : Visit). AreLinked g.size (Allows g c.args.over) y.vertex.0 w) same link)
+    (subst (λ (y : Visit). AreLinked (size_of g) (Allows g c.args.over) y.vertex.0 w) same link)

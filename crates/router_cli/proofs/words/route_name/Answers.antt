@@ -1,7 +1,7 @@
 use Rattle.std.proofs.Common.{◌≡◌, string_bytes, codes, arith, ◌∙◌, sym, subst, rules}
 use Rattle.std.proofs.lemmas.Slice.Eq.{slice_eq-Decides}
 use Rattle.std.proofs.lemmas.Bool.Decides.{Decides-eqb}
-use Rattle.router_cli.specs.Words.{IsName}
+use Rattle.router_cli.specs.Runs.{IsName}
 use Rattle.router_cli.proofs.Pairs.{map-two}
 use Rattle.router_cli.proofs.words.route_name.Goals as goal
 

@@ -1,35 +1,33 @@
--- The far end of each kind of piece, and that the two ends are neighbours.
-use Rattle.std.proofs.Common.{◌≡◌, ◌+◌, ◌*◌, ◌/◌, sym, ap, ◌∙◌}
-use Rattle.grid_base.specs.Numbers.{near_end, far_end}
-use Rattle.grid_base.proofs.Pieces.{far_end-even, far_end-odd, far_end-to_next_layer, neighbours_from_goes}
+-- Where each kind of piece goes, and that the two ends are neighbours.
+use Rattle.std.proofs.Common.{◌≡◌, ◌+◌, ◌*◌, sym, ap, ◌∙◌}
+use Rattle.grid_base.specs.Numbers.{cols, rows, start_of, end_of}
+use Rattle.grid_base.proofs.Pieces.{end_of-along_x, end_of-along_y, end_of-to_next_layer, neighbours_from_goes}
 use Rattle.grid_base.proofs.size.Size.ends_of.Goals as goal
 
-to_col : (c : goal.Then-e-eq0) → far_end c.args.self.now c.args.p ≡ c.in-Edge.field-0.0 / 2 + 1
-to_col c = ap (far_end c.args.self.now) c.in-Edge.is ∙ far_end-even c.args.self.now c.in-Edge.field-0 c.if-e-eq0.true
+to_layer : (c : goal.In-Via) → end_of c.args.self.now c.args.p ≡ c.in-Via.field-0.0 + cols c.args.self.now * rows c.args.self.now
+to_layer c = ap (end_of c.args.self.now) c.in-Via.is ∙ end_of-to_next_layer c.args.self.now c.in-Via.field-0.0
 
-to_row : (c : goal.Else-e-eq0) → far_end c.args.self.now c.args.p ≡ c.in-Edge.field-0.0 / 2 + c.args.self.now.cols
-to_row c = ap (far_end c.args.self.now) c.in-Edge.is ∙ far_end-odd c.args.self.now c.in-Edge.field-0 c.if-e-eq0.false
+pub returns-in-X-clause-end : goal.returns-in-X-clause-end
+returns-in-X-clause-end c =
+    sym (end_of-along_x c.args.self.now c.args.p c.in-Edge.edge _ c.in-Edge.is c.start-start.ensures (sym c.axis.ensures ∙ c.in-X.is))
 
-to_layer : (c : goal.In-Via) → far_end c.args.self.now c.args.p ≡ c.in-Via.field-0.0 + c.args.self.now.cols * c.args.self.now.rows
-to_layer c = ap (far_end c.args.self.now) c.in-Via.is ∙ far_end-to_next_layer c.args.self.now c.in-Via.field-0.0
+pub returns-in-X-clause-neighbours : goal.returns-in-X-clause-neighbours
+returns-in-X-clause-neighbours c =
+    neighbours_from_goes c.args.self.now c.args.p _ _
+    (c.requires, ap start_of c.in-Edge.is ∙ sym c.start-start.ensures, end_of-along_x c.args.self.now c.args.p c.in-Edge.edge _ c.in-Edge.is c.start-start.ensures (sym c.axis.ensures ∙ c.in-X.is))
 
-pub returns-then-e-eq0-clause-far : goal.returns-then-e-eq0-clause-far
-returns-then-e-eq0-clause-far c = sym (to_col c)
+pub returns-in-Y-clause-end : goal.returns-in-Y-clause-end
+returns-in-Y-clause-end c =
+    sym (end_of-along_y c.args.self.now c.args.p c.in-Edge.edge _ c.in-Edge.is c.start-start.ensures (sym c.axis.ensures ∙ c.in-Y.is))
 
-pub returns-then-e-eq0-clause-neighbours : goal.returns-then-e-eq0-clause-neighbours
-returns-then-e-eq0-clause-neighbours c =
-    neighbours_from_goes c.args.self.now c.args.p _ _ (c.requires, ap near_end c.in-Edge.is, to_col c)
+pub returns-in-Y-clause-neighbours : goal.returns-in-Y-clause-neighbours
+returns-in-Y-clause-neighbours c =
+    neighbours_from_goes c.args.self.now c.args.p _ _
+    (c.requires, ap start_of c.in-Edge.is ∙ sym c.start-start.ensures, end_of-along_y c.args.self.now c.args.p c.in-Edge.edge _ c.in-Edge.is c.start-start.ensures (sym c.axis.ensures ∙ c.in-Y.is))
 
-pub returns-else-e-eq0-clause-far : goal.returns-else-e-eq0-clause-far
-returns-else-e-eq0-clause-far c = sym (to_row c)
-
-pub returns-else-e-eq0-clause-neighbours : goal.returns-else-e-eq0-clause-neighbours
-returns-else-e-eq0-clause-neighbours c =
-    neighbours_from_goes c.args.self.now c.args.p _ _ (c.requires, ap near_end c.in-Edge.is, to_row c)
-
-pub returns-in-Via-clause-far : goal.returns-in-Via-clause-far
-returns-in-Via-clause-far c = sym (to_layer c)
+pub returns-in-Via-clause-end : goal.returns-in-Via-clause-end
+returns-in-Via-clause-end c = sym (to_layer c)
 
 pub returns-in-Via-clause-neighbours : goal.returns-in-Via-clause-neighbours
 returns-in-Via-clause-neighbours c =
-    neighbours_from_goes c.args.self.now c.args.p _ _ (c.requires, ap near_end c.in-Via.is, to_layer c)
+    neighbours_from_goes c.args.self.now c.args.p _ _ (c.requires, ap start_of c.in-Via.is, to_layer c)

@@ -3,9 +3,9 @@ use Rattle.grid_base.specs.declared.vertex.Vertex.{Vertex}
 use Rattle.grid_graph.specs.declared.ground.Ground.TheVariants.{Open, WithChoked}
 use Rattle.grid_graph.specs.declared.net_spec.NetSpec.{NetSpec}
 use Rattle.grid_graph.specs.Apart.{HaveOneLabel, IsApart}
-use Rattle.grid_graph.specs.Grids.{Allows}
+use Rattle.grid_graph.specs.Grids.{size_of, Allows}
 use Rattle.grid_graph.specs.Grounds.{IsCutOff}
-use Rattle.grid_graph.specs.Lists.{At}
+use Rattle.grid_base.specs.Lists.{At}
 use Rattle.grid_graph.proofs.Grounds.{joins_alike, apart_not_joined, cut_off_apart, net_read, net_stands}
 use Rattle.grid_graph.proofs.design.Design.ground_by.Goals as goal
 
@@ -22,7 +22,7 @@ returns-in_default-clause-found c n at =
     let d = c.args.self.now in
     let spec_is = net_read d.nets c.list.result.now c.args.net c.index-list-net.result n c.list.ensures.nets c.requires.net c.index-list-net.is at in
     let same : c.list-terminals.result.now ≡ n.terminals = c.list-terminals.ensures.vertices ∙ ap (λ (m : NetSpec). m.terminals) spec_is in
-    joins_alike d.grid.size (Allows d.grid Open) c.args.by_open.now n.terminals c.requires.by_open
+    joins_alike (size_of d.grid) (Allows d.grid Open) c.args.by_open.now n.terminals c.requires.by_open
     ((d.limits.net c.args.net n at).vertices)
     (subst (λ (ts : List Vertex). HaveOneLabel c.args.by_open.now ts (length ts)) same c.in_default.ensures.alike)
 
@@ -31,9 +31,9 @@ returns-in-None-clause-found c n at =
     let d = c.args.self.now in
     let spec_is = net_read d.nets c.list.result.now c.args.net c.index-list-net.result n c.list.ensures.nets c.requires.net c.index-list-net.is at in
     let same : c.list-terminals.result.now ≡ n.terminals = c.list-terminals.ensures.vertices ∙ ap (λ (m : NetSpec). m.terminals) spec_is in (
-      apart_not_joined d.grid.size (Allows d.grid Open) c.args.by_open.now n.terminals c.in-Some.field-0 c.requires.by_open
+      apart_not_joined (size_of d.grid) (Allows d.grid Open) c.args.by_open.now n.terminals c.in-Some.field-0 c.requires.by_open
           (subst (λ (ts : List Vertex). IsApart c.args.by_open.now ts c.in-Some.field-0) same c.in-Some.ensures.apart),
-      joins_alike d.grid.size (Allows d.grid WithChoked) c.args.by_choked.now n.terminals c.requires.by_choked
+      joins_alike (size_of d.grid) (Allows d.grid WithChoked) c.args.by_choked.now n.terminals c.requires.by_choked
           ((d.limits.net c.args.net n at).vertices)
           (subst (λ (ts : List Vertex). HaveOneLabel c.args.by_choked.now ts (length ts)) same c.in-None.ensures.alike),
     )

@@ -1,9 +1,9 @@
-use Rattle.std.proofs.Common.{ℕ, ◌<◌, List, length, arith, subst}
+use Rattle.std.proofs.Common.{ℕ, ◌≡◌, ◌<◌, List, length, ap, arith, subst}
 use Rattle.std.proofs.lemmas.Grind.{common_steps}
 use Rattle.std.proofs.lemmas.Result.{err_from_is_err_and}
 use Rattle.grid_graph.specs.declared.net_spec.NetSpec.{NetSpec}
-use Rattle.grid_graph.specs.Lists.{At}
-use Rattle.grid_graph.proofs.Grounds.{first_cause, at_place, joined_so_far, AreGroundsSoFar-push}
+use Rattle.grid_base.specs.Lists.{At}
+use Rattle.grid_graph.proofs.Grounds.{first_cause, at_place, joined_so_far, AreGroundsSoFar-push, AreGrounds-from_so_far}
 use Rattle.grid_graph.proofs.design.Design.grounds.Goals as goal
 
 pub ground_by-requires-clause-by_open : goal.ground_by-requires-clause-by_open
@@ -21,6 +21,13 @@ returns-in_err-ground_by-clause-cause c =
     rw (exit.1, exit.2)
     (first_cause d.grid d.nets c.loop-net.net found.0 c.in_err-ground_by.field-0.0 found.1 (c.in_err-ground_by.ensures.cause found.0 found.1)
     (λ j m below at. joined_so_far d.grid d.nets c.loop-net.grounds.items c.loop-net.invariant.right j m (rw c.loop-net.invariant.long below) at))
+
+pub returns-clause-grounds : goal.returns-clause-grounds
+returns-clause-grounds c =
+    let d = c.args.self.now in
+    let whole : length c.loop-net.grounds.items ≡ length d.nets =
+    omega (arith, c.loop-net.invariant.long, c.loop-net-test.false, c.loop-net.auto.net-end, ap (length {A = NetSpec}) c.list-net-end.ensures.nets) in
+    AreGrounds-from_so_far d.grid d.nets c.loop-net.grounds.items whole c.loop-net.invariant.right
 
 pub loop-net-preserved : goal.loop-net-preserved
 loop-net-preserved c =

@@ -4,12 +4,12 @@ use Rattle.std.proofs.lemmas.Result.{IfOk-weaker}
 use Rattle.grid_base.specs.declared.vertex.Vertex.{Vertex}
 use Rattle.grid_base.specs.Walks.{WalkBetween, InPieces, JoinsList}
 use Rattle.grid_base.proofs.Joined.{JoinsList-few}
-use Rattle.grid_graph.specs.Grids.{Allows}
+use Rattle.grid_graph.specs.Grids.{size_of, Allows}
 use Rattle.router_cli.proofs.TwoTerminals.{JoinsList-both, joined_vertices}
 use Rattle.router_cli.proofs.walker.Walker.connect.Goals as goal
 
 pub returns-then-terminals-lt2-clause-joins : goal.returns-then-terminals-lt2-clause-joins
-returns-then-terminals-lt2-clause-joins c = JoinsList-few c.args.grid.now.size c.empty.result c.args.terminals.now c.if-terminals-lt2.true (joined_vertices c.args.grid.now.size (Allows c.args.grid.now c.args.over) c.args.terminals.now c.requires.joined)
+returns-then-terminals-lt2-clause-joins c = JoinsList-few (size_of c.args.grid.now) c.empty.result c.args.terminals.now c.if-terminals-lt2.true (joined_vertices (size_of c.args.grid.now) (Allows c.args.grid.now c.args.over) c.args.terminals.now c.requires.joined)
 
 pub route-requires-clause-joined : goal.route-requires-clause-joined
 route-requires-clause-joined c =
@@ -21,9 +21,9 @@ route-requires-clause-joined c =
 
 pub returns-clause-joins : goal.returns-clause-joins
 returns-clause-joins c =
-    let s = c.args.grid.now.size in
+    let s = size_of c.args.grid.now in
     let none : Vertex = record { 0 = 0 } in
     let terminals = c.args.terminals.now in
     IfOk-weaker c.route.result (λ tree. WalkBetween s (InPieces tree) (get_or terminals 0 none).0 (get_or terminals 1 none).0) (λ tree. JoinsList s tree terminals)
-    (λ tree walk. JoinsList-both s tree terminals none (omega (arith, c.requires.few, c.if-terminals-lt2.false)) (joined_vertices c.args.grid.now.size (Allows c.args.grid.now c.args.over) c.args.terminals.now c.requires.joined) walk)
+    (λ tree walk. JoinsList-both s tree terminals none (omega (arith, c.requires.few, c.if-terminals-lt2.false)) (joined_vertices (size_of c.args.grid.now) (Allows c.args.grid.now c.args.over) c.args.terminals.now c.requires.joined) walk)
     c.route.ensures.joins

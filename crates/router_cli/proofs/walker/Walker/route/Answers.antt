@@ -1,7 +1,7 @@
 use Rattle.std.proofs.lemmas.List.Elements.{All-contains, Contains-get_or}
 use Rattle.grid_base.specs.Walks.{InPieces}
 use Rattle.grid_base.proofs.Walks.{WalkBetween-superset}
-use Rattle.grid_graph.specs.Grids.{Allows}
+use Rattle.grid_graph.specs.Grids.{size_of, Allows}
 use Rattle.router_cli.proofs.walker.Walker.route.Goals as goal
 
 pub returns-clause-inside : goal.returns-clause-inside
@@ -11,5 +11,5 @@ returns-clause-inside c = λ k d short.
 
 pub returns-clause-joins : goal.returns-clause-joins
 returns-clause-joins c =
-    WalkBetween-superset c.args.grid.now.size (InPieces c.in_ok-pieces.pieces.items) (InPieces c.of.result)
+    WalkBetween-superset (size_of c.args.grid.now) (InPieces c.in_ok-pieces.pieces.items) (InPieces c.of.result)
     (λ p h. (c.of.ensures.same p).1 h) c.args.from.0 c.args.to.0 c.in_ok-pieces.ensures.joins
