@@ -1,0 +1,227 @@
+#!/bin/sh
+# Runs the built program on real files, and compares its status and what it wrote, byte for byte, with what
+# docs/FORMATS.md says.
+#
+#   tests/program/check.sh [PROGRAM]
+#
+# Without a word it takes the program that `rt ci` left in crates/grouter/out, and has it built where there is none. It
+# prints a line for each case, then how many passed and failed, and fails where one did.
+#
+# The expected texts were worked out by hand. Where several routes are as short, a net has the one that is met first by a
+# search that goes from tile to tile in the order west, east, south, north, down, up.
+set -u
+export LC_ALL=C
+
+top=$(CDPATH='' cd -- "$(dirname -- "$0")/../.." && pwd)
+here=$top/tests/program
+built=${1:-$top/crates/grouter/out/grouter}
+
+if [ ! -f "$built" ]; then
+    # it ends with the program's own status, which for no words is 2
+    (cd "$top/crates/grouter" && rt run) </dev/null >&2
+fi
+if [ ! -f "$built" ]; then
+    echo "FAILED: the program is not built: $built"
+    echo "0 passed, 1 failed"
+    exit 1
+fi
+
+room=$(mktemp -d)
+trap 'rm -rf "$room"' EXIT
+mkdir "$room/files" "$room/files/folder"
+cp "$built" "$room/grouter" && chmod +x "$room/grouter"
+program=$room/grouter
+cp "$top"/examples/*.gr "$room/files"
+cd "$room/files" || exit 1
+
+passed=0
+failed=0
+
+# judge NAME STATUS: compares the status that was got, and what was said, with what is wanted
+judge() {
+    if [ "$got" -ne "$2" ]; then
+        why="status $got, and not $2"
+    elif ! cmp -s "$room/wanted" "$room/said"; then
+        why="it wrote: $(head -c 300 "$room/said")"
+    elif [ -s "$room/complained" ]; then
+        why="it complained: $(head -c 300 "$room/complained")"
+    else
+        passed=$((passed + 1))
+        echo "ok: $1"
+        return
+    fi
+    failed=$((failed + 1))
+    echo "FAILED: $1: $why"
+}
+
+# expect NAME STATUS LINES WORD..: runs the program on the words; each of the lines ends in a line feed
+expect() {
+    name=$1 status=$2 lines=$3
+    shift 3
+    if [ -n "$lines" ]; then printf '%s\n' "$lines"; fi >"$room/wanted"
+    "$program" "$@" </dev/null >"$room/said" 2>"$room/complained"
+    got=$?
+    judge "$name" "$status"
+}
+
+# expect_unheard NAME STATUS WORD..: the same, where nothing can be written
+expect_unheard() {
+    name=$1 status=$2
+    shift 2
+    : >"$room/wanted"
+    : >"$room/said"
+    "$program" "$@" </dev/null >/dev/full 2>"$room/complained"
+    got=$?
+    judge "$name" "$status"
+}
+
+# A row of three tiles with one net of two pins, in 144 bytes. What begins at these bytes can be given: the vertical capacity
+# (29), the horizontal one (51), the width (67), the lower-left corner and the tile (101), and the count of nets with all
+# that follows (119).
+row() {
+    printf 'grid 3 1 1\nvertical capacity %s\nhorizontal capacity %s\nminimum width %s\nminimum spacing 1\nvia spacing 1\n%s\nnum net %s\n' \
+        "${1:-4}" "${2:-4}" "${3:-1}" "${4:-0 0 10 10}" "${5:-$one_net}"
+}
+one_net='1
+a 0 2 1
+5 5 1
+25 5 1
+0'
+
+# refused NAME STATUS LINE: the text in refused.gr has this refusal
+refused() {
+    expect "$1" "$2" "$3" route refused.gr
+    rm refused.gr
+}
+
+# ---- designs that are routed
+
+for example in one_net detour three_layers; do
+    expect "the example $example" 0 "$(cat "$here/$example.report")" route "$example.gr"
+done
+
+row 0 4 1 '0 0 10 10' 0 >'no nets.gr'
+expect 'a design without nets, under a name with a space' 0 'overflow 0
+wirelength 0' route 'no nets.gr'
+
+row 0 4 1 '-10 -10 10 10' '1
+a 0 2 1
+-5 -5 1
+15 -5 1
+0' | sed "s/\$/$(printf '\r')/" >folder/crlf.gr
+expect 'line ends of two bytes, negative places, in a folder' 0 'a 0
+(-5,-5,1)-(15,-5,1)
+!
+overflow 0
+wirelength 2' route folder/crlf.gr
+
+# each of the two edges has capacity 4 and the load 4000
+many=2000
+row 4 4 1 '0 0 10 10' "$(awk -v n=$many 'BEGIN { print n; for (k = 0; k < n; k++) printf "n %d 2 1\n5 5 1\n25 5 1\n", k; print 0 }')" >many.gr
+awk -v n=$many 'BEGIN { for (k = 0; k < n; k++) printf "n %d\n(5,5,1)-(25,5,1)\n!\n", k; print "overflow 7992"; print "wirelength 4000" }' >"$room/many.report"
+expect 'two thousand nets' 0 "$(cat "$room/many.report")" route many.gr
+
+# ---- words that are no command
+
+usage='refused 2
+usage: grouter route'
+expect 'no words' 2 "$usage"
+expect 'a command without its name' 2 "$usage" route
+expect 'a word too many' 2 "$usage" route one_net.gr detour.gr
+expect 'two words too many' 2 "$usage" route one_net.gr detour.gr three_layers.gr
+expect 'another command' 2 "$usage" judge one_net.gr
+expect 'a command in capitals' 2 "$usage" ROUTE one_net.gr
+expect 'a name that begins with a dash' 2 "$usage" route -one_net.gr
+expect 'an empty name' 2 "$usage" route ''
+expect 'a word that is no text' 2 "$usage" route "$(printf '\377.gr')"
+
+# ---- texts that are no design
+
+row | sed 's/horizontal capacity/horizontal capcity/' >refused.gr
+refused 'a word that is misspelt' 3 'refused 3 11 42 capacity'
+row | head -c 139 >refused.gr
+refused 'a text that ends too early' 3 'refused 3 11 139 number'
+row 4 4 1 '1099511627777 0 10 10' >refused.gr
+refused 'a number that is too great' 3 'refused 3 12 101'
+echo 'grid 2048 2048 3' >refused.gr
+refused 'a grid that is too great' 3 'refused 3 14 15'
+row 4 4 1 '0 0 0 10' >refused.gr
+refused 'a tile without width' 3 'refused 3 15 105'
+row 262145 >refused.gr
+refused 'a capacity that is too great' 3 'refused 3 16 29'
+row 4 4 1024 >refused.gr
+refused 'a width that is too great' 3 'refused 3 17 67'
+row 4 4 1 '0 0 10 10' 4194305 >refused.gr
+refused 'too many nets' 3 'refused 3 18 119'
+row 4 4 1 '0 0 10 10' '2
+a 0 2 1
+5 5 1
+25 5 1
+b 0 2 1' >refused.gr
+refused 'an id that two nets have' 3 'refused 3 19 144 0'
+row 4 4 1 '0 0 10 10' '1
+a 7 2 1
+5 5 1
+31 5 1' >refused.gr
+refused 'a pin outside the grid' 3 'refused 3 20 135 7 1'
+row 4 4 1 '0 0 10 10' '1
+a 7 2 1
+5 5 1
+25 5 2' >refused.gr
+refused 'a pin above the layers' 3 'refused 3 21 140 7 1'
+row 4 4 1 '0 0 10 10' '1
+a 0 2 1
+5 5 1
+25 5 1
+1
+0 0 1 2 0 1 3' >refused.gr
+refused 'an adjustment between tiles that are no neighbours' 3 'refused 3 22 154 0'
+row 4 4 1 '0 0 10 10' '1
+a 0 3 1
+5 5 1
+15 5 1
+25 5 1
+0' >refused.gr
+refused 'a net of three terminals' 3 'refused 3 10'
+: >refused.gr
+refused 'an empty file' 3 'refused 3 11 0 grid'
+
+# ---- designs that can't be routed
+
+row 0 0 1 '0 0 10 10' '2
+a 3 2 1
+5 5 1
+7 3 1
+b 9 2 1
+5 5 1
+25 5 1
+0' >refused.gr
+refused 'a net that is cut off' 5 'refused 5 4 9 1'
+
+# ---- files and devices
+
+expect 'a file that is missing' 6 'refused 6' route missing.gr
+expect 'a folder' 6 'refused 6' route folder
+expect_unheard 'a report that can not be written' 7 route one_net.gr
+expect_unheard 'a long report that can not be written' 7 route many.gr
+expect_unheard 'a refusal that can not be said: no command' 2 route
+expect_unheard 'a refusal that can not be said: a missing file' 6 route missing.gr
+
+# a table of 2^23 vertices in 40,000,000 bytes
+awk '/^grid/ { $0 = "grid 2048 2048 2" } /capacity|width|spacing/ { $0 = $0 " " $NF } { print }' one_net.gr >vast.gr
+printf '%s\n' 'refused 8' >"$room/wanted"
+# shellcheck disable=SC3045
+(ulimit -v 40000 && exec "$program" route vast.gr) </dev/null >"$room/said" 2>"$room/complained"
+got=$?
+judge 'want of memory' 8
+
+# ---- what all runs left
+
+ls -R . >"$room/said"
+printf '%s\n' .: detour.gr folder many.gr 'no nets.gr' one_net.gr three_layers.gr vast.gr '' ./folder: crlf.gr >"$room/wanted"
+: >"$room/complained"
+got=0
+judge 'no run made a file' 0
+
+echo "$passed passed, $failed failed"
+[ "$failed" -eq 0 ]
