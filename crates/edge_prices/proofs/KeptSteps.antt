@@ -1,0 +1,129 @@
+-- What a keeper of prices does where one load changes.
+use Rattle.std.proofs.Common.{ℕ, Bool, true, false, ◌↔◌, ◌≡◌, ◌≢◌, ◌≤◌, ◌<◌, ◌⊎◌, List, length, get_or, set, refl, sym, ap, inl, inr, ◌∙◌, arith, get_or-set_other, length-set}
+use Rattle.std.specs.Prelude.{Option}
+use Rattle.std.proofs.lemmas.Bool.{cases_eq, cases_lt, iff_false}
+use Rattle.std.proofs.lemmas.Grind.{get_or-set_at}
+use Rattle.std.proofs.lemmas.List.FromFn.{fill_by_all}
+use Rattle.grid_base.specs.declared.axis.Axis.{Axis}
+use Rattle.grid_base.specs.Numbers.{edge_axis}
+use Rattle.grid_graph.specs.declared.grid.Grid.{Grid}
+use Rattle.grid_graph.specs.Grids.{capacity}
+use Rattle.edge_prices.specs.declared.least_prices.LeastPrices.{LeastPrices}
+use Rattle.edge_prices.specs.Floors.{least_along, AreLeast}
+use Rattle.edge_prices.specs.Kept.{IsCurrent}
+use Rattle.edge_prices.specs.Limits.{max_load}
+use Rattle.edge_prices.specs.Prices.{index_or_zero, price_or_zero}
+use Rattle.edge_prices.specs.Vectors.{edge_numbers, entries, capacity_of, index_of, top_of, price_of, price_vector, IsLoadList}
+use Rattle.edge_prices.proofs.Entries.{set_within}
+use Rattle.edge_prices.proofs.Greatest.{le-greatest, greatest-kept}
+use Rattle.edge_prices.proofs.PriceVectors.{capacity_of-edge, entry-price_vector, length-price_vector, price_or_zero-positive}
+
+pub IsLoadList-set : (g : Grid) (loads : List ℕ) (r load : ℕ) → IsLoadList g loads → load ≤ max_load → IsLoadList g (set loads r load)
+IsLoadList-set g loads r load loaded small = record { long = length-set loads r load ∙ loaded.long; within = set_within loads r load max_load loaded.within small }
+
+index_of-others : (g : Grid) (loads : List ℕ) (scale : ℕ) (budget : Option ℕ) (r load k : ℕ) → k ≢ r → index_of g (set loads r load) scale budget k ≡ index_of g loads scale budget k
+index_of-others g loads scale budget r load k other = ap (λ x. index_or_zero (capacity_of g budget k) x scale) (get_or-set_other loads r k load 0 other)
+
+index_of-here : (g : Grid) (loads : List ℕ) (scale : ℕ) (budget : Option ℕ) (r load : ℕ) → r < length loads →
+    index_of g (set loads r load) scale budget r ≡ index_or_zero (capacity_of g budget r) load scale
+index_of-here g loads scale budget r load inside = ap (λ x. index_or_zero (capacity_of g budget r) x scale) (get_or-set_at loads r r load 0 refl inside)
+
+-- a load under which the greatest index stays
+pub record KeepsGreatest (g : Grid) (loads : List ℕ) (scale : ℕ) (budget : Option ℕ) (r load : ℕ) : Type 0 where
+  pub inside : r < entries g
+  pub low : index_or_zero (capacity_of g budget r) load scale ≤ top_of g loads scale budget
+  pub other : (index_of g loads scale budget r < top_of g loads scale budget) ⊎ (index_or_zero (capacity_of g budget r) load scale ≡ index_of g loads scale budget r)
+
+top_of-kept : (g : Grid) (loads : List ℕ) (scale : ℕ) (budget : Option ℕ) (r load : ℕ) → IsLoadList g loads → KeepsGreatest g loads scale budget r load →
+    top_of g (set loads r load) scale budget ≡ top_of g loads scale budget
+top_of-kept g loads scale budget r load loaded keeps =
+    let here = index_of-here g loads scale budget r load (omega (arith, loaded.long, keeps.inside)) in
+    greatest-kept (index_of g loads scale budget) (index_of g (set loads r load) scale budget) (entries g) r
+    (λ k apart. index_of-others g loads scale budget r load k apart) (rw here keeps.low)
+    (elim keeps.other [ inl lower ↦ inl lower | inr same ↦ inr (here ∙ same) ])
+
+-- the price of each entry after the change
+price_of-after : (g : Grid) (loads : List ℕ) (scale : ℕ) (budget : Option ℕ) (r load : ℕ) → IsLoadList g loads → KeepsGreatest g loads scale budget r load → (k : ℕ) → k ≢ r →
+    price_of g loads scale budget k ≡ price_of g (set loads r load) scale budget k
+price_of-after g loads scale budget r load loaded keeps k apart =
+    ap (λ t. price_or_zero (capacity_of g budget k) t (index_of g loads scale budget k)) (sym (top_of-kept g loads scale budget r load loaded keeps))
+    ∙ ap (λ i. price_or_zero (capacity_of g budget k) (top_of g (set loads r load) scale budget) i) (sym (index_of-others g loads scale budget r load k apart))
+
+price_of-here : (g : Grid) (loads : List ℕ) (scale : ℕ) (budget : Option ℕ) (r load : ℕ) → IsLoadList g loads → KeepsGreatest g loads scale budget r load →
+    price_or_zero (capacity_of g budget r) (top_of g loads scale budget) (index_or_zero (capacity_of g budget r) load scale) ≡ price_of g (set loads r load) scale budget r
+price_of-here g loads scale budget r load loaded keeps =
+    ap (λ t. price_or_zero (capacity_of g budget r) t (index_or_zero (capacity_of g budget r) load scale)) (sym (top_of-kept g loads scale budget r load loaded keeps))
+    ∙ ap (λ i. price_or_zero (capacity_of g budget r) (top_of g (set loads r load) scale budget) i)
+    (sym (index_of-here g loads scale budget r load (omega (arith, loaded.long, keeps.inside))))
+
+vector-after : (g : Grid) (loads : List ℕ) (scale : ℕ) (budget : Option ℕ) (r load price : ℕ) → IsLoadList g loads → KeepsGreatest g loads scale budget r load →
+    price ≡ price_of g (set loads r load) scale budget r → (k : ℕ) → k < entries g →
+    get_or (set (price_vector g loads scale budget) r price) k 0 ≡ price_of g (set loads r load) scale budget k
+vector-after g loads scale budget r load price loaded keeps priced k below = elim (cases_eq k r) [
+  | inl here ↦ get_or-set_at (price_vector g loads scale budget) r k price 0 here (omega (arith, length-price_vector g loads scale budget, keeps.inside))
+      ∙ priced ∙ ap (price_of g (set loads r load) scale budget) (sym here)
+  | inr apart ↦ get_or-set_other (price_vector g loads scale budget) r k price 0 apart
+      ∙ entry-price_vector g loads scale budget k below ∙ price_of-after g loads scale budget r load loaded keeps k apart
+]
+
+-- the prices stay current where the greatest index stays and the entry gets its price
+pub IsCurrent-set : (g : Grid) (loads : List ℕ) (scale : ℕ) (budget : Option ℕ) (prices : List ℕ) (top : ℕ) (least lower : LeastPrices) (r load price : ℕ) →
+    IsLoadList g loads → IsCurrent g loads scale budget prices top least → KeepsGreatest g loads scale budget r load →
+    price ≡ price_or_zero (capacity_of g budget r) top (index_or_zero (capacity_of g budget r) load scale) → AreLeast g (set prices r price) lower →
+    IsCurrent g (set loads r load) scale budget (set prices r price) top lower
+IsCurrent-set g loads scale budget prices top least lower r load price loaded current keeps priced lowest =
+    let is : price ≡ price_of g (set loads r load) scale budget r =
+    priced ∙ ap (λ t. price_or_zero (capacity_of g budget r) t (index_or_zero (capacity_of g budget r) load scale)) current.greatest
+    ∙ price_of-here g loads scale budget r load loaded keeps in
+    record {
+      greatest = current.greatest ∙ sym (top_of-kept g loads scale budget r load loaded keeps);
+      vector = ap (λ xs. set xs r price) current.vector
+          ∙ fill_by_all (price_of g (set loads r load) scale budget) (set (price_vector g loads scale budget) r price) (entries g) 0
+          (length-set (price_vector g loads scale budget) r price ∙ length-price_vector g loads scale budget)
+          (vector-after g loads scale budget r load price loaded keeps is);
+      lowest = lowest;
+    }
+
+-- the least prices where one entry changes
+pub AreLeast-set : (g : Grid) (budget : Option ℕ) (prices : List ℕ) (least lower : LeastPrices) (r price top index : ℕ) → r < length prices → AreLeast g prices least →
+    price ≡ price_or_zero (capacity_of g budget r) top index → (r < edge_numbers g → 0 < price → least_along lower (edge_axis r) ≤ price) →
+    ((axis : Axis) → least_along lower axis ≤ least_along least axis) → AreLeast g (set prices r price) lower
+AreLeast-set g budget prices least lower r price top index inside low priced here others = record {
+  below = λ e number some. elim (cases_eq e r) [
+    | inl same ↦ rw (get_or-set_at prices r e price 0 same inside) (rw same (
+        let edge : r < edge_numbers g = omega (arith, same) in
+        let has : 0 < capacity_of g budget r = omega (arith, capacity_of-edge g budget r edge, ap (capacity g) same) in
+        here edge (omega (arith, priced, price_or_zero-positive (capacity_of g budget r) top index has))))
+    | inr apart ↦ rw (get_or-set_other prices r e price 0 apart) (omega (arith, others (edge_axis e), low.below e number some))
+  ];
+  within = λ axis. omega (arith, others axis, low.within axis);
+}
+
+-- what the test of a change says where it answers no
+stays_below : (top before after : ℕ) (moves : Bool) → (moves ≡ true) ↔ ((top < after) ⊎ ((before ≡ top) × (after < before))) → moves ≡ false → before ≤ top →
+    (after ≤ top) × ((before < top) ⊎ (after ≡ before))
+stays_below top before after moves means never within = elim (cases_lt top after) [
+  | inl above ↦ absurd (iff_false means never (inl above))
+  | inr low ↦ (
+    low,
+    elim (cases_lt before top) [
+      | inl lower ↦ inl lower
+      | inr same ↦ elim (cases_lt after before) [
+        | inl fell ↦ absurd (iff_false means never (inr (omega arith, fell)))
+        | inr kept ↦ inr (omega arith)
+      ]
+    ],
+  )
+]
+
+pub KeepsGreatest-by : (g : Grid) (loads : List ℕ) (scale : ℕ) (budget : Option ℕ) (r load top before after : ℕ) (moves : Bool) → r < entries g → top ≡ top_of g loads scale budget →
+    before ≡ index_of g loads scale budget r → after ≡ index_or_zero (capacity_of g budget r) load scale →
+    (moves ≡ true) ↔ ((top < after) ⊎ ((before ≡ top) × (after < before))) → moves ≡ false → KeepsGreatest g loads scale budget r load
+KeepsGreatest-by g loads scale budget r load top before after moves inside greatest was is means never =
+    let bound = le-greatest (index_of g loads scale budget) (entries g) r inside in
+    let stays = stays_below top before after moves means never (omega (arith, bound)) in
+    record {
+      inside = inside;
+      low = omega (arith, stays.0);
+      other = elim stays.1 [ inl lower ↦ inl (omega arith) | inr same ↦ inr (omega arith) ];
+    }

@@ -1,0 +1,10 @@
+pub mod Entries
+pub mod Greatest
+pub mod GroundPieces
+pub mod KeptSteps
+pub mod Layers
+pub mod Members
+pub mod PriceTable
+pub mod PriceVectors
+pub mod WeightFloors
+pub mod WeightLimits

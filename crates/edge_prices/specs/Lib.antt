@@ -1,0 +1,15 @@
+pub use Rattle.grid_base.specs.Numbers
+pub use Rattle.grid_graph.specs.Grids
+pub use Rattle.grid_graph.specs.Weighed
+pub mod Costings
+pub mod Demands
+pub mod Floors
+pub mod Greatest
+pub mod Kept
+pub mod KeptLists
+pub mod Limits
+pub mod PieceLists
+pub mod Prices
+pub mod Vectors
+pub mod Weighings
+pub mod Weights

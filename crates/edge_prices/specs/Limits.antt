@@ -1,0 +1,31 @@
+-- The limits of prices.
+use Rattle.std.specs.Prelude.{ℕ, ◌≤◌, ◌^◌, Option}
+use Rattle.std.specs.Option.{ForSome}
+
+-- the last index of the price table
+abbrev pub last_index : ℕ
+last_index = 255
+
+-- the greatest price of a price list
+abbrev pub max_price : ℕ
+max_price = 2 ^ 15
+
+-- the greatest load of a resource
+abbrev pub max_load : ℕ
+max_load = 2 ^ 62
+
+-- the greatest scale
+abbrev pub max_scale : ℕ
+max_scale = 16
+
+-- the greatest budget
+abbrev pub max_budget : ℕ
+max_budget = 2 ^ 42
+
+-- how strongly loads count
+abbrev pub IsScale : ℕ → Type 0
+IsScale scale = (1 ≤ scale) × (scale ≤ max_scale)
+
+-- a wirelength that is to be kept, or none
+abbrev pub IsBudget : Option ℕ → Type 0
+IsBudget budget = ForSome budget (λ most. (1 ≤ most) × (most ≤ max_budget))
