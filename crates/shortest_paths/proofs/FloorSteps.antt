@@ -1,0 +1,114 @@
+-- The grid distance, each step at its floor, changes along a piece by at most the piece's floor.
+use Rattle.std.proofs.Common.{◌≡◌, ℕ, ◌+◌, ◌-◌, ◌*◌, ◌^◌, ◌≤◌, List, min, sym, ◌∙◌, ap, subst, ⊎_elim, arith}
+use Rattle.std.specs.Int.{abs_diff}
+use Rattle.std.proofs.lemmas.Bool.Decides.{nat_tests}
+use Rattle.std.proofs.lemmas.Nat.{mul-le}
+use Rattle.grid_base.specs.declared.axis.Axis.{Axis}
+use Rattle.grid_base.specs.declared.axis.Axis.TheVariants.{X, Y}
+use Rattle.grid_base.specs.declared.piece.Piece.{Piece}
+use Rattle.grid_base.specs.declared.piece.Piece.TheVariants.{Edge, Via}
+use Rattle.grid_base.specs.declared.place.Place.{Place}
+use Rattle.grid_base.specs.declared.size.Size.{Size}
+use Rattle.grid_base.specs.Limits.{max_vertices}
+use Rattle.grid_base.specs.Numbers.{place_at, next_along, start_of, end_of, end_place, edge_axis, edge_start, IsVertex, IsInside, Goes}
+use Rattle.grid_base.proofs.Pieces.{place_at-end_of, end_of-vertex}
+use Rattle.grid_graph.specs.Limits.{max_weight}
+use Rattle.shortest_paths.specs.declared.floor_bound.FloorBound.{FloorBound}
+use Rattle.shortest_paths.specs.Floors.{floor_along, floor_of, AreFloors, floor_distance, floor_rest}
+use Rattle.shortest_paths.specs.Sets.{RisesSlowly}
+
+-- two numbers are at most so far apart
+abbrev AreWithin : ℕ → ℕ → ℕ → Type 0
+AreWithin a b gap = (a ≤ b + gap) × (b ≤ a + gap)
+
+-- a step more is a floor more at most
+scaled : (m n floor : ℕ) → m ≤ n + 1 → m * floor ≤ n * floor + floor
+scaled m n floor close = omega (arith, mul-le m floor (n + 1) floor close (omega arith))
+
+-- one step changes the difference to a number by at most one
+one_more : (c g floor : ℕ) → abs_diff (c + 1) g * floor ≤ abs_diff c g * floor + floor
+one_more c g floor = scaled (abs_diff (c + 1) g) (abs_diff c g) floor (omega arith)
+
+one_less : (c g floor : ℕ) → abs_diff c g * floor ≤ abs_diff (c + 1) g * floor + floor
+one_less c g floor = scaled (abs_diff c g) (abs_diff (c + 1) g) floor (omega arith)
+
+-- a step along an axis
+step_along : (along_x along_y via : ℕ) (axis : Axis) (p goal : Place) →
+    AreWithin (floor_distance along_x along_y via (next_along axis p) goal) (floor_distance along_x along_y via p goal) (floor_along along_x along_y axis)
+step_along along_x along_y via X p goal = (omega (arith, one_more p.col goal.col along_x), omega (arith, one_less p.col goal.col along_x))
+step_along along_x along_y via Y p goal = (omega (arith, one_more p.row goal.row along_y), omega (arith, one_less p.row goal.row along_y))
+
+-- the step of a piece
+step_of : (s : Size) (along_x along_y via : ℕ) (goal : Place) (p : Piece) →
+    AreWithin (floor_distance along_x along_y via (end_place s p) goal) (floor_distance along_x along_y via (place_at s (start_of p)) goal) (floor_of along_x along_y via p)
+step_of s along_x along_y via goal (Edge e) = step_along along_x along_y via (edge_axis e.0) (place_at s (edge_start e.0)) goal
+step_of s along_x along_y via goal (Via v) =
+    let here = place_at s v.0 in
+    (omega (arith, one_more here.layer goal.layer via), omega (arith, one_less here.layer goal.layer via))
+
+-- from a vertex
+pub floor_rest-vertex : (s : Size) (along_x along_y via : ℕ) (goal : Place) (v : ℕ) → IsVertex s v → floor_rest s along_x along_y via goal v ≡ floor_distance along_x along_y via (place_at s v) goal
+floor_rest-vertex s along_x along_y via goal v vertex = grind (arith, nat_tests, vertex)
+
+-- the ends of a piece
+ends_within : (s : Size) (along_x along_y via : ℕ) (goal : Place) (p : Piece) (a b : ℕ) → Goes s p a b →
+    AreWithin (floor_rest s along_x along_y via goal b) (floor_rest s along_x along_y via goal a) (floor_of along_x along_y via p)
+ends_within s along_x along_y via goal p a b goes =
+    let rest = floor_rest s along_x along_y via goal in
+    let far : Place → ℕ = λ q. floor_distance along_x along_y via q goal in
+    let at_end : rest b ≡ far (end_place s p) =
+    ap rest (sym goes.2) ∙ floor_rest-vertex s along_x along_y via goal (end_of s p) (end_of-vertex s p goes.0) ∙ ap far (place_at-end_of s p goes.0) in
+    let at_start : rest a ≡ far (place_at s (start_of p)) =
+    ap rest (sym goes.1) ∙ floor_rest-vertex s along_x along_y via goal (start_of p) goes.0.0 in
+    rw (at_end, at_start) (step_of s along_x along_y via goal p)
+
+-- where no piece weighs less than its floor, what is left rises slowly
+pub floor_rest-slow : (s : Size) (along_x along_y via : ℕ) (goal : Place) (pieces : List (Piece × ℕ)) → AreFloors along_x along_y via pieces →
+    RisesSlowly s pieces (floor_rest s along_x along_y via goal)
+floor_rest-slow s along_x along_y via goal pieces floors p weight a b weighs connects = ⊎_elim
+    (λ goes. omega (arith, (ends_within s along_x along_y via goal p a b goes).0, floors p weight weighs))
+    (λ goes. omega (arith, (ends_within s along_x along_y via goal p b a goes).1, floors p weight weighs))
+    connects
+
+lowered_axis : (along_x along_y limit : ℕ) (axis : Axis) → floor_along (min along_x limit) (min along_y limit) axis ≤ floor_along along_x along_y axis
+lowered_axis along_x along_y limit X = omega arith
+lowered_axis along_x along_y limit Y = omega arith
+
+lowered_piece : (along_x along_y via limit : ℕ) (p : Piece) → floor_of (min along_x limit) (min along_y limit) (min via limit) p ≤ floor_of along_x along_y via p
+lowered_piece along_x along_y via limit (Edge e) = lowered_axis along_x along_y limit (edge_axis e.0)
+lowered_piece along_x along_y via limit (Via v) = omega arith
+
+-- floors that are lowered to a limit are floors
+pub AreFloors-lowered : (along_x along_y via limit : ℕ) (pieces : List (Piece × ℕ)) → AreFloors along_x along_y via pieces → AreFloors (min along_x limit) (min along_y limit) (min via limit) pieces
+AreFloors-lowered along_x along_y via limit pieces floors p weight weighs = omega (arith, lowered_piece along_x along_y via limit p, floors p weight weighs)
+
+-- two sides of a rectangle are together at most its content and 1
+two_sides : (a b : ℕ) → (a + 1) + (b + 1) ≤ (a + 1) * (b + 1) + 1
+two_sides a b = omega arith
+
+sides_of : (a b : ℕ) → 1 ≤ a → 1 ≤ b → a + b ≤ a * b + 1
+sides_of a b has_a has_b =
+    let one_a : a - 1 + 1 ≡ a = omega arith in
+    let one_b : b - 1 + 1 ≡ b = omega arith in
+    subst (λ x. x + b ≤ x * b + 1) one_a (subst (λ y. a - 1 + 1 + y ≤ (a - 1 + 1) * y + 1) one_b (two_sides (a - 1) (b - 1)))
+
+-- three sides of a box are together at most its content and 2
+sides_within : (a b d : ℕ) → 1 ≤ a → 1 ≤ b → 1 ≤ d → a + b + d ≤ a * b * d + 2
+sides_within a b d has_a has_b has_d =
+    omega (arith, sides_of a b has_a has_b, sides_of (a * b) d (mul-le 1 1 a b has_a has_b) has_d)
+
+-- three products with numbers below a limit are together at most the sum's
+sum_within : (a b d x y z limit : ℕ) → x ≤ limit → y ≤ limit → z ≤ limit → a * x + b * y + d * z ≤ (a + b + d) * limit
+sum_within a b d x y z limit low_x low_y low_z =
+    omega (arith, mul-le a x a limit (omega arith) low_x, mul-le b y b limit (omega arith) low_y, mul-le d z d limit (omega arith) low_z)
+
+-- what is left to go is within the limit of bounds
+pub floor_distance-limit : (b : FloorBound) (here : Place) (cols rows layers : ℕ) → IsInside b.size here →
+    cols ≡ abs_diff here.col b.goal.col → rows ≡ abs_diff here.row b.goal.row → layers ≡ abs_diff here.layer b.goal.layer →
+    cols * b.along_x + rows * b.along_y + layers * b.via ≤ 2 ^ 61
+floor_distance-limit b here cols rows layers inside to_col to_row to_layer =
+    let s = b.size in
+    let few : cols + rows + layers ≤ max_vertices =
+    omega (arith, inside.0, inside.1, inside.2, b.inside.0, b.inside.1, b.inside.2, sides_within s.cols s.rows s.layers s.within.has_col s.within.has_row s.within.has_layer, s.within.vertex_limit) in
+    let sum = sum_within cols rows layers b.along_x b.along_y b.via max_weight b.low_x b.low_y b.low_via in
+    omega (arith, sum, mul-le (cols + rows + layers) max_weight max_vertices max_weight few (omega arith))

@@ -1,0 +1,13 @@
+pub mod Gaps
+pub mod Held
+pub mod Order
+pub mod Pigeons
+pub mod Law
+pub mod Sets
+pub mod Offers
+pub mod Spreading
+pub mod Distances
+pub mod Starting
+pub mod Backwards
+pub mod Repeats
+pub mod FloorSteps

@@ -1,0 +1,11 @@
+pub mod Heaps
+pub mod Held
+pub mod LabelStates
+pub mod LabelWords
+pub mod Numbers
+pub mod Searches
+pub mod Sets
+pub mod Stamped
+pub mod Paths
+pub mod Floors
+pub mod FloorBounds
