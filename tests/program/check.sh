@@ -7,8 +7,8 @@
 # Without a word it takes the program that `rt ci` left in crates/grouter/out, and has it built where there is none. It
 # prints a line for each case, then how many passed and failed, and fails where one did.
 #
-# The expected texts were worked out by hand. Where several routes are as short, a net has the one that is met first by a
-# search that goes from tile to tile in the order west, east, south, north, down, up.
+# The expected texts were worked out by hand. In these designs each net has only one route of least weight at the prices
+# of the nets before it, so none of the texts rests on a choice that is left to the program.
 set -u
 export LC_ALL=C
 

@@ -2,9 +2,11 @@ pub mod Pairs
 pub mod Endings
 pub mod Outcomes
 pub mod Traces
-pub mod Visits
-pub mod WayBack
+pub mod LightSteps
 pub mod TwoTerminals
 pub mod Causes
 pub mod Routings
 pub mod ReadBack
+pub mod WeighedLists
+pub mod LeastSets
+pub mod BoundFloors

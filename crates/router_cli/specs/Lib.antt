@@ -9,6 +9,8 @@ pub use Rattle.tree_set.specs.Loads
 pub use Rattle.tree_set.specs.Measures
 pub use Rattle.tree_set.specs.Order
 pub use Rattle.tree_set.specs.Routings
+pub use Rattle.sharing_runs.specs.SharingRuns
+pub use Rattle.sharing_runs.specs.NetSteps
 pub use Rattle.route_text.specs.RouteText
 pub use Rattle.route_text.specs.Blocks
 pub use Rattle.route_text.specs.ReadBack
@@ -19,5 +21,4 @@ pub mod Lines
 pub mod Traces
 pub mod Measured
 pub mod Steps
-pub mod Visits
-pub mod Walker
+pub mod LeastSets

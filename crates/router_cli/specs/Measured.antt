@@ -1,9 +1,10 @@
 -- A routed design, as the program holds it.
-use Rattle.std.specs.Prelude.{◌≡◌, All}
+use Rattle.std.specs.Prelude.{◌≡◌, [], ◌∷◌, None, All}
 use Rattle.tree_set.specs.Loads.{load}
 use Rattle.tree_set.specs.Measures.{overflow, wirelength}
 use Rattle.tree_set.specs.Order.{IsRising}
 use Rattle.tree_set.specs.Routings.{ArePieces, IsRouting}
+use Rattle.sharing_runs.specs.SharingRuns.{IsSharingRun}
 use Rattle.router_cli.specs.declared.routed_design.RoutedDesign.{RoutedDesign}
 use Rattle.router_cli.specs.RouteRun.{LeavesUnwired}
 use Rattle.grid_graph.specs.Grids.{size_of}
@@ -19,4 +20,5 @@ pub record IsRouted (r : RoutedDesign) : Type 0 where
   pub pieces : All (ArePieces (size_of r.design.grid)) r.trees.items
   pub routing : IsRouting r.design.grid r.design.nets r.trees.items
   pub unwired : LeavesUnwired r.design.nets r.trees.items
+  pub run : IsSharingRun r.design 1 None (r.trees.items ∷ [])
   pub measured : IsMeasured r

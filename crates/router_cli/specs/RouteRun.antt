@@ -13,6 +13,7 @@ use Rattle.tree_set.specs.Loads.{load}
 use Rattle.tree_set.specs.Measures.{overflow, wirelength}
 use Rattle.tree_set.specs.Order.{IsRising}
 use Rattle.tree_set.specs.Routings.{IsRouting}
+use Rattle.sharing_runs.specs.SharingRuns.{IsSharingRun}
 use Rattle.route_text.specs.RouteText.{routes_text}
 use Rattle.router_cli.specs.declared.refusal.Refusal.{Refusal}
 use Rattle.router_cli.specs.Lines.{measure_lines, status_of}
@@ -43,6 +44,9 @@ pub record IsReport (name : List ℕ) (told : Told) (text : List ℕ) : Type 0 w
   pub sets : All IsRising trees
   pub routing : IsRouting design.grid design.nets trees
   pub unwired : LeavesUnwired design.nets trees
+  -- each net in file order has a set of least weight at the prices of the load of the nets before it: a sharing run of one
+  -- phase by one worker, without a budget
+  pub run : IsSharingRun design 1 None (trees ∷ [])
   pub text_is : text ≡ report_of design trees
 
 -- ---- how a run ends

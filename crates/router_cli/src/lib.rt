@@ -9,8 +9,9 @@
 //! // wirelength 2
 //! ```
 //!
-//! It stands on `ispd_reader` for the design, `grid_base` and `grid_graph` for pieces and the nets' grounds, `tree_set` for routes and their
-//! measures, `route_text` for their text, `gr_desk` to read from and write to, and `itoa`.
+//! It stands on `ispd_reader` for the design, `grid_base` and `grid_graph` for pieces and the nets' grounds, `edge_prices` and
+//! `shortest_paths` for cheapest paths, `sharing_runs` for what a run is, `tree_set` for routes and their measures,
+//! `route_text` for their text, `gr_desk` to read from and write to, and `itoa`.
 //!
 //! Promised, in the words of `specs/Runs.antt`, which is the page to begin with: where the status is 0, the report has
 //! the route text of one set of pieces per net that joins the net's terminals in its ground, and the overflow and the
@@ -20,6 +21,7 @@
 #![tactic(auto)]
 
 mod laws;
+mod least_set;
 mod lines;
 mod prepared;
 mod refusal;
@@ -29,9 +31,6 @@ mod route;
 mod routed_design;
 mod routes;
 mod top;
-mod visit;
-mod walk;
-mod walker;
 mod words;
 
 pub use laws::reported_routes_read_back;

@@ -1,20 +1,27 @@
 //! Routes of all nets of a design.
 
-ghost use Rattle.std.specs.Prelude.{◌≡◌, IfOk, length, All};
-ghost use Rattle.grid_graph.specs.Grounds.{AreGrounds};
-ghost use Rattle.grid_graph.specs.Grids.{size_of};
+ghost use Rattle.std.specs.Prelude.{◌≡◌, ◌<◌, ◌≤◌, ℕ, None, [], ◌∷◌, IfOk, length, slice_index, All};
+ghost use Rattle.edge_prices.specs.KeptLists.{grid_of, scale_of, budget_of, loads_of, KeepsSetting};
+ghost use Rattle.grid_graph.specs.Grounds.{IsGround, AreGrounds};
+ghost use Rattle.grid_graph.specs.Grids.{size_of, IsNetWidth};
+ghost use Rattle.sharing_runs.specs.SharingRuns.{IsSharingRun};
+ghost use Rattle.sharing_runs.specs.NetSteps.{IsStep};
+ghost use Rattle.shortest_paths.specs.LabelWords as words;
 ghost use Rattle.tree_set.specs.Order.{IsRising};
 ghost use Rattle.tree_set.specs.Routings.{ArePieces, IsRouting};
 ghost use Rattle.router_cli.specs.Refusals.{HaveAtMostTwoTerminals};
 ghost use Rattle.router_cli.specs.RouteRun.{LeavesUnwired};
 
-use crate::walker::Walker;
+use crate::least_set::least_set;
+use edge_prices::KeptPrices;
 use grid_base::NoMemory;
-use grid_graph::{Design, Ground};
+use grid_graph::{Design, Grid, Ground, NetSpec};
+use sharing_runs::add_tree;
+use shortest_paths::Labels;
 use std::alloc::Global;
 use tree_set::Tree;
 
-/// A tree for each net, in file order: a breadth-first walk between two terminals in the net's ground.
+/// A tree for each net, in file order: of least weight at the prices of the loads of the nets before.
 pub fn route_nets(alloc: Global, design: &Design, grounds: &[Ground]) -> Result<Vec<Tree>, NoMemory>
     requires small { HaveAtMostTwoTerminals design.now.nets }
     requires grounds { AreGrounds design.now.grid design.now.nets grounds.now }
@@ -22,12 +29,60 @@ pub fn route_nets(alloc: Global, design: &Design, grounds: &[Ground]) -> Result<
     ensures pieces { IfOk result (λ trees. All (ArePieces (size_of design.now.grid)) trees.items) }
     ensures routing { IfOk result (λ trees. IsRouting design.now.grid design.now.nets trees.items) }
     ensures unwired { IfOk result (λ trees. LeavesUnwired design.now.nets trees.items) }
+    ensures run { IfOk result (λ trees. IsSharingRun design.now 1 None (trees.items ∷ [])) }
 {
-    let mut walker = Walker::new(alloc, design.grid.size())?;
+    let mut labels = Labels::new(alloc, design.grid.size(), 1)?;
+    let mut kept = without_loads(alloc, &design.grid)?;
     let mut trees = Vec::new(alloc);
     let nets = design.nets.list();
     for k in 0..nets.len() {
-        trees.push(walker.connect(&design.grid, grounds[k], nets[k].terminals.list())?)?;
+        let tree = route_net(alloc, &mut kept, &nets[k], grounds[k], &mut labels)?;
+        add_tree(&mut kept, &design.grid, nets[k].width, &tree);
+        trees.push(tree)?;
     }
     Ok(trees)
+}
+
+/// The prices of a grid that nothing is routed on, at scale 1.
+fn without_loads<'a>(alloc: Global, grid: &'a Grid) -> Result<KeptPrices<'a>, NoMemory>
+    ensures grid { IfOk result (λ k. grid_of k ≡ grid.now) }
+    ensures scale { IfOk result (λ k. scale_of k ≡ 1) }
+    ensures budget { IfOk result (λ k. budget_of k ≡ None) }
+    ensures loads { IfOk result (λ k. (r : ℕ) → slice_index (loads_of k) r ≡ 0) }
+{
+    let entries = 2 * grid.size().vertices() as usize + 1;
+    let loads = vec![in alloc; 0; entries]?;
+    let prices = vec![in alloc; 0; entries]?;
+    Ok(KeptPrices::new(grid, loads, 1, None, prices))
+}
+
+/// A step for a net: a tree of least weight at the prices of the loads so far.
+fn route_net(
+    alloc: Global,
+    kept: &mut KeptPrices<'_>,
+    net: &NetSpec,
+    over: Ground,
+    labels: &mut Labels,
+) -> Result<Tree, NoMemory>
+    requires scale { scale_of kept.old ≡ 1 }
+    requires budget { budget_of kept.old ≡ None }
+    requires labels { words.size_of labels.old ≡ size_of (grid_of kept.old) }
+    requires few { length net.now.terminals ≤ 2 }
+    requires width { IsNetWidth (grid_of kept.old) net.now.width }
+    requires ground { IsGround (grid_of kept.old) net.now.terminals over }
+    ensures step { IfOk result (λ tree. IsStep (grid_of kept.old) net.now (loads_of kept.old) 1 None tree) }
+    ensures none { length net.now.terminals < 2 → IfOk result (λ tree. tree ≡ []) }
+    ensures loads { loads_of kept.new ≡ loads_of kept.old }
+    ensures setting { KeepsSetting kept.old kept.new }
+    ensures labels { words.size_of labels.new ≡ words.size_of labels.old }
+{
+    kept.renew();
+    let weighing = kept.weighing(net.width, over);
+    least_set(
+        alloc,
+        &weighing,
+        weighing.floors(),
+        net.terminals.list(),
+        labels,
+    )
 }

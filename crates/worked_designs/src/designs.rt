@@ -51,6 +51,14 @@ pub const LAYERED: &[u8] =
 pub const WIDE_WIRES: &[u8] =
     b"grid 4 1 2\nvertical capacity 0 0\nhorizontal capacity 12 12\nminimum width 3 1\nminimum spacing 1 1\nvia spacing 1 1\n0 0 10 10\nnum net 1\na 0 2 2\n5 5 1\n35 5 1\n0\n";
 
+/// Four tiles on two layers, and three nets between the ends of the lower one.
+pub const SHARED_LAYERS: &[u8] =
+    b"grid 4 1 2\nvertical capacity 0 0\nhorizontal capacity 12 12\nminimum width 1 1\nminimum spacing 1 1\nvia spacing 1 1\n0 0 10 10\nnum net 3\na 0 2 1\n5 5 1\n35 5 1\nb 1 2 1\n5 5 1\n35 5 1\nc 2 2 1\n5 5 1\n35 5 1\n0\n";
+
+/// Two rows of three tiles, and three nets between the ends of the first, each of which uses four times what an edge has.
+pub const SHARED_ROW: &[u8] =
+    b"grid 3 2 1\nvertical capacity 2\nhorizontal capacity 2\nminimum width 1\nminimum spacing 1\nvia spacing 1\n0 0 10 10\nnum net 3\na 0 2 7\n5 5 1\n25 5 1\nb 1 2 7\n5 5 1\n25 5 1\nc 2 2 7\n5 5 1\n25 5 1\n0\n";
+
 /// Five rows and columns on two layers, and a net with a pin in the middle of each side and one in the middle.
 pub const STAR: &[u8] =
     b"grid 5 5 2\nvertical capacity 8 8\nhorizontal capacity 8 8\nminimum width 1 1\nminimum spacing 1 1\nvia spacing 1 1\n0 0 10 10\nnum net 1\na 0 5 1\n25 5 1\n25 45 1\n5 25 1\n45 25 1\n25 25 2\n0\n";

@@ -1,7 +1,8 @@
 //! Whole runs: the worked examples, and that memory suffices for them.
 
 use crate::designs::{
-    CHOKED_SQUARE, CRLF, FORCED, LAYERED, ROUND, ROW, STACK, WALLED, edited, vast,
+    CHOKED_SQUARE, CRLF, FORCED, LAYERED, ROUND, ROW, SHARED_LAYERS, SHARED_ROW, STACK, WALLED,
+    WIDE_WIRES, edited, vast,
 };
 use gr_desk::{CallKind, Desk, Fail as FailedCall, MemDesk, Port};
 use router_cli::run;
@@ -48,7 +49,14 @@ fn after_run(
 /// A text with the bytes between two places replaced, the status, and what is reported.
 type Routed = (&'static [u8], usize, usize, &'static [u8], u8, &'static str);
 
-const ROUTED: [Routed; 36] = [
+/// In each of these designs every net has only one set of least weight.
+///
+/// Where nothing is used yet all open edges have the same price, so the net with the wide wires goes up to the layer on
+/// which they are narrower. The edges of the first net in the shared layers then have a load of 2 of 12, which is one whole
+/// eighth and one step of the price, from 12446 to 12758. That is more than two vias, and so the second net goes up, and
+/// the third, which finds both layers alike, does not. In the shared row they have a load of 8 of 2, which is 32 steps: two
+/// edges at 12758 weigh more than four at 5777, and so the second net goes round, and the third does not.
+const ROUTED: [Routed; 39] = [
     (ROW, 0, 0, b"", 0, ROW_REPORT),
     (ROW, 29, 30, b"4", 0, ROW_REPORT),
     (ROW, 29, 52, b"4\nhorizontal capacity 1", 0, OVER_TWO),
@@ -115,6 +123,30 @@ const ROUTED: [Routed; 36] = [
         FORCED,
         0,
         "a 0\n(5,5,1)-(25,5,1)\n!\nb 1\n(5,15,1)-(15,15,1)\n(15,5,1)-(15,15,1)\n!\nc 2\n(5,5,1)-(5,15,1)\n!\noverflow 4\nwirelength 5\n",
+    ),
+    (
+        ROW,
+        0,
+        144,
+        WIDE_WIRES,
+        0,
+        "a 0\n(5,5,2)-(35,5,2)\n(5,5,1)-(5,5,2)\n(35,5,1)-(35,5,2)\n!\noverflow 0\nwirelength 5\n",
+    ),
+    (
+        ROW,
+        0,
+        144,
+        SHARED_LAYERS,
+        0,
+        "a 0\n(5,5,1)-(35,5,1)\n!\nb 1\n(5,5,2)-(35,5,2)\n(5,5,1)-(5,5,2)\n(35,5,1)-(35,5,2)\n!\nc 2\n(5,5,1)-(35,5,1)\n!\noverflow 0\nwirelength 11\n",
+    ),
+    (
+        ROW,
+        0,
+        144,
+        SHARED_ROW,
+        0,
+        "a 0\n(5,5,1)-(25,5,1)\n!\nb 1\n(5,15,1)-(25,15,1)\n(5,5,1)-(5,15,1)\n(25,5,1)-(25,15,1)\n!\nc 2\n(5,5,1)-(25,5,1)\n!\noverflow 52\nwirelength 8\n",
     ),
     (ROW, 139, 144, b"", 3, "refused 3 11 139 number\n"),
     (ROW, 101, 144, b"1099511627777", 3, "refused 3 12 101\n"),
@@ -274,9 +306,15 @@ fn words_are_refused_and_a_call_that_fails_has_its_status(rt: HostRuntime) -> Re
     Ok(())
 }
 
-/// In which column a net climbs is left to the walk. No edge leads along y on the first layer
-/// of the layered grid, so the net takes two edges along x there, two along y on the second layer, and a via up and one
-/// down. A thousand nets are routed too.
+/// The net of the layered grid climbs in one of three columns, and its sets of pieces are of the same weight.
+const LAYERED_REPORTS: [&str; 3] = [
+    "a 0\n(15,35,1)-(35,35,1)\n(15,15,2)-(15,35,2)\n(15,15,1)-(15,15,2)\n(15,35,1)-(15,35,2)\n!\noverflow 0\nwirelength 6\n",
+    "a 0\n(15,15,1)-(25,15,1)\n(25,35,1)-(35,35,1)\n(25,15,2)-(25,35,2)\n(25,15,1)-(25,15,2)\n(25,35,1)-(25,35,2)\n!\noverflow 0\nwirelength 6\n",
+    "a 0\n(15,15,1)-(35,15,1)\n(35,15,2)-(35,35,2)\n(35,15,1)-(35,15,2)\n(35,35,1)-(35,35,2)\n!\noverflow 0\nwirelength 6\n",
+];
+
+/// No edge leads along y on the first layer of the layered grid, so the net takes two edges along x there, two along y on
+/// the second layer, and a via up and one down. A thousand nets are routed too.
 #[test]
 fn a_net_takes_the_layers_that_it_needs(rt: HostRuntime) -> Result<(), Fail> {
     let alloc = rt.alloc();
@@ -284,7 +322,11 @@ fn a_net_takes_the_layers_that_it_needs(rt: HostRuntime) -> Result<(), Fail> {
     let (status, desk) = after_run(alloc, ROUTE, layered, Vec::new(alloc))?;
     assert_eq!(rt; status, 0);
     let report = desk.written(Port::Report);
-    assert!(rt; report.starts_with(b"a 0\n") && report.ends_with(b"!\noverflow 0\nwirelength 6\n"));
+    assert!(rt;
+        LAYERED_REPORTS
+            .iter()
+            .any(|least| report == least.as_bytes())
+    );
     let (status, desk) = after_run(alloc, ROUTE, vast(alloc, 1000)?, Vec::new(alloc))?;
     assert_eq!(rt; status, 0);
     assert!(rt;

@@ -23,7 +23,7 @@ returns-in-Ok g c =
     let reads = c.in-Ok.ensures.reads in
     let text = report_of d r.trees.items in
     let report : IsReport name before text =
-    record { design = d; named = c.in-Ok.ensures.named; trees = r.trees.items; sets = done.sets; routing = done.routing; unwired = done.unwired; text_is = refl } in
+    record { design = d; named = c.in-Ok.ensures.named; trees = r.trees.items; sets = done.sets; routing = done.routing; unwired = done.unwired; run = done.run; text_is = refl } in
     let added : (bytes : List ℕ) × Adds between after Report bytes = elim c.report.ensures.statuses [
       | inl zero ↦ (text, c.report.ensures.whole zero)
       | inr seven ↦ (take (c.report.ensures.part seven).0 text, (c.report.ensures.part seven).1)

@@ -1,0 +1,5 @@
+pub mod Spanning
+pub mod NetSteps
+pub mod Loads
+pub mod Parts
+pub mod SharingRuns
