@@ -40,6 +40,10 @@ pub record Puts (before after : PenTold) (bytes : List ℕ) : Type 0 where
 abbrev pub pen_told : {D : Type 0} → (D → Told) → Pen D → PenTold
 pen_told told pen = record { port = pen.port; told = told pen.desk.now; held = pen.held; failed = pen.failed }
 
+-- the same desk under the pen as before
+abbrev pub HasSameDesk : {D : Type 0} → Pen D → Pen D → Type 0
+HasSameDesk before after = after.desk.ghost_name ≡ before.desk.ghost_name
+
 -- a text ended: all of it went to the port since the desk told `start`, and no write failed; or a write failed, and some part from its front did
 pub record Ends {T E : Type 0} (start now : Told) (port : Port) (text : List ℕ) (result : Result T E) : Type 0 where
   pub all : OnOk result (Adds start now port text)

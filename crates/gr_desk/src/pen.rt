@@ -2,7 +2,7 @@
 
 ghost use Rattle.std.specs.Prelude.{◌≡◌, [], false, ℕ, List};
 ghost use Rattle.gr_desk.specs.Told.{Told};
-ghost use Rattle.gr_desk.specs.Pens.{Puts, IsPut, Ends, pen_told};
+ghost use Rattle.gr_desk.specs.Pens.{Puts, IsPut, Ends, pen_told, HasSameDesk};
 
 use crate::desk::Desk;
 use crate::failed::Failed;
@@ -40,7 +40,7 @@ impl<'a, D: Desk> Pen<'a, D> {
 
     /// Puts the bytes behind those that were put before.
     pub fn put(&mut self, bytes: &[u8])
-        ensures same_desk { self.new.desk.ghost_name ≡ self.old.desk.ghost_name }
+        ensures same_desk { HasSameDesk self.old self.new }
         ensures puts { Puts (pen_told D.told self.old) (pen_told D.told self.new) bytes.now }
     {
         if bytes.len() > self.held.room() {
@@ -71,7 +71,7 @@ impl<'a, D: Desk> Pen<'a, D> {
 
     /// Writes what is held back.
     fn flush(&mut self)
-        ensures same_desk { self.new.desk.ghost_name ≡ self.old.desk.ghost_name }
+        ensures same_desk { HasSameDesk self.old self.new }
         ensures puts { Puts (pen_told D.told self.old) (pen_told D.told self.new) [] }
         ensures empty { self.new.held ≡ [] }
     {
@@ -84,7 +84,7 @@ impl<'a, D: Desk> Pen<'a, D> {
     /// Writes bytes at once, where none are held back.
     fn pass(&mut self, bytes: &[u8])
         requires { self.old.held ≡ [] }
-        ensures same_desk { self.new.desk.ghost_name ≡ self.old.desk.ghost_name }
+        ensures same_desk { HasSameDesk self.old self.new }
         ensures puts { Puts (pen_told D.told self.old) (pen_told D.told self.new) bytes.now }
     {
         if !self.failed {

@@ -3,10 +3,11 @@ use Rattle.std.proofs.Common.{◌≡◌, ◌≢◌, ℕ, ◌+◌, ◌-◌, ◌<�
 use Rattle.std.specs.Option.{unwrap_or, option_or}
 use Rattle.std.proofs.lemmas.Bool.{cases_eq}
 use Rattle.text_scan.specs.Tokens.{Token}
+use Rattle.text_scan.specs.Reading.{tokens_left, past_blanks}
 use Rattle.grid_graph.specs.declared.grid.Grid.{Grid}
 use Rattle.grid_graph.specs.Grids.{capacity}
 use Rattle.ispd_reader.specs.declared.input_error.InputError.{InputError}
-use Rattle.ispd_reader.specs.Parsing.{Rest, Read, ◌>>=◌, Refuses, refusal_in, parts_at}
+use Rattle.ispd_reader.specs.Parsing.{Reading, Read, ◌>>=◌, Refuses, refusal_in, parts_at}
 use Rattle.ispd_reader.specs.Limits.{max_adjustments}
 use Rattle.ispd_reader.specs.Numbers.{count_at}
 use Rattle.ispd_reader.specs.Header.{Extent}
@@ -16,18 +17,18 @@ use Rattle.text_scan.proofs.Parts.{with_parts, Refuses-with}
 use Rattle.text_scan.proofs.InTurn.{begins, goes_on, ends, is_done}
 
 -- no token is left
-pub no_adjustments : (e : Extent) (rest : Rest) → rest.tokens ≡ [] → adjustments_at e rest ≡ Ok ([], rest)
+pub no_adjustments : (e : Extent) (r : Reading) → tokens_left r ≡ [] → adjustments_at e r ≡ Ok ([], past_blanks r)
 unfolding adjustments_at
-no_adjustments e rest h = let none : (length rest.tokens == 0) ≡ true = ap (λ (ts : List Token). length ts == 0) h in rw none refl
+no_adjustments e r h = let none : (length (tokens_left r) == 0) ≡ true = ap (λ (ts : List Token). length ts == 0) h in rw none refl
 
 some_left : (ts : List Token) → (ts ≡ [] → ⊥) → (length ts == 0) ≡ false
 some_left [] h = absurd (h refl)
 some_left (t ∷ ts) h = ne_eqb (length (t ∷ ts)) 0 (λ e. omega (arith, e))
 
 -- a token is left
-pub some_adjustments : (e : Extent) (rest : Rest) → (rest.tokens ≡ [] → ⊥) → adjustments_at e rest ≡ (count_at max_adjustments rest >>= λ count. parts_at (adjustment_at e) 0 count.0 count.1)
+pub some_adjustments : (e : Extent) (r : Reading) → (tokens_left r ≡ [] → ⊥) → adjustments_at e r ≡ (count_at max_adjustments (past_blanks r) >>= λ count. parts_at (adjustment_at e) 0 count.0 count.1)
 unfolding adjustments_at
-some_adjustments e rest h = let some : (length rest.tokens == 0) ≡ false = some_left rest.tokens h in rw some refl
+some_adjustments e r h = let some : (length (tokens_left r) == 0) ≡ false = some_left (tokens_left r) h in rw some refl
 
 option_or_none : (x : Option ℕ) → option_or None x ≡ option_or x None
 option_or_none None = refl
@@ -58,39 +59,39 @@ IsAdjusted-push old now new done a so_far step = record {
 }
 
 -- the adjustments that were made so far, in a grid of this size
-pub record AreAdjustments (old now : Grid) (e : Extent) (first rest : Rest) (count i : ℕ) : Type 0 where
+pub record AreAdjustments (old now : Grid) (e : Extent) (first r : Reading) (count i : ℕ) : Type 0 where
   pub done : List Adjustment
-  pub reading : with_parts done (parts_at (adjustment_at e) i (count - i) rest) ≡ adjustments_at e first
+  pub reading : with_parts done (parts_at (adjustment_at e) i (count - i) r) ≡ adjustments_at e first
   pub adjusted : IsAdjusted old now done
 
 -- before the first
-pub no_adjustment_yet : (g : Grid) (e : Extent) (first rest : Rest) (count : ℕ) → (first.tokens ≡ [] → ⊥) → count_at max_adjustments first ≡ Ok (count, rest) → AreAdjustments g g e first rest count 0
-no_adjustment_yet g e first rest count some read =
+pub no_adjustment_yet : (g : Grid) (e : Extent) (first r : Reading) (count : ℕ) → (tokens_left first ≡ [] → ⊥) → count_at max_adjustments (past_blanks first) ≡ Ok (count, r) → AreAdjustments g g e first r count 0
+no_adjustment_yet g e first r count some read =
     record {
       done = [];
-      reading = begins (adjustment_at e) count rest ∙ sym (some_adjustments e first some ∙ ap (λ (r : Read ℕ). r >>= λ count. parts_at (adjustment_at e) 0 count.0 count.1) read);
+      reading = begins (adjustment_at e) count r ∙ sym (some_adjustments e first some ∙ ap (λ (r : Read ℕ). r >>= λ count. parts_at (adjustment_at e) 0 count.0 count.1) read);
       adjusted = IsAdjusted-none g;
     }
 
 -- with one more
-pub one_more_adjustment : (old now new : Grid) (e : Extent) (first rest after : Rest) (count i : ℕ) (a : Adjustment) → i < count → AreAdjustments old now e first rest count i → adjustment_at e i rest ≡ Ok (a, after) → IsAdjustedBy now new a →
+pub one_more_adjustment : (old now new : Grid) (e : Extent) (first r after : Reading) (count i : ℕ) (a : Adjustment) → i < count → AreAdjustments old now e first r count i → adjustment_at e i r ≡ Ok (a, after) → IsAdjustedBy now new a →
     AreAdjustments old new e first after count (i + 1)
-one_more_adjustment old now new e first rest after count i a lt so_far read step =
+one_more_adjustment old now new e first r after count i a lt so_far read step =
     record {
       done = so_far.done ++ a ∷ [];
-      reading = goes_on (adjustment_at e) so_far.done count i rest a after (adjustments_at e first) lt read so_far.reading;
+      reading = goes_on (adjustment_at e) so_far.done count i r a after (adjustments_at e first) lt read so_far.reading;
       adjusted = IsAdjusted-push old now new so_far.done a so_far.adjusted step;
     }
 
 -- the next one is refused
-pub adjustment_refused : (old now : Grid) (e : Extent) (first rest : Rest) (count i : ℕ) (error : InputError) → i < count → AreAdjustments old now e first rest count i → Refuses refusal_in error (adjustment_at e i rest) → Refuses refusal_in error (adjustments_at e first)
-adjustment_refused old now e first rest count i error lt so_far refused =
-    ends refusal_in (adjustment_at e) error so_far.done count i rest (adjustments_at e first) lt refused so_far.reading
+pub adjustment_refused : (old now : Grid) (e : Extent) (first r : Reading) (count i : ℕ) (error : InputError) → i < count → AreAdjustments old now e first r count i → Refuses refusal_in error (adjustment_at e i r) → Refuses refusal_in error (adjustments_at e first)
+adjustment_refused old now e first r count i error lt so_far refused =
+    ends refusal_in (adjustment_at e) error so_far.done count i r (adjustments_at e first) lt refused so_far.reading
 
 -- all are made
-pub all_adjusted : (old now : Grid) (e : Extent) (first rest : Rest) (count i : ℕ) → count ≤ i → AreAdjustments old now e first rest count i → (adjustments : List Adjustment) × (adjustments_at e first ≡ Ok (adjustments, rest)) × IsAdjusted old now adjustments
-all_adjusted old now e first rest count i le so_far =
-    (so_far.done, is_done (adjustment_at e) so_far.done count i rest (adjustments_at e first) le so_far.reading, so_far.adjusted)
+pub all_adjusted : (old now : Grid) (e : Extent) (first r : Reading) (count i : ℕ) → count ≤ i → AreAdjustments old now e first r count i → (adjustments : List Adjustment) × (adjustments_at e first ≡ Ok (adjustments, r)) × IsAdjusted old now adjustments
+all_adjusted old now e first r count i le so_far =
+    (so_far.done, is_done (adjustment_at e) so_far.done count i r (adjustments_at e first) le so_far.reading, so_far.adjusted)
 
 -- an adjustment of one edge
 pub one_edge : (old new : Grid) (x level : ℕ) → capacity new x ≡ level → ((e : ℕ) → e ≢ x → capacity new e ≡ capacity old e) → (e : ℕ) → capacity new e ≡ unwrap_or (level_where e (Some x) level) (capacity old e)
@@ -100,7 +101,7 @@ one_edge old new x level here others e = ⊎_elim
     (cases_eq x e)
 
 -- the count is refused
-pub count_refused : (e : Extent) (first : Rest) (error : InputError) → (first.tokens ≡ [] → ⊥) → Refuses refusal_in error (count_at max_adjustments first) → Refuses refusal_in error (adjustments_at e first)
+pub count_refused : (e : Extent) (first : Reading) (error : InputError) → (tokens_left first ≡ [] → ⊥) → Refuses refusal_in error (count_at max_adjustments (past_blanks first)) → Refuses refusal_in error (adjustments_at e first)
 count_refused e first error some refused =
-    Refuses-with refusal_in error (count_at max_adjustments first) (adjustments_at e first)
+    Refuses-with refusal_in error (count_at max_adjustments (past_blanks first)) (adjustments_at e first)
     (λ fault is. some_adjustments e first some ∙ ap (λ (r : Read ℕ). r >>= λ count. parts_at (adjustment_at e) 0 count.0 count.1) is) refused

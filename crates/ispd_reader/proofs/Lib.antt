@@ -1,11 +1,9 @@
 pub mod AdjustSteps
 pub mod Alike
-pub mod AlikeCutOff
 pub mod AlikeGrounds
 pub mod Distinct
 pub mod Limits
 pub mod NetNames
 pub mod NetSteps
-pub mod Places
 pub mod Ranges
 pub mod Whole

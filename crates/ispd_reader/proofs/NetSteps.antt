@@ -18,42 +18,42 @@ use Rattle.grid_graph.specs.Lists.{At}
 use Rattle.grid_graph.specs.Nets.{IdsDiffer, IsNet}
 use Rattle.ispd_reader.specs.declared.input_error.InputError.{InputError}
 use Rattle.text_scan.proofs.Parts.{with_parts, with_parts-one, Refuses-with}
-use Rattle.ispd_reader.specs.Parsing.{Rest, Read, ◌>>=◌, Refuses, refusal_in}
+use Rattle.ispd_reader.specs.Parsing.{Reading, Read, ◌>>=◌, Refuses, refusal_in}
 use Rattle.ispd_reader.specs.Header.{Header}
 use Rattle.ispd_reader.specs.Nets.{Net, greatest, without_repeats, net_at, more_nets_at}
 use Rattle.ispd_reader.specs.Views.{numbers, net_of, nets_of}
 use Rattle.ispd_reader.proofs.Distinct.{not_at}
 
 -- one more net was read
-pub net_goes_on : (header : Header) (before : List Net) (pins : ℕ) (taken new : ℕ → Bool) (count i : ℕ) (rest : Rest) (net : Net) (more : ℕ) (after : Rest) (total : Read (List Net)) →
-    i < count → ((q : ℕ) → new q ≡ (q == net.id || taken q)) → net_at header taken pins rest ≡ Ok ((net, more), after) → with_parts before (more_nets_at header taken pins (count - i) rest) ≡ total →
+pub net_goes_on : (header : Header) (before : List Net) (pins : ℕ) (taken new : ℕ → Bool) (count i : ℕ) (r : Reading) (net : Net) (more : ℕ) (after : Reading) (total : Read (List Net)) →
+    i < count → ((q : ℕ) → new q ≡ (q == net.id || taken q)) → net_at header taken pins r ≡ Ok ((net, more), after) → with_parts before (more_nets_at header taken pins (count - i) r) ≡ total →
     with_parts (before ++ net ∷ []) (more_nets_at header new more (count - (i + 1)) after) ≡ total
 unfolding more_nets_at
-net_goes_on header before pins taken new count i rest net more after total lt same h so_far =
+net_goes_on header before pins taken new count i r net more after total lt same h so_far =
     let k : count - i ≡ suc (count - (i + 1)) = omega arith in
     let ids : new ≡ (λ q. q == net.id || taken q) = fun_ext same in
     let behind = more_nets_at header new more (count - (i + 1)) after in
-    let one : more_nets_at header taken pins (count - i) rest ≡ (behind >>= λ more. Ok (net ∷ more.0, more.1)) = rw (k, h, ids) refl in
+    let one : more_nets_at header taken pins (count - i) r ≡ (behind >>= λ more. Ok (net ∷ more.0, more.1)) = rw (k, h, ids) refl in
     sym (with_parts-one before net behind) ∙ sym (ap (with_parts before) one) ∙ so_far
 
 -- the next net was refused
-pub net_ends : (e : InputError) (header : Header) (before : List Net) (pins : ℕ) (taken : ℕ → Bool) (count i : ℕ) (rest : Rest) (total : Read (List Net)) →
-    i < count → Refuses refusal_in e (net_at header taken pins rest) → with_parts before (more_nets_at header taken pins (count - i) rest) ≡ total → Refuses refusal_in e total
+pub net_ends : (e : InputError) (header : Header) (before : List Net) (pins : ℕ) (taken : ℕ → Bool) (count i : ℕ) (r : Reading) (total : Read (List Net)) →
+    i < count → Refuses refusal_in e (net_at header taken pins r) → with_parts before (more_nets_at header taken pins (count - i) r) ≡ total → Refuses refusal_in e total
 unfolding more_nets_at
-net_ends e header before pins taken count i rest total lt refused so_far =
-    Refuses-with refusal_in e (net_at header taken pins rest) total (λ fault is.
+net_ends e header before pins taken count i r total lt refused so_far =
+    Refuses-with refusal_in e (net_at header taken pins r) total (λ fault is.
     let k : count - i ≡ suc (count - (i + 1)) = omega arith in
-    let one : more_nets_at header taken pins (count - i) rest ≡ Err fault = rw (k, is) refl in
+    let one : more_nets_at header taken pins (count - i) r ≡ Err fault = rw (k, is) refl in
     sym so_far ∙ ap (with_parts before) one) refused
 
 -- all nets were read
-pub nets_done : (header : Header) (before : List Net) (pins : ℕ) (taken : ℕ → Bool) (count i : ℕ) (rest : Rest) (total : Read (List Net)) →
-    count ≤ i → with_parts before (more_nets_at header taken pins (count - i) rest) ≡ total → total ≡ Ok (before, rest)
+pub nets_done : (header : Header) (before : List Net) (pins : ℕ) (taken : ℕ → Bool) (count i : ℕ) (r : Reading) (total : Read (List Net)) →
+    count ≤ i → with_parts before (more_nets_at header taken pins (count - i) r) ≡ total → total ≡ Ok (before, r)
 unfolding more_nets_at
-nets_done header before pins taken count i rest total le so_far =
+nets_done header before pins taken count i r total le so_far =
     let k : count - i ≡ 0 = omega arith in
-    let none : more_nets_at header taken pins (count - i) rest ≡ Ok ([], rest) = rw k refl in
-    sym so_far ∙ ap (with_parts before) none ∙ ap (λ (nets : List Net). Ok (nets, rest)) (append-nil before)
+    let none : more_nets_at header taken pins (count - i) r ≡ Ok ([], r) = rw k refl in
+    sym so_far ∙ ap (with_parts before) none ∙ ap (λ (nets : List Net). Ok (nets, r)) (append-nil before)
 
 le_fold : (xs : List ℕ) (a : ℕ) → a ≤ fold max a xs
 le_fold [] a = le_refl a

@@ -1,23 +1,15 @@
 -- Numbers within their limits.
-use Rattle.std.proofs.Common.{◌≡◌, ℕ, ◌*◌, ◌≤◌, ◌<◌, true, false, ◌↔◌, Option, Some, None, IsSome, IfSome, ℤ, pos, negsuc, refl, sym, ap, ◌∙◌, ⊎_elim, arith, nat_abs, ◌-ℤ◌, ◌≤ℤ◌, int_lt, ltb, eqb}
+use Rattle.std.proofs.Common.{◌≡◌, ℕ, ◌≤◌, true, false, ◌↔◌, Option, Some, None, IsSome, IfSome, ℤ, pos, negsuc, refl, sym, ap, ◌∙◌, ⊎_elim, arith}
 use Rattle.std.specs.Option.{option_map}
 use Rattle.std.proofs.lemmas.Bool.{cases_Bool}
 use Rattle.std.proofs.lemmas.Bool.Decides.{nat_tests}
-use Rattle.std.proofs.lemmas.Int.{ints}
-use Rattle.std.proofs.lemmas.Option.{none-some, cond_some}
-use Rattle.std.proofs.lemmas.Nat.{div_below}
-use Rattle.grid_graph.specs.Tiles.{tile_index}
+use Rattle.std.proofs.lemmas.Option.{none-some}
 use Rattle.grid_base.specs.declared.size.Size.{Size}
 use Rattle.grid_base.specs.Numbers.{cols, rows, layers}
 use Rattle.grid_base.specs.Limits.{IsGridSize}
-use Rattle.ispd_reader.specs.Within.{within}
+use Rattle.text_scan.specs.Within.{within}
 use Rattle.ispd_reader.specs.Header.{Extent, is_size, natural, extent_of}
 use Rattle.ispd_reader.specs.Views.{extent_of_size}
-
--- a number within its limits
-pub within_bounds : (lo hi : ℕ) (z : ℤ) (n : ℕ) → within lo hi z ≡ Some n → (z ≡ pos n) × (lo ≤ n) × (n ≤ hi)
-within_bounds lo hi (pos m) n h = let p = cond_some _ m n h in (ap pos p.1, grind (arith, nat_tests), grind (arith, nat_tests))
-within_bounds lo hi (negsuc m) n h = absurd (none-some n h)
 
 -- a number beyond them
 pub within_none : (hi : ℕ) (z : ℤ) → within 1 hi z ≡ None → 1 ≤ natural z → natural z ≤ hi → ⊥
@@ -62,24 +54,3 @@ size_is n m k None limits has_cols has_rows has_layers = sym (no_extent (pos n) 
 size_is n m k (Some s) limits has_cols has_rows has_layers =
     let same : extent_of_size s ≡ record { cols = n; rows = m; layers = k } = cc in
     ap (λ e. Some e) same ∙ sym (extent_made n m k (limits.0 refl))
-
-abs_positive : (t : ℤ) → pos 1 ≤ℤ t → 0 < nat_abs t
-abs_positive (pos n) h = omega (arith, ints)
-abs_positive (negsuc n) h = absurd (omega (arith, ints))
-
--- a tile is one of them
-pub tile_below : (origin tile : ℤ) (count : ℕ) (x : ℤ) → pos 1 ≤ℤ tile → 1 ≤ count → IfSome (tile_index origin tile count x) (λ i. i < count)
-tile_below origin tile count x wide some =
-    let d = nat_abs (x -ℤ origin) in
-    let w = nat_abs tile in
-    let positive : 0 < w = abs_positive tile wide in
-    ⊎_elim
-    (λ (e : int_lt x origin ≡ true). rw e tt)
-    (λ (e : int_lt x origin ≡ false). ⊎_elim
-    (λ (f : ltb d (count * w) ≡ true). let lt : d < count * w = grind (arith, nat_tests) in rw (e, f) (div_below d w count positive lt))
-    (λ (f : ltb d (count * w) ≡ false). ⊎_elim
-    (λ (g : eqb d (count * w) ≡ true). rw (e, f, g) (omega arith))
-    (λ (g : eqb d (count * w) ≡ false). rw (e, f, g) tt)
-    (cases_Bool (eqb d (count * w))))
-    (cases_Bool (ltb d (count * w))))
-    (cases_Bool (int_lt x origin))

@@ -4,7 +4,7 @@ use Rattle.grid_graph.specs.declared.grid.Grid.{Grid}
 use Rattle.grid_graph.specs.Grids.{size_of, layout_of, capacity}
 use Rattle.ispd_reader.specs.declared.adjustment.Adjustment.{Adjustment as AdjustmentOfOne}
 use Rattle.ispd_reader.specs.declared.input_error.InputError.{InputError}
-use Rattle.ispd_reader.specs.Parsing.{Rest, Refuses, refusal_in}
+use Rattle.ispd_reader.specs.Parsing.{Reading, Refuses, refusal_in}
 use Rattle.ispd_reader.specs.Adjustments.{Adjustment, adjustments_at, level_where, last_level}
 use Rattle.ispd_reader.specs.Views.{extent_of_size}
 
@@ -23,7 +23,7 @@ pub record IsAdjusted (old new : Grid) (adjustments : List Adjustment) : Type 0 
   pub kept : layout_of new ≡ layout_of old
 
 -- the grid is adjusted by what the tokens say, or they say what is refused
-abbrev pub Adjusts : Result (Unit {0}) InputError → Grid → Grid → Rest → Rest → Type 0
+abbrev pub Adjusts : Result (Unit {0}) InputError → Grid → Grid → Reading → Reading → Type 0
 Adjusts (Ok done) old new before after =
     (adjustments : List Adjustment) × (adjustments_at (extent_of_size (size_of old)) before ≡ Ok (adjustments, after)) × IsAdjusted old new adjustments
 Adjusts (Err e) old new before after = Refuses refusal_in e (adjustments_at (extent_of_size (size_of old)) before)

@@ -6,9 +6,10 @@ use Rattle.grid_base.specs.declared.axis.Axis.TheVariants.{X, Y}
 use Rattle.grid_base.specs.Numbers.{distance, edge_along}
 use Rattle.ispd_reader.specs.declared.input_fault.InputFault.TheVariants.{AdjustmentPlace}
 use Rattle.ispd_reader.specs.Limits.{max_adjustments}
-use Rattle.ispd_reader.specs.Parsing.{Rest, Read, ◌>>=◌, or_refuse, parts_at}
+use Rattle.ispd_reader.specs.Parsing.{Reading, Read, ◌>>=◌, or_refuse, parts_at}
 use Rattle.ispd_reader.specs.Numbers.{number_at, capacity_at, count_at}
-use Rattle.ispd_reader.specs.Within.{within}
+use Rattle.text_scan.specs.Reading.{tokens_left, past_blanks}
+use Rattle.text_scan.specs.Within.{within}
 use Rattle.ispd_reader.specs.Header.{Extent}
 use Rattle.ispd_reader.specs.Nets.{vertex_at}
 
@@ -43,26 +44,26 @@ step_between e (Some a) None = None
 step_between e (Some a) (Some b) = if distance a b == 1 then Some (edge_between e a b) else None
 
 -- a tile of an adjustment: column, row, layer, and the place of the layer's token
-unfoldable pub tile_place_at : Extent → Rest → Read (Option Place × ℕ)
-tile_place_at e rest = do
-  col ← number_at rest
+unfoldable pub tile_place_at : Extent → Reading → Read (Option Place × ℕ)
+tile_place_at e r = do
+  col ← number_at r
   row ← number_at col.1
   layer ← number_at row.1
   Ok ((place_in e col.0.value row.0.value layer.0.value, layer.0.at), layer.1)
 
 -- an adjustment: two tiles and the level; adjustments count from 0
-unfoldable pub adjustment_at : Extent → ℕ → Rest → Read Adjustment
-adjustment_at e index rest = do
-  from ← tile_place_at e rest
+unfoldable pub adjustment_at : Extent → ℕ → Reading → Read Adjustment
+adjustment_at e index r = do
+  from ← tile_place_at e r
   to ← tile_place_at e from.1
   edge ← or_refuse (step_between e from.0.0 to.0.0) (AdjustmentPlace to.0.1 index)
   level ← capacity_at to.1
   Ok (record { edge = edge; level = level.0 }, level.1)
 
 -- how many adjustments, and the adjustments; none where no token is left
-unfoldable pub adjustments_at : Extent → Rest → Read (List Adjustment)
-adjustments_at e rest = if length rest.tokens == 0 then Ok ([], rest) else do
-  count ← count_at max_adjustments rest
+unfoldable pub adjustments_at : Extent → Reading → Read (List Adjustment)
+adjustments_at e r = if length (tokens_left r) == 0 then Ok ([], past_blanks r) else do
+  count ← count_at max_adjustments (past_blanks r)
   parts_at (adjustment_at e) 0 count.0 count.1
 
 -- the level of an adjustment, where this is the edge that it names

@@ -5,7 +5,8 @@ use Rattle.grid_graph.specs.Grids.{layout_of, capacity, first_capacity}
 use Rattle.ispd_reader.specs.declared.input_fault.InputFault.{InputFault}
 use Rattle.ispd_reader.specs.declared.input_fault.InputFault.TheVariants.{TooLong}
 use Rattle.ispd_reader.specs.Limits.{max_bytes}
-use Rattle.ispd_reader.specs.Parsing.{Rest, all_of, ◌>>=◌}
+use Rattle.text_scan.specs.Reading.{whole}
+use Rattle.ispd_reader.specs.Parsing.{Reading, ◌>>=◌}
 use Rattle.ispd_reader.specs.Header.{Header, header_at}
 use Rattle.ispd_reader.specs.Nets.{Net, nets_at}
 use Rattle.ispd_reader.specs.Views.{header_of, net_of}
@@ -18,16 +19,16 @@ pub record Contents : Type 0 where
   pub adjustments : List Adjustment
 
 -- all parts of a text; what comes after the last adjustment is ignored
-unfoldable pub contents_at : Rest → Result Contents InputFault
-contents_at rest = do
-  header ← header_at rest
+unfoldable pub contents_at : Reading → Result Contents InputFault
+contents_at r = do
+  header ← header_at r
   nets ← nets_at header.0 header.1
   adjustments ← adjustments_at header.0.extent nets.1
   Ok (record { header = header.0; nets = nets.0; adjustments = adjustments.0 })
 
 -- what a text that isn't too long says, or its first refusal in the order of reading
 abbrev pub contents_of : List ℕ → Result Contents InputFault
-contents_of text = if nat_lt max_bytes (length text) then Err TooLong else contents_at (all_of text)
+contents_of text = if nat_lt max_bytes (length text) then Err TooLong else contents_at (whole text)
 
 -- a design is what a text says: the header, the capacities by the last adjustment of each edge, and the nets
 pub record IsDesignOf (d : Design) (c : Contents) : Type 0 where

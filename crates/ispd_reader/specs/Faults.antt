@@ -37,14 +37,4 @@ fields_of (AdjustmentPlace at index) = at ∷ index ∷ []
 -- the word that was wanted, where one was
 abbrev pub wanted_of : InputFault → Option Wanted
 wanted_of (Syntax at wanted) = Some wanted
-wanted_of (Range at) = None
-wanted_of TooLong = None
-wanted_of (GridSize at) = None
-wanted_of (TileSize at) = None
-wanted_of (CapacityLimit at) = None
-wanted_of (WidthLimit at) = None
-wanted_of (NetLimit at) = None
-wanted_of (DuplicateId at id) = None
-wanted_of (PinOutside at id pin) = None
-wanted_of (PinLayer at id pin) = None
-wanted_of (AdjustmentPlace at index) = None
+wanted_of _ = None

@@ -6,7 +6,6 @@ pub mod Limits
 pub mod Faults
 pub mod Refusals
 pub mod Parsing
-pub mod Within
 pub mod Numbers
 pub mod Header
 pub mod Nets

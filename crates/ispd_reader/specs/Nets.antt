@@ -4,9 +4,9 @@ use Rattle.grid_graph.specs.Limits.{max_demand, max_id, max_nets, max_pins}
 use Rattle.grid_graph.specs.Tiles.{tile_index}
 use Rattle.ispd_reader.specs.declared.input_fault.InputFault.TheVariants.{Range, WidthLimit, DuplicateId, PinOutside, PinLayer}
 use Rattle.ispd_reader.specs.declared.wanted.Wanted.TheVariants as wanted
-use Rattle.ispd_reader.specs.Parsing.{Rest, Read, ◌>>=◌, or_refuse, parts_at}
+use Rattle.ispd_reader.specs.Parsing.{Reading, Read, ◌>>=◌, or_refuse, parts_at}
 use Rattle.ispd_reader.specs.Numbers.{word_at, name_at, number_at, number_within, count_at}
-use Rattle.ispd_reader.specs.Within.{within}
+use Rattle.text_scan.specs.Within.{within}
 use Rattle.ispd_reader.specs.Header.{Extent, Header}
 
 -- a net; its terminals are vertices by number
@@ -30,14 +30,14 @@ abbrev pub greatest : List ℕ → ℕ
 greatest spacings = fold max 0 spacings
 
 -- the id of a net: a number of 32 bits that is not taken
-unfoldable pub id_at : (ℕ → Bool) → Rest → Read ℕ
-id_at taken rest = do
-  number ← number_at rest
+unfoldable pub id_at : (ℕ → Bool) → Reading → Read ℕ
+id_at taken r = do
+  number ← number_at r
   id ← or_refuse (within 0 max_id number.0.value) (Range number.0.at)
   if taken id then Err (DuplicateId number.0.at id) else Ok (id, number.1)
 
 -- the width of a net: with the greatest spacing it is at most the greatest demand
-abbrev pub net_width_at : Header → Rest → Read ℕ
+abbrev pub net_width_at : Header → Reading → Read ℕ
 net_width_at header = number_within 0 (max_demand - greatest header.spacings) WidthLimit
 
 -- the tile of a position along one axis, where it is inside the grid: the upper border belongs to the last tile
@@ -45,9 +45,9 @@ unfoldable pub tile_along : ℤ → ℤ → ℕ → ℤ → Option ℕ
 tile_along origin tile count position = tile_index origin tile count position
 
 -- a pin of a net, as the vertex of its tile: x, y, layer
-unfoldable pub pin_at : Header → ℕ → ℕ → Rest → Read ℕ
-pin_at header id pin rest = do
-  x ← number_at rest
+unfoldable pub pin_at : Header → ℕ → ℕ → Reading → Read ℕ
+pin_at header id pin r = do
+  x ← number_at r
   col ← or_refuse (tile_along header.origin.0 header.tile.0 header.extent.cols x.0.value) (PinOutside x.0.at id pin)
   y ← number_at x.1
   row ← or_refuse (tile_along header.origin.1 header.tile.1 header.extent.rows y.0.value) (PinOutside y.0.at id pin)
@@ -56,13 +56,13 @@ pin_at header id pin rest = do
   Ok (vertex_at header.extent col row (level - 1), layer.1)
 
 -- so many pins, which count from 0 within their net
-unfoldable pub pins_at : Header → ℕ → ℕ → Rest → Read (List ℕ)
-pins_at header id count rest = parts_at (pin_at header id) 0 count rest
+unfoldable pub pins_at : Header → ℕ → ℕ → Reading → Read (List ℕ)
+pins_at header id count r = parts_at (pin_at header id) 0 count r
 
 -- a net, where these ids are taken and there are so many pins, and how many pins there are with it
-unfoldable pub net_at : Header → (ℕ → Bool) → ℕ → Rest → Read (Net × ℕ)
-net_at header taken pins rest = do
-  name ← name_at rest
+unfoldable pub net_at : Header → (ℕ → Bool) → ℕ → Reading → Read (Net × ℕ)
+net_at header taken pins r = do
+  name ← name_at r
   id ← id_at taken name.1
   count ← count_at (max_pins - pins) id.1
   width ← net_width_at header count.1
@@ -70,17 +70,17 @@ net_at header taken pins rest = do
   Ok ((record { id = id.0; name = name.0; width = width.0; terminals = without_repeats places.0 }, pins + count.0), places.1)
 
 -- so many nets, where these ids are taken and there are so many pins
-unfoldable pub more_nets_at : Header → (ℕ → Bool) → ℕ → ℕ → Rest → Read (List Net)
-more_nets_at header taken pins zero rest = Ok ([], rest)
-more_nets_at header taken pins (suc n) rest = do
-  net ← net_at header taken pins rest
+unfoldable pub more_nets_at : Header → (ℕ → Bool) → ℕ → ℕ → Reading → Read (List Net)
+more_nets_at header taken pins zero r = Ok ([], r)
+more_nets_at header taken pins (suc n) r = do
+  net ← net_at header taken pins r
   more ← more_nets_at header (λ id. id == net.0.0.id || taken id) net.0.1 n net.1
   Ok (net.0.0 ∷ more.0, more.1)
 
 -- `num`, `net`, how many nets, and the nets
-unfoldable pub nets_at : Header → Rest → Read (List Net)
-nets_at header rest = do
-  word ← word_at wanted.Num rest
+unfoldable pub nets_at : Header → Reading → Read (List Net)
+nets_at header r = do
+  word ← word_at wanted.Num r
   word ← word_at wanted.Net word.1
   count ← count_at max_nets word.1
   more_nets_at header (λ _. false) 0 count.0 count.1

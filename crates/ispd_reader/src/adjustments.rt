@@ -13,23 +13,23 @@ use crate::adjustment::Adjustment;
 use crate::fields::{capacity, count};
 use crate::input_error::InputError;
 use crate::input_fault::InputFault;
-use crate::number::Number;
-use crate::tokens_left::TokensLeft;
+use crate::tokens::number;
 use grid_base::{Axis, Edge, Place, Size};
 use grid_graph::{Grid, MAX_CAPACITY};
+use text_scan::{Number, Scanner};
 
 /// The most adjustments of a design.
 const MAX_ADJUSTMENTS: u32 = 1 << 23;
 
 /// The tile at three numbers, where it is inside the grid, and the place of the third.
 #[tactic(auto, unfolding(crate::specs::Adjustments::tile_place_at))]
-fn tile(tokens: &mut TokensLeft<'_>, size: Size) -> Result<(Option<Place>, usize), InputError>
-    ensures tile { IsReadAs refusal_in (λ x. x) result tokens.new (tile_place_at (extent_of_size size) tokens.old) }
+fn tile(scanner: &mut Scanner<'_>, size: Size) -> Result<(Option<Place>, usize), InputError>
+    ensures tile { IsReadAs refusal_in (λ x. x) result scanner.new (tile_place_at (extent_of_size size) scanner.old) }
     ensures inside { IfOk result (λ x. IfSome x.0 (λ place. IsInside size place)) }
 {
-    let col = tokens.number()?;
-    let row = tokens.number()?;
-    let layer = tokens.number()?;
+    let col = number(scanner)?;
+    let row = number(scanner)?;
+    let layer = number(scanner)?;
     Ok((place_in(size, col, row, layer), layer.at))
 }
 
@@ -87,15 +87,15 @@ fn step_between(size: Size, a: Option<Place>, b: Option<Place>) -> Option<Option
 
 /// The adjustment that has this number.
 #[tactic(auto, unfolding(crate::specs::Adjustments::adjustment_at))]
-fn adjustment(tokens: &mut TokensLeft<'_>, size: Size, index: u32) -> Result<Adjustment, InputError>
-    ensures adjustment { IsReadAs refusal_in adjustment_of result tokens.new (adjustment_at (extent_of_size size) index tokens.old) }
+fn adjustment(scanner: &mut Scanner<'_>, size: Size, index: u32) -> Result<Adjustment, InputError>
+    ensures adjustment { IsReadAs refusal_in adjustment_of result scanner.new (adjustment_at (extent_of_size size) index scanner.old) }
     ensures edge { IfOk result (λ a. IfSome a.edge (λ e. IsPiece size (Piece.Edge e))) }
     ensures level { IfOk result (λ a. a.level ≤ MAX_CAPACITY) }
 {
-    let (from, _) = tile(tokens, size)?;
-    let (to, at) = tile(tokens, size)?;
+    let (from, _) = tile(scanner, size)?;
+    let (to, at) = tile(scanner, size)?;
     let edge = step_between(size, from, to).ok_or(InputFault::AdjustmentPlace { at, index })?;
-    let level = capacity(tokens)?;
+    let level = capacity(scanner)?;
     Ok(Adjustment { edge, level })
 }
 
@@ -111,16 +111,16 @@ fn apply(grid: &mut Grid, adjustment: Adjustment)
 }
 
 /// Adjusts the grid by all adjustments of the text.
-pub fn adjust(tokens: &mut TokensLeft<'_>, grid: &mut Grid) -> Result<(), InputError>
-    ensures { Adjusts result grid.old grid.new tokens.old tokens.new }
+pub fn adjust(scanner: &mut Scanner<'_>, grid: &mut Grid) -> Result<(), InputError>
+    ensures { Adjusts result grid.old grid.new scanner.old scanner.new }
 {
-    if tokens.is_empty() {
+    if scanner.peek().is_none() {
         return Ok(());
     }
-    let count = count(tokens, MAX_ADJUSTMENTS)?;
+    let count = count(scanner, MAX_ADJUSTMENTS)?;
     let size = grid.size();
     for index in 0..count {
-        let adjustment = adjustment(tokens, size, index)?;
+        let adjustment = adjustment(scanner, size, index)?;
         apply(grid, adjustment);
     }
     Ok(())

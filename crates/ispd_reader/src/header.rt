@@ -10,22 +10,22 @@ use crate::fields::side;
 use crate::input_error::InputError;
 use crate::input_fault::InputFault;
 use crate::layer_numbers::{capacities, skip_vias, spacings, widths};
-use crate::number::Number;
-use crate::tokens_left::TokensLeft;
+use crate::tokens::{number, word};
 use crate::wanted::Wanted;
 use grid_base::{MAX_LAYERS, MAX_VERTICES, Size};
 use grid_graph::GridParts;
 use std::alloc::Global;
+use text_scan::{Number, Scanner};
 
 /// The size of the grid.
 #[tactic(auto, unfolding(crate::specs::Header::extent_at))]
-fn size(tokens: &mut TokensLeft<'_>) -> Result<Size, InputError>
-    ensures { IsReadAs refusal_in extent_of_size result tokens.new (extent_at tokens.old) }
+fn size(scanner: &mut Scanner<'_>) -> Result<Size, InputError>
+    ensures { IsReadAs refusal_in extent_of_size result scanner.new (extent_at scanner.old) }
 {
-    tokens.word(Wanted::Grid)?;
-    let cols = tokens.number()?;
-    let rows = tokens.number()?;
-    let layers = tokens.number()?;
+    word(scanner, Wanted::Grid)?;
+    let cols = number(scanner)?;
+    let rows = number(scanner)?;
+    let layers = number(scanner)?;
     let size = size_of(cols, rows, layers).ok_or(InputFault::GridSize { at: layers.at })?;
     Ok(size)
 }
@@ -43,43 +43,43 @@ fn size_of(cols: Number, rows: Number, layers: Number) -> Option<Size>
 
 /// The lower left corner.
 #[tactic(auto, unfolding(crate::specs::Header::origin_at))]
-fn origin(tokens: &mut TokensLeft<'_>) -> Result<(i64, i64), InputError>
-    ensures origin { IsReadAs refusal_in (λ x. x) result tokens.new (origin_at tokens.old) }
+fn origin(scanner: &mut Scanner<'_>) -> Result<(i64, i64), InputError>
+    ensures origin { IsReadAs refusal_in (λ x. x) result scanner.new (origin_at scanner.old) }
     ensures left { IfOk result (λ x. IsPosition x.0) }
     ensures lower { IfOk result (λ x. IsPosition x.1) }
 {
-    let x = tokens.number()?;
-    let y = tokens.number()?;
+    let x = number(scanner)?;
+    let y = number(scanner)?;
     Ok((x.value, y.value))
 }
 
 /// The size of a tile.
 #[tactic(auto, unfolding(crate::specs::Header::tile_at))]
-fn tile(tokens: &mut TokensLeft<'_>) -> Result<(i64, i64), InputError>
-    ensures tile { IsReadAs refusal_in (λ x. x) result tokens.new (tile_at tokens.old) }
+fn tile(scanner: &mut Scanner<'_>) -> Result<(i64, i64), InputError>
+    ensures tile { IsReadAs refusal_in (λ x. x) result scanner.new (tile_at scanner.old) }
     ensures width { IfOk result (λ x. IsTileSize x.0) }
     ensures height { IfOk result (λ x. IsTileSize x.1) }
 {
-    let width = side(tokens)?;
-    let height = side(tokens)?;
+    let width = side(scanner)?;
+    let height = side(scanner)?;
     Ok((width, height))
 }
 
 /// All that stands before the nets.
 #[tactic(auto, unfolding(crate::specs::Header::header_at))]
-pub fn parts(alloc: Global, tokens: &mut TokensLeft<'_>) -> Result<GridParts, InputError>
-    ensures parts { IsReadAs refusal_in (λ p. header_of (layout_of_parts p)) result tokens.new (header_at tokens.old) }
+pub fn parts(alloc: Global, scanner: &mut Scanner<'_>) -> Result<GridParts, InputError>
+    ensures parts { IsReadAs refusal_in (λ p. header_of (layout_of_parts p)) result scanner.new (header_at scanner.old) }
     ensures limits { IfOk result IsGridParts }
 {
-    let size = size(tokens)?;
+    let size = size(scanner)?;
     let layers = size.layers();
-    let vertical = capacities(alloc, tokens, Wanted::Vertical, layers)?;
-    let horizontal = capacities(alloc, tokens, Wanted::Horizontal, layers)?;
-    let widths = widths(alloc, tokens, layers)?;
-    let spacings = spacings(alloc, tokens, &widths)?;
-    skip_vias(tokens, layers)?;
-    let origin = origin(tokens)?;
-    let tile = tile(tokens)?;
+    let vertical = capacities(alloc, scanner, Wanted::Vertical, layers)?;
+    let horizontal = capacities(alloc, scanner, Wanted::Horizontal, layers)?;
+    let widths = widths(alloc, scanner, layers)?;
+    let spacings = spacings(alloc, scanner, &widths)?;
+    skip_vias(scanner, layers)?;
+    let origin = origin(scanner)?;
+    let tile = tile(scanner)?;
     Ok(GridParts {
         size,
         vertical,

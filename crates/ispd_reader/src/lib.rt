@@ -1,4 +1,4 @@
-//! IsReadAs refusal_in a chip design: from the bytes of a text in the ISPD 2008 contest's input form to the
+//! Reads a chip design: from the bytes of a text in the ISPD 2008 contest's input form to the
 //! design that its tokens name.
 //!
 //! ```text
@@ -25,10 +25,9 @@ mod input_fault;
 mod laws;
 mod layer_numbers;
 mod nets;
-mod number;
 mod pins;
 mod reading;
-mod tokens_left;
+mod tokens;
 mod wanted;
 
 pub use fault_fields::FaultFields;

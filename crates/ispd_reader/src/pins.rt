@@ -11,12 +11,12 @@ ghost use Rattle.ispd_reader.specs.Views.{header_of, numbers};
 
 use crate::input_error::InputError;
 use crate::input_fault::InputFault;
-use crate::number::Number;
-use crate::tokens_left::TokensLeft;
+use crate::tokens::number;
 use grid_base::{Place, Vertex};
 use grid_graph::{Grid, Terms, tile_index};
 use std::alloc::Global;
 use std::collections::BTreeSet;
+use text_scan::{Number, Scanner};
 
 /// The column of a position, where it is inside the grid.
 #[tactic(auto, unfolding(crate::specs::Nets::tile_along))]
@@ -39,16 +39,16 @@ fn row(grid: &Grid, y: Number) -> Option<u32>
 }
 
 /// The vertex of a pin, which has this number within the net.
-#[tactic(auto, using(crate::proofs::Ranges::within_bounds), unfolding(crate::specs::Nets::pin_at))]
-fn pin(tokens: &mut TokensLeft<'_>, grid: &Grid, id: u32, pin: u32) -> Result<Vertex, InputError>
-    ensures pin { IsReadAs refusal_in (λ v. v.0) result tokens.new (pin_at (header_of (layout_of grid.now)) id pin tokens.old) }
+#[tactic(auto, using(text_scan::proofs::Ranges::within_bounds), unfolding(crate::specs::Nets::pin_at))]
+fn pin(scanner: &mut Scanner<'_>, grid: &Grid, id: u32, pin: u32) -> Result<Vertex, InputError>
+    ensures pin { IsReadAs refusal_in (λ v. v.0) result scanner.new (pin_at (header_of (layout_of grid.now)) id pin scanner.old) }
     ensures vertex { IfOk result (λ v. IsVertex (size_of grid.now) v.0) }
 {
-    let x = tokens.number()?;
+    let x = number(scanner)?;
     let col = column(grid, x).ok_or(InputFault::PinOutside { at: x.at, id, pin })?;
-    let y = tokens.number()?;
+    let y = number(scanner)?;
     let row = row(grid, y).ok_or(InputFault::PinOutside { at: y.at, id, pin })?;
-    let layer = tokens.number()?;
+    let layer = number(scanner)?;
     let level = layer
         .within(1, grid.size().layers())
         .ok_or(InputFault::PinLayer {
@@ -68,18 +68,18 @@ fn pin(tokens: &mut TokensLeft<'_>, grid: &Grid, id: u32, pin: u32) -> Result<Ve
 #[tactic(auto, unfolding(crate::specs::Nets::pins_at))]
 pub fn pins(
     alloc: Global,
-    tokens: &mut TokensLeft<'_>,
+    scanner: &mut Scanner<'_>,
     grid: &Grid,
     id: u32,
     count: u32,
 ) -> Result<Vec<Vertex>, InputError>
-    ensures pins { IsReadAs refusal_in (λ v. numbers v.items) result tokens.new (pins_at (header_of (layout_of grid.now)) id count tokens.old) }
+    ensures pins { IsReadAs refusal_in (λ v. numbers v.items) result scanner.new (pins_at (header_of (layout_of grid.now)) id count scanner.old) }
     ensures count { IfOk result (λ v. length v.items ≡ count) }
     ensures vertices { IfOk result (λ v. All (λ w. w < vertices (size_of grid.now)) (numbers v.items)) }
 {
     let mut pins = Vec::new(alloc);
     for index in 0..count {
-        pins.push(pin(tokens, grid, id, index)?)?;
+        pins.push(pin(scanner, grid, id, index)?)?;
     }
     Ok(pins)
 }

@@ -9,9 +9,9 @@ use crate::header::parts;
 use crate::input_error::InputError;
 use crate::input_fault::InputFault;
 use crate::nets::nets;
-use crate::tokens_left::TokensLeft;
 use grid_graph::{Design, Grid};
 use std::alloc::Global;
+use text_scan::Scanner;
 
 /// The most bytes of a text.
 pub const MAX_BYTES: usize = 1 << 30;
@@ -26,10 +26,10 @@ pub fn read_design(alloc: Global, bytes: &[u8]) -> Result<Design, InputError>
     if bytes.len() > MAX_BYTES {
         return Err(InputError::Input(InputFault::TooLong));
     }
-    let mut tokens = TokensLeft::of(bytes);
-    let parts = parts(alloc, &mut tokens)?;
+    let mut scanner = Scanner::over(bytes);
+    let parts = parts(alloc, &mut scanner)?;
     let mut grid = Grid::new(alloc, parts)?;
-    let nets = nets(alloc, &mut tokens, &grid)?;
-    adjust(&mut tokens, &mut grid)?;
+    let nets = nets(alloc, &mut scanner, &grid)?;
+    adjust(&mut scanner, &mut grid)?;
     Ok(Design { grid, nets })
 }

@@ -1,8 +1,6 @@
 -- The place of each point that is written, and the pieces on a segment that is written.
-use Rattle.std.proofs.Common.{◌≡◌, ℕ, ◌+◌, ◌-◌, ◌*◌, ◌/◌, ◌<◌, false, Some, ℤ, pos, negsuc, ◌+ℤ◌, ◌-ℤ◌, ◌≤ℤ◌, nat_abs, int_lt, ltb, refl, sym, ◌∙◌, arith}
-use Rattle.std.proofs.lemmas.Bool.{lt-ltb, le-ltb}
-use Rattle.std.proofs.lemmas.Int.{ints}
-use Rattle.std.proofs.lemmas.Nat.{div-mul-add, mul-add-lt}
+use Rattle.std.proofs.Common.{◌≡◌, ℕ, ◌+◌, ◌-◌, ◌<◌, false, Some, pos, ltb, refl, sym, ◌∙◌, arith}
+use Rattle.std.proofs.lemmas.Bool.{le-ltb}
 use Rattle.std.proofs.lemmas.Option.{same_Some}
 use Rattle.grid_base.specs.declared.piece.Piece.{Piece}
 use Rattle.grid_base.specs.Lines.{AreInLine}
@@ -11,30 +9,9 @@ use Rattle.grid_base.proofs.Lines.{GoesBetween}
 use Rattle.grid_base.proofs.Places.{place_at-inside}
 use Rattle.grid_graph.specs.declared.grid.Grid.{Grid}
 use Rattle.grid_graph.specs.Grids.{layout_of, size_of}
-use Rattle.grid_graph.specs.Tiles.{tile_index, written_position}
+use Rattle.grid_graph.proofs.Positions.{tile_of_written}
 use Rattle.route_text.specs.BlockPieces.{layer_index, point_place, LiesOn}
 use Rattle.route_text.specs.Written.{written_point, written_segment}
-
-abs_positive : (t : ℤ) → pos 1 ≤ℤ t → 0 < nat_abs t
-abs_positive (pos n) h = omega (arith, ints)
-abs_positive (negsuc n) h = absurd (omega (arith, ints))
-
--- a position above the origin isn't below it
-not_below : (origin : ℤ) (d : ℕ) → int_lt (origin +ℤ pos d) origin ≡ false
-not_below origin d = grind (arith, ints)
-
-half : (w : ℕ) → 0 < w → w / 2 < w
-half w h = omega arith
-
--- the position written for a tile lies in that tile
-tile_of_written : (origin tile : ℤ) (count i : ℕ) → pos 1 ≤ℤ tile → i < count → tile_index origin tile count (written_position origin tile i) ≡ Some i
-tile_of_written origin tile count i wide below =
-    let w = nat_abs tile in
-    let d = i * w + w / 2 in
-    let half_way : w / 2 < w = half w (abs_positive tile wide) in
-    let apart : (origin +ℤ pos d) -ℤ origin ≡ pos d = omega (arith, ints) in
-    let within : d < count * w = omega (arith, mul-add-lt i w (w / 2) count below half_way) in
-    rw (not_below origin d, apart, lt-ltb d (count * w) within, div-mul-add i w (w / 2) half_way) refl
 
 -- the number written for a layer names that layer
 layer_of_written : (layers l : ℕ) → l < layers → layer_index layers (pos (l + 1)) ≡ Some l

@@ -13,7 +13,7 @@ use Rattle.grid_graph.specs.Grids.{size_of}
 use Rattle.grid_graph.specs.Limits.{max_id}
 use Rattle.text_scan.specs.Tokens.{is_gap, is_word, ends_word}
 use Rattle.text_scan.specs.Numbers.{is_within, value_of}
-use Rattle.text_scan.specs.Reading.{Reading, left, past_token, is_next, past_byte, past_blanks, next_byte}
+use Rattle.text_scan.specs.Reading.{Reading, whole, left, past_token, is_next, past_byte, past_blanks, next_byte}
 use Rattle.text_scan.proofs.Texts.{Leads, leads-then, next_is_first, left_past_blanks, left_past_token, word_is_next, byte_is_next, other_is_next, word_is_left, gap_is_left, number_is_word, within_them, parts_lead}
 use Rattle.text_scan.proofs.Words.{printed_number}
 use Rattle.tree_set.specs.Routings.{ArePieces}
@@ -112,7 +112,6 @@ pairs_written g nets trees named pieces k d below =
 -- a written text is read back
 pub text_reads_back : (g : Grid) (nets : List NetSpec) (trees : List (List Piece)) → HasBordersInRange g → All IsNamed nets → All (ArePieces (size_of g)) trees → blocks_of (routes_text g nets trees) ≡ Ok (written_blocks g nets trees)
 text_reads_back g nets trees borders named pieces =
-    let start : Reading = record { text = routes_text g nets trees; place = 0 } in
-    let whole = parts_lead is_over past_blanks block_at next_block_takes (IsWritten g) (λ x. net_text g x.0 x.1) (λ x. written_block g x.0 x.1) (10 ∷ []) refl
-    (block_reads_back g borders) [] [] (λ q gap blank there. gap_is_left q gap blank there) (zip nets trees) (pairs_written g nets trees named pieces) start [] refl (sym (append-nil (routes_text g nets trees))) in
-    rw whole.reads refl
+    let blocks = parts_lead is_over past_blanks block_at next_block_takes (IsWritten g) (λ x. net_text g x.0 x.1) (λ x. written_block g x.0 x.1) (10 ∷ []) refl
+    (block_reads_back g borders) [] [] (λ q gap blank there. gap_is_left q gap blank there) (zip nets trees) (pairs_written g nets trees named pieces) (whole (routes_text g nets trees)) [] refl (sym (append-nil (routes_text g nets trees))) in
+    rw blocks.reads refl

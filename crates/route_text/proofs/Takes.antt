@@ -4,7 +4,7 @@ use Rattle.std.proofs.lemmas.Bool.{cases_Bool}
 use Rattle.grid_graph.specs.Limits.{max_id, max_number}
 use Rattle.text_scan.specs.Tokens.{Token}
 use Rattle.text_scan.specs.declared.number_fault.NumberFault.{NumberFault}
-use Rattle.text_scan.specs.Reading.{Reading, left, tokens_left, next_byte, is_next, past_blanks, past_token, past_number, past_byte}
+use Rattle.text_scan.specs.Reading.{Reading, left, tokens_left, first_number, next_number, next_byte, is_next, past_blanks, past_token, past_number, past_byte}
 use Rattle.text_scan.proofs.Bounds.{Takes, takes-then, takes_some, parts_take}
 use Rattle.text_scan.proofs.Blanks.{past_blanks-left, past_byte-left, past_byte-takes, past_number-left, past_token-left, past_token-takes}
 use Rattle.text_scan.specs.Faults.{fault_place}
@@ -17,15 +17,15 @@ mark_takes b r = ⊎_elim
     (λ (other : is_next b r ≡ false). rw other tt)
     (cases_Bool (is_next b r))
 
-number_takes : (answer : Result ℤ NumberFault) (r after : Reading) → length (left after) ≤ length (left r) → Takes 0 r (refused_as fault_place answer >>= λ number. Ok (number, after))
-number_takes (Ok z) r after few = omega (arith, few)
-number_takes (Err fault) r after few = tt
+number_takes : {A : Type 0} (answer : Result A NumberFault) (value : A → ℤ) (r after : Reading) → length (left after) ≤ length (left r) → Takes 0 r (refused_as fault_place answer >>= λ number. Ok (value number, after))
+number_takes (Ok number) value r after few = omega (arith, few)
+number_takes (Err fault) value r after few = tt
 
 coordinate_takes : (r : Reading) → Takes 0 r (coordinate_at r)
-coordinate_takes r = number_takes _ r (past_number r) (past_number-left r)
+coordinate_takes r = number_takes (next_number (neg_ℤ (pos max_number)) (pos max_number) r) (λ z. z) r (past_number r) (past_number-left r)
 
 token_number_takes : (lo hi : ℤ) (r : Reading) → Takes 0 r (token_number_at lo hi r)
-token_number_takes lo hi r = number_takes _ r (past_token r) (past_token-left r)
+token_number_takes lo hi r = number_takes (first_number lo hi r) (λ number. number.value) r (past_token r) (past_token-left r)
 
 point_takes : (r : Reading) → Takes 1 r (point_at r)
 unfolding point_at

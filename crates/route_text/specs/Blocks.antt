@@ -2,11 +2,10 @@
 use Rattle.std.specs.Prelude.{ℕ, Bool, false, ◌||◌, if◌then◌else◌, List, ℤ, pos, neg_ℤ, nat_abs, Option, Some, None, is_none, Result, Ok, Err}
 use Rattle.std.specs.Char.{is_ascii_digit}
 use Rattle.grid_graph.specs.Limits.{max_id, max_number}
-use Rattle.text_scan.specs.Numbers.{is_sign, first_number}
+use Rattle.text_scan.specs.Numbers.{is_sign}
 use Rattle.text_scan.specs.Faults.{fault_place}
 use Rattle.text_scan.specs.Parts.{◌>>=◌, refused_as}
-use Rattle.text_scan.specs.Reading.{Reading, rest_of, next_place, next_byte, is_next, next_number, past_blanks, past_token, past_number, past_byte}
-use Rattle.text_scan.specs.Rest.{first_token}
+use Rattle.text_scan.specs.Reading.{Reading, whole, first_token, first_number, next_place, next_byte, is_next, next_number, past_blanks, past_token, past_number, past_byte}
 use Rattle.text_scan.specs.Until.{parts_until}
 use Rattle.route_text.specs.declared.block.Block.{Block}
 use Rattle.route_text.specs.declared.point.Point.{Point}
@@ -26,8 +25,8 @@ coordinate_at r = do
 -- a number from lo to hi that is a whole token
 abbrev pub token_number_at : ℤ → ℤ → Reading → Read ℤ
 token_number_at lo hi r = do
-  number ← refused_as fault_place (first_number lo hi (rest_of r))
-  Ok (number, past_token r)
+  number ← refused_as fault_place (first_number lo hi r)
+  Ok (number.value, past_token r)
 
 -- `(`, x, `,`, y, `,`, layer, `)`
 unfoldable pub point_at : Reading → Read Point
@@ -67,7 +66,7 @@ further_at r = if begins_number (next_byte r) then (do
 -- a name: any token
 abbrev pub name_at : Reading → Read (List ℕ)
 name_at r = do
-  name ← first_token (λ end. end) (rest_of r)
+  name ← first_token (λ end. end) r
   Ok (name.bytes, past_token r)
 
 -- a name, an id, at most one further number, and the segments
@@ -90,5 +89,5 @@ blocks_at r = parts_until is_over past_blanks block_at r
 -- the blocks of a text, or the place at which the next part of it can't be read
 abbrev pub blocks_of : List ℕ → Result (List Block) ℕ
 blocks_of text = do
-  blocks ← blocks_at (record { text = text; place = 0 })
+  blocks ← blocks_at (whole text)
   Ok blocks.0

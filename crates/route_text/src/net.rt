@@ -6,7 +6,7 @@ ghost use Rattle.grid_base.specs.Numbers.{IsPiece};
 ghost use Rattle.grid_graph.specs.Grids.{size_of};
 ghost use Rattle.tree_set.specs.Order.{IsRising};
 ghost use Rattle.tree_set.specs.Runs.{runs, vias};
-ghost use Rattle.gr_desk.specs.Pens.{Puts, pen_told};
+ghost use Rattle.gr_desk.specs.Pens.{Puts, pen_told, HasSameDesk};
 ghost use Rattle.route_text.specs.RouteText.{segment_text, net_text};
 ghost use Rattle.route_text.specs.Pieces.{run_text, via_text};
 
@@ -20,7 +20,7 @@ use tree_set::Tree;
 /// Puts the block of one net.
 pub(crate) fn put_net<D: Desk>(pen: &mut Pen<'_, D>, grid: &Grid, net: &NetSpec, tree: &Tree)
     requires { All (IsPiece (size_of grid.now)) tree.now }
-    ensures same_desk { pen.new.desk.ghost_name ≡ pen.old.desk.ghost_name }
+    ensures same_desk { HasSameDesk pen.old pen.new }
     ensures puts { Puts (pen_told D.told pen.old) (pen_told D.told pen.new) (net_text grid.now net.now tree.now) }
 {
     pen.put(net.name.list());
@@ -36,7 +36,7 @@ pub(crate) fn put_net<D: Desk>(pen: &mut Pen<'_, D>, grid: &Grid, net: &NetSpec,
 /// Puts the runs of edges along one axis.
 fn put_runs<D: Desk>(pen: &mut Pen<'_, D>, grid: &Grid, tree: &Tree, axis: Axis)
     requires { All (IsPiece (size_of grid.now)) tree.now }
-    ensures same_desk { pen.new.desk.ghost_name ≡ pen.old.desk.ghost_name }
+    ensures same_desk { HasSameDesk pen.old pen.new }
     ensures puts { Puts (pen_told D.told pen.old) (pen_told D.told pen.new) (flat_map (segment_text grid.now) (runs (size_of grid.now) (filter (is_along axis) tree.now))) }
 {
     for piece in tree.pieces() {
@@ -49,7 +49,7 @@ fn put_run<D: Desk>(pen: &mut Pen<'_, D>, grid: &Grid, tree: &Tree, axis: Axis, 
     requires pieces { All (IsPiece (size_of grid.now)) tree.now }
     requires rising { IsRising tree.now }
     requires piece { IsPiece (size_of grid.now) piece }
-    ensures same_desk { pen.new.desk.ghost_name ≡ pen.old.desk.ghost_name }
+    ensures same_desk { HasSameDesk pen.old pen.new }
     ensures puts { Puts (pen_told D.told pen.old) (pen_told D.told pen.new) (run_text grid.now (filter (is_along axis) tree.now) (is_along axis piece) piece) }
 {
     let size = grid.size();
@@ -62,7 +62,7 @@ fn put_run<D: Desk>(pen: &mut Pen<'_, D>, grid: &Grid, tree: &Tree, axis: Axis, 
 /// Puts the vias.
 fn put_vias<D: Desk>(pen: &mut Pen<'_, D>, grid: &Grid, tree: &Tree)
     requires { All (IsPiece (size_of grid.now)) tree.now }
-    ensures same_desk { pen.new.desk.ghost_name ≡ pen.old.desk.ghost_name }
+    ensures same_desk { HasSameDesk pen.old pen.new }
     ensures puts { Puts (pen_told D.told pen.old) (pen_told D.told pen.new) (flat_map (segment_text grid.now) (vias (size_of grid.now) tree.now)) }
 {
     for piece in tree.pieces() {
@@ -73,7 +73,7 @@ fn put_vias<D: Desk>(pen: &mut Pen<'_, D>, grid: &Grid, tree: &Tree)
 /// Puts the piece, if it is a via.
 fn put_via<D: Desk>(pen: &mut Pen<'_, D>, grid: &Grid, piece: Piece)
     requires { IsPiece (size_of grid.now) piece }
-    ensures same_desk { pen.new.desk.ghost_name ≡ pen.old.desk.ghost_name }
+    ensures same_desk { HasSameDesk pen.old pen.new }
     ensures puts { Puts (pen_told D.told pen.old) (pen_told D.told pen.new) (via_text grid.now piece) }
 {
     if let Piece::Via(_) = piece {

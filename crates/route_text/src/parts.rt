@@ -43,7 +43,7 @@ pub(crate) fn token_number(scanner: &mut Scanner<'_>, lo: i64, hi: i64) -> Resul
     ensures passed { IfOk result (λ _. Moves 1 scanner.old scanner.new) }
     ensures range { IfOk result (λ x. (lo ≤ℤ x) × (x ≤ℤ hi)) }
 {
-    Ok(scanner.number(lo, hi)?)
+    Ok(scanner.number(lo, hi)?.value)
 }
 
 /// `(`, x, `,`, y, `,`, layer, `)`.

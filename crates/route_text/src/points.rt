@@ -3,7 +3,7 @@
 ghost use Rattle.std.specs.Prelude.{◌≡◌};
 ghost use Rattle.grid_base.specs.Numbers.{IsVertex};
 ghost use Rattle.grid_graph.specs.Grids.{size_of};
-ghost use Rattle.gr_desk.specs.Pens.{Puts, pen_told};
+ghost use Rattle.gr_desk.specs.Pens.{Puts, pen_told, HasSameDesk};
 ghost use Rattle.route_text.specs.RouteText.{point_text, segment_text};
 
 use crate::position::{x_of, y_of};
@@ -14,7 +14,7 @@ use itoa::{Buffer, Integer};
 
 /// Puts a number in decimal digits.
 pub(crate) fn put_number<D: Desk, I: Integer>(pen: &mut Pen<'_, D>, number: I)
-    ensures same_desk { pen.new.desk.ghost_name ≡ pen.old.desk.ghost_name }
+    ensures same_desk { HasSameDesk pen.old pen.new }
     ensures puts { Puts (pen_told D.told pen.old) (pen_told D.told pen.new) (I.text number) }
 {
     pen.put(Buffer::new().format(number).as_bytes());
@@ -23,7 +23,7 @@ pub(crate) fn put_number<D: Desk, I: Integer>(pen: &mut Pen<'_, D>, number: I)
 /// Puts a vertex as a point.
 fn put_point<D: Desk>(pen: &mut Pen<'_, D>, grid: &Grid, v: Vertex)
     requires { IsVertex (size_of grid.now) v.0 }
-    ensures same_desk { pen.new.desk.ghost_name ≡ pen.old.desk.ghost_name }
+    ensures same_desk { HasSameDesk pen.old pen.new }
     ensures puts { Puts (pen_told D.told pen.old) (pen_told D.told pen.new) (point_text grid.now v.0) }
 {
     let place = grid.size().place_of(v);
@@ -40,7 +40,7 @@ fn put_point<D: Desk>(pen: &mut Pen<'_, D>, grid: &Grid, v: Vertex)
 pub(crate) fn put_segment<D: Desk>(pen: &mut Pen<'_, D>, grid: &Grid, from: Vertex, to: Vertex)
     requires from { IsVertex (size_of grid.now) from.0 }
     requires to { IsVertex (size_of grid.now) to.0 }
-    ensures same_desk { pen.new.desk.ghost_name ≡ pen.old.desk.ghost_name }
+    ensures same_desk { HasSameDesk pen.old pen.new }
     ensures puts { Puts (pen_told D.told pen.old) (pen_told D.told pen.new) (segment_text grid.now (from.0, to.0)) }
 {
     put_point(pen, grid, from);

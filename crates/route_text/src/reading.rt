@@ -1,6 +1,6 @@
 //! Reads a route text.
 
-ghost use Rattle.std.specs.Prelude.{◌≡◌, ◌≤◌, ◌+◌, length, slice_range, IfOk, IfErr};
+ghost use Rattle.std.specs.Prelude.{◌≡◌, ◌≤◌, ◌+◌, length, IfOk, IfErr};
 ghost use Rattle.std.specs.List.{All};
 ghost use Rattle.text_scan.specs.Moves.{Moves};
 ghost use Rattle.route_text.specs.Blocks.{begins_number, further_at, segments_at, name_at, block_at, blocks_of};
@@ -14,7 +14,7 @@ use crate::segment::Segment;
 use crate::segments::Segments;
 use grid_graph::{MAX_NUMBER, Name};
 use std::alloc::Global;
-use text_scan::{Scanner, Span};
+use text_scan::Scanner;
 
 /// The blocks of a route text.
 pub fn read_routes(alloc: Global, bytes: &[u8]) -> Result<Vec<Block>, RouteError>
@@ -26,15 +26,14 @@ pub fn read_routes(alloc: Global, bytes: &[u8]) -> Result<Vec<Block>, RouteError
     let mut scanner = Scanner::over(bytes);
     let mut blocks = Vec::new(alloc);
     while scanner.peek().is_some() {
-        blocks.push(block(alloc, &mut scanner, bytes)?)?;
+        blocks.push(block(alloc, &mut scanner)?)?;
     }
     Ok(blocks)
 }
 
-/// The next block of the text, which the scanner reads.
+/// The next block.
 #[tactic(auto, unfolding(crate::specs::Blocks::block_at))]
-fn block(alloc: Global, scanner: &mut Scanner<'_>, text: &[u8]) -> Result<Block, RouteError>
-    requires { scanner.old.text ≡ text.now }
+fn block(alloc: Global, scanner: &mut Scanner<'_>) -> Result<Block, RouteError>
     ensures block { IsReadAs (λ b. b) result scanner.new (block_at scanner.old) }
     ensures passed { IfOk result (λ b. Moves (1 + length b.segments) scanner.old scanner.new) }
     ensures range { IfOk result (λ b. IsBlockInRange b) }
@@ -43,7 +42,7 @@ fn block(alloc: Global, scanner: &mut Scanner<'_>, text: &[u8]) -> Result<Block,
     let id = token_number(scanner, 0, i64::from(u32::MAX))?;
     further(scanner)?;
     let segments = segments(alloc, scanner)?;
-    let name = Vec::from_slice(alloc, &text[name.start..name.end])?;
+    let name = Vec::from_slice(alloc, name)?;
     Ok(Block {
         name: Name::of(name),
         id: id as u32,
@@ -52,13 +51,12 @@ fn block(alloc: Global, scanner: &mut Scanner<'_>, text: &[u8]) -> Result<Block,
 }
 
 /// A name: any token.
-fn name(scanner: &mut Scanner<'_>) -> Result<Span, RouteError>
-    ensures name { IsReadAs (λ name. slice_range scanner.old.text name.start name.end) result scanner.new (name_at scanner.old) }
+fn name<'a>(scanner: &mut Scanner<'a>) -> Result<&'a [u8], RouteError>
+    ensures name { IsReadAs (λ name. name.now) result scanner.new (name_at scanner.old) }
     ensures passed { IfOk result (λ _. Moves 1 scanner.old scanner.new) }
-    ensures bounds { IfOk result (λ name. (name.start ≤ name.end) × (name.end ≤ length scanner.old.text)) }
 {
     match scanner.token() {
-        Some(name) => Ok(name),
+        Some(span) => Ok(scanner.bytes(span)),
         None => Err(RouteError::Syntax {
             at: scanner.place(),
         }),

@@ -3,7 +3,7 @@
 ghost use Rattle.std.specs.Prelude.{◌≡◌, All, length};
 ghost use Rattle.grid_graph.specs.Grids.{size_of};
 ghost use Rattle.tree_set.specs.Routings.{ArePieces};
-ghost use Rattle.gr_desk.specs.Pens.{Ends, Puts, pen_told};
+ghost use Rattle.gr_desk.specs.Pens.{Ends, Puts, pen_told, HasSameDesk};
 ghost use Rattle.route_text.specs.RouteText.{routes_text};
 
 use crate::net::put_net;
@@ -33,7 +33,7 @@ pub fn write_routes<D: Desk>(
 fn put_nets<D: Desk>(pen: &mut Pen<'_, D>, design: &Design, trees: &[Tree])
     requires one_each { length trees.now ≡ length design.now.nets }
     requires pieces { All (ArePieces (size_of design.now.grid)) trees.now }
-    ensures same_desk { pen.new.desk.ghost_name ≡ pen.old.desk.ghost_name }
+    ensures same_desk { HasSameDesk pen.old pen.new }
     ensures puts { Puts (pen_told D.told pen.old) (pen_told D.told pen.new) (routes_text design.now.grid design.now.nets trees.now) }
 {
     let nets = design.nets.list();

@@ -1,10 +1,9 @@
 -- Parts with a number that are read one after another, as a loop does.
 use Rattle.std.proofs.Common.{◌≡◌, ℕ, zero, suc, ◌-◌, ◌+◌, ◌≤◌, ◌<◌, List, [], ◌∷◌, ◌++◌, length, Option, Some, Ok, Err, slice_get, refl, sym, ap, ◌∙◌, subst, arith}
-use Rattle.std.specs.Prelude.{IfOk}
 use Rattle.std.proofs.lemmas.List.{append-nil}
 use Rattle.std.proofs.lemmas.Option.{same_Some}
 use Rattle.text_scan.specs.Parts.{Read, ◌>>=◌, Refuses, parts_at}
-use Rattle.text_scan.proofs.Parts.{with_parts, with_parts-none, with_parts-one, parts_of_ok, same_value, Refuses-with, IfOk-then}
+use Rattle.text_scan.proofs.Parts.{with_parts, with_parts-none, with_parts-one, parts_of_ok, same_value, Refuses-with}
 
 -- no part was read yet
 pub begins : {A L F : Type 0} (part : ℕ → L → Read L F A) (count : ℕ) (left : L) → with_parts [] (parts_at part 0 (count - 0) left) ≡ parts_at part 0 count left
@@ -56,14 +55,6 @@ passes_on part count i left x after total lt h so_far =
     sym (left_behind-one x more) ∙ sym (ap left_behind one) ∙ so_far
 
 -- ---- what holds of all parts
-
--- what each part leaves all together leave
-pub IfOk-parts : {A L F : Type 0} (P : L → Type 0) (part : ℕ → L → Read L F A) → ((i : ℕ) (left : L) → P left → IfOk (part i left) (λ x. P x.1)) →
-    (i count : ℕ) (left : L) → P left → IfOk (parts_at part i count left) (λ xs. P xs.1)
-IfOk-parts P part each i zero left here = here
-IfOk-parts P part each i (suc count) left here =
-    IfOk-then (λ x. P x.1) (λ xs. P xs.1) (part i left) _ (each i left here) (λ one after.
-    IfOk-then (λ xs. P xs.1) (λ xs. P xs.1) (parts_at part (i + 1) count one.1) _ (IfOk-parts P part each (i + 1) count one.1 after) (λ more behind. behind))
 
 -- of the first element and of those behind it
 first_or_later : {A : Type 0} (P : ℕ → A → Type 0) (i : ℕ) (y : A) (ys : List A) → P i y → ((j : ℕ) (x : A) → slice_get ys j ≡ Some x → P (i + 1 + j) x) → (j : ℕ) (x : A) → slice_get (y ∷ ys) j ≡ Some x → P (i + j) x

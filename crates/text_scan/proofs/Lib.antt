@@ -3,7 +3,6 @@ pub mod Numbers
 pub mod Tokens
 pub mod Words
 pub mod Reading
-pub mod FirstToken
 pub mod Parts
 pub mod InTurn
 pub mod Bounds

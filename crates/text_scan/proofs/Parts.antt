@@ -1,6 +1,6 @@
 -- Parts that are read one after another.
 use Rattle.std.proofs.Common.{◌≡◌, Bool, true, false, cond, List, [], ◌∷◌, ◌++◌, Option, Some, None, Result, Ok, Err, refl, sym, ap, append_assoc}
-use Rattle.std.specs.Prelude.{IfOk, IfSome, ⊤}
+use Rattle.std.specs.Prelude.{IfOk, IfSome}
 use Rattle.text_scan.specs.Parts.{Read, ◌>>=◌, or_refuse, Refuses}
 
 -- these parts, and then those that are read
@@ -53,19 +53,12 @@ pub IfOk-then : {A B F : Type 0} (P : A → Type 0) (Q : B → Type 0) (read : R
 IfOk-then P Q (Ok x) f one two = two x one
 IfOk-then P Q (Err refusal) f one two = tt
 
-pub IfOk-anything : {A F : Type 0} (read : Result A F) → IfOk read (λ _. ⊤)
-IfOk-anything (Ok x) = tt
-IfOk-anything (Err refusal) = tt
-
--- behind a value that may be refused
-pub IfOk-where_some : {A B F : Type 0} (Q : B → Type 0) (o : Option A) (refusal : F) (f : A → Result B F) → ((x : A) → IfOk (f x) Q) → IfOk (or_refuse o refusal >>= f) Q
-IfOk-where_some Q o refusal f h = IfOk-then (λ _. ⊤) Q (or_refuse o refusal) f (IfOk-anything (or_refuse o refusal)) (λ x _. h x)
+-- of the other, whatever the one is
+pub IfOk-behind : {A B F : Type 0} (Q : B → Type 0) (read : Result A F) (f : A → Result B F) → ((x : A) → IfOk (f x) Q) → IfOk (read >>= f) Q
+IfOk-behind Q (Ok x) f two = two x
+IfOk-behind Q (Err refusal) f two = tt
 
 -- where a test may refuse it
-pub IfOk-where_true : {A F : Type 0} (P : A → Type 0) (b : Bool) (x : A) (refusal : F) → P x → IfOk (cond b (Ok x) (Err refusal)) P
-IfOk-where_true P true x refusal h = h
-IfOk-where_true P false x refusal h = tt
-
 pub IfOk-where_false : {A F : Type 0} (P : A → Type 0) (b : Bool) (read : Result A F) (refusal : F) → IfOk read P → IfOk (cond b (Err refusal) read) P
 IfOk-where_false P true read refusal h = tt
 IfOk-where_false P false read refusal h = h

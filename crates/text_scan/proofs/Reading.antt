@@ -1,25 +1,30 @@
 -- What is left of a text that is being read.
-use Rattle.std.proofs.Common.{◌≡◌, ℕ, ◌+◌, ◌-◌, ◌<◌, ◌≤◌, false, List, [], ◌∷◌, length, take, drop, get_or, slice_range, refl, sym, ap, subst, true≢false, true, ◌∙◌, arith, ◌↔◌, IsNone, Some, None, ⊎_elim, length-drop, length-take-le, get_or-drop, drop-drop, add-zero}
-use Rattle.std.specs.List.{prefix_len, position_or_len}
+use Rattle.std.proofs.Common.{◌≡◌, ℕ, ◌+◌, ◌-◌, ◌<◌, ◌≤◌, false, List, [], ◌∷◌, length, take, drop, get_or, slice_range, refl, sym, ap, subst, true≢false, true, ◌∙◌, arith, ◌↔◌, IsNone, IfOk, IsTrue, Some, None, ⊎_elim, slice_get, length-drop, length-take-le, get_or-drop, drop-drop, add-zero, le_refl, not}
+use Rattle.std.specs.List.{prefix_len, position_or_len, AllByRecursion}
 use Rattle.std.proofs.lemmas.List.{drop_all}
 use Rattle.std.proofs.lemmas.Option.{slice_get-get_or, slice_get_past}
 use Rattle.std.proofs.lemmas.Bool.{cases_lt, cases_eq}
-use Rattle.std.proofs.lemmas.List.Sums.{prefix_len_stops}
-use Rattle.text_scan.specs.Tokens.{is_blank, Token, tokens_from, first_end}
+use Rattle.std.proofs.lemmas.List.Sums.{prefix_len_stops, prefix_len-le-length}
+use Rattle.text_scan.specs.Parts.{or_refuse}
+use Rattle.text_scan.specs.Tokens.{is_blank, Token, tokens_from, after_first_token, first_end, is_word, StandsWithin}
 use Rattle.std.specs.Char.{is_ascii_digit}
 use Rattle.text_scan.specs.Numbers.{sign_len, unsigned, is_number, number_front}
-use Rattle.text_scan.specs.Reading.{Reading, left, tokens_left, rest_of, past_blanks, next_byte, past_number}
-use Rattle.text_scan.proofs.Tokens.{tokens_after_blanks, tokens_of_run, run_is_nonempty}
+use Rattle.text_scan.specs.Reading.{Reading, left, tokens_left, first_token, past_blanks, past_token, next_byte, past_number}
+use Rattle.text_scan.proofs.Tokens.{tokens_after_blanks, tokens_of_run, run_is_nonempty, tokens_stand_within}
+
+-- the first token that is left is a word
+pub first_token_is_word : {F : Type 0} (missing : ℕ → F) (r : Reading) → IfOk (first_token missing r) (λ token. IsTrue (is_word token.bytes))
+first_token_is_word missing r = at (tokens_left r) (tokens_stand_within r.place (left r))
+  where
+    at : (ts : List Token) → AllByRecursion (StandsWithin r.place (r.place + length (left r))) ts → IfOk (or_refuse (slice_get ts 0) (missing (length r.text))) (λ token. IsTrue (is_word token.bytes))
+    at [] all = tt
+    at (t ∷ ts) all = all.0.0
 
 -- the blanks that come next are no part of a token
 pub tokens_past_blanks : (r : Reading) → tokens_left (past_blanks r) ≡ tokens_left r
 tokens_past_blanks r =
     let k = prefix_len is_blank (left r) in
     sym (tokens_after_blanks r.place (left r) ∙ ap (tokens_from (r.place + k)) (drop-drop k r.place r.text))
-
--- so what is left token by token stays
-pub rest_past_blanks : (r : Reading) → rest_of (past_blanks r) ≡ rest_of r
-rest_past_blanks r = ap (λ (ts : List Token). record { end = length r.text; tokens = ts }) (tokens_past_blanks r)
 
 -- where only blanks are left, no token is
 pub no_token : (r : Reading) → length r.text ≤ (past_blanks r).place → tokens_left r ≡ []
@@ -103,6 +108,26 @@ module _ {r : Reading} {start end : ℕ} (run : IsNextRun r start end) where
       (λ (more : start ≡ end → ⊥).
       rw (token_in_run more) (omega (arith, run.ends, length-take-le (end - start) (drop start r.text) (omega (arith, length-drop start r.text)))))
       (cases_eq start end)
+
+-- behind the first token the other tokens are left
+pub tokens_past_token : (r : Reading) → tokens_left (past_token r) ≡ after_first_token (tokens_left r)
+tokens_past_token r = ⊎_elim
+    (λ (inside : start < length r.text).
+    let within : end ≤ length r.text = omega (arith, prefix_len-le-length (λ b. not (is_blank b)) (drop start r.text), length-drop start r.text) in
+    ap (λ p. tokens_from p (drop p r.text)) (run_leads (run (omega arith)) within) ∙ sym (ap after_first_token (first_token_is r start end refl refl inside)))
+    (λ (ends : length r.text ≤ start).
+    let none = no_token r ends in
+    rw none (ap (tokens_from (length r.text)) (drop_all (length r.text) r.text (le_refl (length r.text)))))
+    (cases_lt start (length r.text))
+  where
+    start : ℕ
+    start = (past_blanks r).place
+
+    end : ℕ
+    end = start + position_or_len is_blank (drop start r.text)
+
+    run : start ≤ length r.text → IsNextRun r start end
+    run in_text = record { starts = refl; ends = refl; in_text = in_text }
 
 -- where reading a number leads
 pub number_leads : (r : Reading) (start end : ℕ) → start ≡ (past_blanks r).place → end ≤ length r.text →

@@ -8,8 +8,6 @@ use Rattle.std.specs.List.{prefix_len}
 use Rattle.text_scan.specs.declared.number_fault.NumberFault.{NumberFault}
 use Rattle.text_scan.specs.declared.number_fault.NumberFault.TheVariants.{NotNumber, OutOfRange, End}
 use Rattle.text_scan.specs.Tokens.{Token}
-use Rattle.text_scan.specs.Parts.{◌>>=◌}
-use Rattle.text_scan.specs.Rest.{Rest, first_token}
 
 -- a plus or a minus
 abbrev pub is_sign : ℕ → Bool
@@ -48,10 +46,6 @@ abbrev pub token_number : ℤ → ℤ → Token → Result ℤ NumberFault
 token_number lo hi t =
     if is_number t.bytes then (if is_within lo hi (value_of t.bytes) then Ok (value_of t.bytes) else Err (OutOfRange t.place))
     else Err (NotNumber t.place)
-
--- the number that the first token is
-abbrev pub first_number : ℤ → ℤ → Rest → Result ℤ NumberFault
-first_number lo hi rest = first_token End rest >>= token_number lo hi
 
 -- the number that the bytes begin with, of which the first stands at a place, in a text of this length
 abbrev pub front_number : ℤ → ℤ → ℕ → ℕ → List ℕ → Result ℤ NumberFault

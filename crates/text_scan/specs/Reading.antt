@@ -1,10 +1,12 @@
--- How far a text has been read.
-use Rattle.std.specs.Prelude.{ℕ, Bool, ◌+◌, ◌==◌, List, length, drop, if◌then◌else◌, Option, None, Some, slice_get, false, ℤ, Result}
+-- How far a text has been read, and what is left of it.
+use Rattle.std.specs.Prelude.{ℕ, Bool, ◌+◌, ◌==◌, List, length, drop, if◌then◌else◌, Option, None, Some, slice_get, false, ℤ, Result, Ok}
 use Rattle.std.specs.List.{prefix_len}
 use Rattle.text_scan.specs.Tokens.{is_blank, Token, tokens_from, first_end}
-use Rattle.text_scan.specs.Rest.{Rest}
-use Rattle.text_scan.specs.Numbers.{number_front, is_number, front_number}
+use Rattle.text_scan.specs.Parts.{◌>>=◌, or_refuse}
+use Rattle.text_scan.specs.Numbers.{number_front, is_number, token_number, front_number}
+use Rattle.text_scan.specs.declared.number.Number.{Number}
 use Rattle.text_scan.specs.declared.number_fault.NumberFault.{NumberFault}
+use Rattle.text_scan.specs.declared.number_fault.NumberFault.TheVariants.{End}
 
 -- it is there, and it is b
 abbrev pub is_some_of : ℕ → Option ℕ → Bool
@@ -16,6 +18,10 @@ pub record Reading : Type 0 where
   pub text : List ℕ
   pub place : ℕ
 
+-- nothing of the text has been read
+abbrev pub whole : List ℕ → Reading
+whole text = record { text = text; place = 0 }
+
 -- the bytes that are left
 abbrev pub left : Reading → List ℕ
 left r = drop r.place r.text
@@ -24,9 +30,16 @@ left r = drop r.place r.text
 abbrev pub tokens_left : Reading → List Token
 tokens_left r = tokens_from r.place (left r)
 
--- what is left, token by token
-abbrev pub rest_of : Reading → Rest
-rest_of r = record { end = length r.text; tokens = tokens_left r }
+-- the first of them; where there is none, what is missing at the end of the text
+abbrev pub first_token : {F : Type 0} → (ℕ → F) → Reading → Result Token F
+first_token missing r = or_refuse (slice_get (tokens_left r) 0) (missing (length r.text))
+
+-- the number that the first token is, or why it is none
+abbrev pub first_number : ℤ → ℤ → Reading → Result Number NumberFault
+first_number lo hi r = do
+  token ← first_token End r
+  value ← token_number lo hi token
+  Ok (record { value = value; at = token.place })
 
 -- after n more bytes
 abbrev pub past : ℕ → Reading → Reading

@@ -16,6 +16,7 @@
 
 mod laws;
 mod magnitude;
+mod number;
 mod number_fault;
 mod numeral;
 mod runs;
@@ -23,6 +24,7 @@ mod scanner;
 mod span;
 
 pub use laws::{printed_numbers_read_back, tokens_are_longest_runs};
+pub use number::Number;
 pub use number_fault::NumberFault;
 pub use scanner::Scanner;
 pub use span::Span;

@@ -2,10 +2,9 @@
 
 ghost use Rattle.std.specs.Prelude.{◌≡◌, ℕ, ◌<◌, ◌≤◌, ◌↔◌, List, [], ◌∷◌, length, IsNone, IfSome, OnOk, IsTrue};
 ghost use Rattle.text_scan.specs.Tokens.{token_at};
-ghost use Rattle.text_scan.specs.Rest.{all_of, after_first};
-ghost use Rattle.text_scan.specs.Numbers.{first_number};
-ghost use Rattle.text_scan.specs.Reading.{Reading, tokens_left, rest_of, next_byte, next_number, is_next, past_blanks, past_token, past_number, past_byte};
+ghost use Rattle.text_scan.specs.Reading.{Reading, whole, tokens_left, first_number, next_byte, next_number, is_next, past_blanks, past_token, past_number, past_byte};
 
+use crate::number::Number;
 use crate::number_fault::NumberFault;
 use crate::numeral::{is_number, number_end, number_in, value_within};
 use crate::runs::{blanks_end, token_end};
@@ -34,9 +33,7 @@ impl<'a> Model for Scanner<'a> {
 impl<'a> Scanner<'a> {
     /// A scanner at the front of the text.
     pub fn over(bytes: &'a [u8]) -> Self
-        ensures text { result.text ≡ bytes.entry.now }
-        ensures place { result.place ≡ 0 }
-        ensures tokens { rest_of result ≡ all_of bytes.entry.now }
+        ensures whole { result ≡ whole bytes.entry.now }
     {
         Scanner { bytes, at: 0 }
     }
@@ -49,12 +46,21 @@ impl<'a> Scanner<'a> {
         self.at
     }
 
+    /// The bytes between two places of the text.
+    pub fn bytes(&self, span: Span) -> &'a [u8]
+        requires order { span.start ≤ span.end }
+        requires within { span.end ≤ length self.now.text }
+        ensures { result.now ≡ (token_at self.now.text span).bytes }
+    {
+        &self.bytes[span.start..span.end]
+    }
+
     /// The next byte that is no blank. Only the blanks before it are passed over.
     pub fn peek(&mut self) -> Option<u8>
         ensures byte { result ≡ next_byte self.old }
         ensures none { IsNone result ↔ (tokens_left self.old ≡ []) }
         ensures passed { self.new ≡ past_blanks self.old }
-        ensures tokens { rest_of self.new ≡ rest_of self.old }
+        ensures tokens { tokens_left self.new ≡ tokens_left self.old }
         ensures text { self.new.text ≡ self.old.text }
         ensures within { self.new.place ≤ length self.new.text }
     {
@@ -99,9 +105,8 @@ impl<'a> Scanner<'a> {
     }
 
     /// The next token as a number from `lo` to `hi`. The token is passed over, also a refused one.
-    pub fn number(&mut self, lo: i64, hi: i64) -> Result<i64, NumberFault>
-        ensures answer { result ≡ first_number lo hi (rest_of self.old) }
-        ensures tokens { rest_of self.new ≡ after_first (rest_of self.old) }
+    pub fn number(&mut self, lo: i64, hi: i64) -> Result<Number, NumberFault>
+        ensures answer { result ≡ first_number lo hi self.old }
         ensures passed { self.new ≡ past_token self.old }
         ensures forward { OnOk result (self.old.place < self.new.place) }
         ensures text { self.new.text ≡ self.old.text }
@@ -113,7 +118,10 @@ impl<'a> Scanner<'a> {
         };
         let token = &bytes[span.start..span.end];
         match number_in(token, span.start, i128::from(lo), i128::from(hi)) {
-            Ok(value) => Ok(value as i64),
+            Ok(value) => Ok(Number {
+                value: value as i64,
+                at: span.start,
+            }),
             Err(fault) => Err(fault),
         }
     }

@@ -1,10 +1,18 @@
 //! Tokens and numbers of worked texts.
 
+ghost use Rattle.std.specs.Prelude.{◌≡◌, Ok};
+
 use super::*;
 
 /// A design of one net, of 144 bytes.
 const DESIGN: &[u8] =
     b"grid 3 1 1\nvertical capacity 0\nhorizontal capacity 4\nminimum width 1\nminimum spacing 1\nvia spacing 1\n0 0 10 10\nnum net 1\na 0 2 1\n5 5 1\n25 5 1\n0\n";
+
+fn number(value: i64, at: usize) -> Result<Number, NumberFault>
+    ensures { result ≡ Ok (record { value = value; at = at }) }
+{
+    Ok(Number { value, at })
+}
 
 #[test]
 fn tokens_are_the_longest_runs_between_blanks(rt: HostRuntime) {
@@ -36,27 +44,33 @@ fn the_places_in_a_design_are_known(rt: HostRuntime) {
         end: 137,
     });
     assert!(rt; scanner.token() == pin);
-    assert!(rt; scanner.number(0, 9) == Ok(5) && scanner.number(0, 9) == Ok(1));
+    assert!(rt; scanner.number(0, 9) == number(5, 138) && scanner.number(0, 9) == number(1, 140));
     assert!(rt; scanner.place() == 141);
-    assert!(rt; scanner.number(0, 9) == Ok(0) && scanner.place() == 143);
+    assert!(rt; scanner.number(0, 9) == number(0, 142) && scanner.place() == 143);
     let end = NumberFault::End { at: 144 };
     assert!(rt; scanner.number(0, 9) == Err(end) && end.place() == 144 && end.number() == 3);
 }
 
 #[test]
 fn a_number_is_a_whole_token(rt: HostRuntime) {
-    let cases: [(&[u8], i64, i64, Result<i64, NumberFault>, usize); 14] = [
+    let cases: [(&[u8], i64, i64, Result<Number, NumberFault>, usize); 14] = [
         (b" \n", 0, 9, Err(NumberFault::End { at: 2 }), 2),
         (b" - 1", 0, 9, Err(NumberFault::NotNumber { at: 1 }), 2),
         (b"+-1", -9, 9, Err(NumberFault::NotNumber { at: 0 }), 3),
         (b"1x 2", 0, 9, Err(NumberFault::NotNumber { at: 0 }), 2),
         (b"1\0", 0, 9, Err(NumberFault::NotNumber { at: 0 }), 2),
-        (b"-0", 0, 9, Ok(0), 2),
-        (b"+007", 7, 7, Ok(7), 4),
-        (b" -12\r\n", -12, 0, Ok(-12), 4),
+        (b"-0", 0, 9, number(0, 0), 2),
+        (b"+007", 7, 7, number(7, 0), 4),
+        (b" -12\r\n", -12, 0, number(-12, 1), 4),
         (b" 12 ", 0, 11, Err(NumberFault::OutOfRange { at: 1 }), 3),
         (b" 12 ", 13, 99, Err(NumberFault::OutOfRange { at: 1 }), 3),
-        (b"9223372036854775807", i64::MIN, i64::MAX, Ok(i64::MAX), 19),
+        (
+            b"9223372036854775807",
+            i64::MIN,
+            i64::MAX,
+            number(i64::MAX, 0),
+            19,
+        ),
         (
             b"9223372036854775808",
             i64::MIN,
@@ -68,7 +82,7 @@ fn a_number_is_a_whole_token(rt: HostRuntime) {
             b"-9223372036854775808",
             i64::MIN,
             i64::MAX,
-            Ok(i64::MIN),
+            number(i64::MIN, 0),
             20,
         ),
         (
@@ -134,7 +148,7 @@ fn a_thousand_digits_never_wrap(rt: HostRuntime) {
     let beyond = NumberFault::OutOfRange { at: 0 };
     assert!(rt; Scanner::over(&nines).number(i64::MIN, i64::MAX) == Err(beyond));
     assert!(rt; Scanner::over(&nines).digits(i128::MIN, i128::MAX) == Err(beyond));
-    assert!(rt; Scanner::over(&seven).number(0, 9) == Ok(7));
+    assert!(rt; Scanner::over(&seven).number(0, 9) == number(7, 0));
     assert!(rt; Scanner::over(&seven).digits(0, 9) == Ok(7));
 }
 

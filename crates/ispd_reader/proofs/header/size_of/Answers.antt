@@ -1,6 +1,7 @@
 use Rattle.std.proofs.Common.{sym}
 use Rattle.grid_base.proofs.Extents.{cols_within, rows_within}
-use Rattle.ispd_reader.proofs.Ranges.{within_bounds, within_none, no_extent, size_is}
+use Rattle.text_scan.proofs.Ranges.{within_bounds}
+use Rattle.ispd_reader.proofs.Ranges.{within_none, no_extent, size_is}
 use Rattle.ispd_reader.proofs.header.size_of.Goals as goal
 
 pub returns-in_err-within : goal.returns-in_err-within

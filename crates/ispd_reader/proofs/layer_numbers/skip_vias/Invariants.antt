@@ -6,4 +6,4 @@ use Rattle.text_scan.proofs.InTurn.{left_behind}
 use Rattle.ispd_reader.proofs.layer_numbers.skip_vias.Given as goal
 
 abbrev pub invariant-loop : goal.invariant-loop
-invariant-loop l = left_behind (parts_at (λ _. number_at) l.counter (l.layers - l.counter) l.tokens) ≡ vias_at l.layers l.fn.tokens
+invariant-loop l = left_behind (parts_at (λ _. number_at) l.counter (l.layers - l.counter) l.scanner) ≡ vias_at l.layers l.fn.scanner

@@ -11,5 +11,5 @@ loop-width-preserved c =
     let part = λ (layer : ℕ). spacing_at (slice_index widths layer) in
     rw c.in_ok-push.ensures.items (
       omega (arith, length_push c.loop-width.spacings.items c.in_ok-spacing.field-0, c.loop-width.invariant.0),
-      goes_on part c.loop-width.spacings.items (length widths) c.loop-width.width-index c.loop-width.tokens c.in_ok-spacing.field-0 c.spacing.new.tokens (spacings_at widths c.args.tokens.now) c.loop-width-test.true c.in_ok-spacing.ensures c.loop-width.invariant.1,
+      goes_on part c.loop-width.spacings.items (length widths) c.loop-width.width-index c.loop-width.scanner c.in_ok-spacing.field-0 c.spacing.new.scanner (spacings_at widths c.args.scanner.now) c.loop-width-test.true c.in_ok-spacing.ensures c.loop-width.invariant.1,
     )

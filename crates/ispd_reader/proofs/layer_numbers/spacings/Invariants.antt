@@ -6,4 +6,4 @@ use Rattle.ispd_reader.specs.Header.{spacings_at}
 use Rattle.ispd_reader.proofs.layer_numbers.spacings.Given as goal
 
 abbrev pub invariant-loop-width : goal.invariant-loop-width
-invariant-loop-width l = (length l.spacings.items ≡ l.width-index) × (with_parts l.spacings.items (parts_at (λ layer. spacing_at (slice_index l.widths layer)) l.width-index (length l.widths - l.width-index) l.tokens) ≡ spacings_at l.widths l.fn.tokens)
+invariant-loop-width l = (length l.spacings.items ≡ l.width-index) × (with_parts l.spacings.items (parts_at (λ layer. spacing_at (slice_index l.widths layer)) l.width-index (length l.widths - l.width-index) l.scanner) ≡ spacings_at l.widths l.fn.scanner)

@@ -6,4 +6,4 @@ use Rattle.ispd_reader.specs.Header.{widths_at}
 use Rattle.ispd_reader.proofs.layer_numbers.widths.Given as goal
 
 abbrev pub invariant-loop : goal.invariant-loop
-invariant-loop l = with_parts l.widths.items (parts_at (λ _. width_at) l.counter (l.layers - l.counter) l.tokens) ≡ widths_at l.layers l.fn.tokens
+invariant-loop l = with_parts l.widths.items (parts_at (λ _. width_at) l.counter (l.layers - l.counter) l.scanner) ≡ widths_at l.layers l.fn.scanner

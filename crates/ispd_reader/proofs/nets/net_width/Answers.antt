@@ -1,7 +1,7 @@
 use Rattle.std.proofs.Common.{◌≤◌, ◌-◌, arith}
 use Rattle.grid_graph.specs.Grids.{layout_of}
 use Rattle.grid_graph.specs.Limits.{max_demand}
-use Rattle.ispd_reader.proofs.Ranges.{within_bounds}
+use Rattle.text_scan.proofs.Ranges.{within_bounds}
 use Rattle.ispd_reader.proofs.NetSteps.{spacing_le_greatest}
 use Rattle.ispd_reader.proofs.nets.net_width.Goals as goal
 

@@ -11,6 +11,6 @@ use Rattle.ispd_reader.proofs.nets.nets.Given as goal
 
 abbrev pub invariant-loop : goal.invariant-loop
 invariant-loop l =
-    (with_parts (nets_of l.nets.items) (more_nets_at (header_of (layout_of l.grid)) (contains nat_cmp l.taken) l.pins (l.count - l.counter) l.tokens) ≡ nets_at (header_of (layout_of l.grid)) l.fn.tokens)
+    (with_parts (nets_of l.nets.items) (more_nets_at (header_of (layout_of l.grid)) (contains nat_cmp l.taken) l.pins (l.count - l.counter) l.scanner) ≡ nets_at (header_of (layout_of l.grid)) l.fn.scanner)
     × AreNets l.grid l.nets.items (contains nat_cmp l.taken) l.pins l.counter
     × (l.count ≤ max_nets)

@@ -3,7 +3,7 @@ use Rattle.grid_base.proofs.Extents.{cols_within}
 use Rattle.grid_base.specs.Numbers.{cols}
 use Rattle.grid_graph.specs.Grids.{size_of, layout_of}
 use Rattle.grid_graph.specs.Tiles.{tile_index}
-use Rattle.ispd_reader.proofs.Ranges.{tile_below}
+use Rattle.grid_graph.proofs.Positions.{tile_below}
 use Rattle.ispd_reader.proofs.pins.column.Goals as goal
 
 pub tile_index-requires-clause-many : goal.tile_index-requires-clause-many

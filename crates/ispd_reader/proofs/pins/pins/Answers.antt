@@ -19,7 +19,7 @@ loop-index-preserved c =
     let v = c.in_ok-pin.field-0 in
     let next : numbers c.push.new.self.items ≡ ns ++ v.0 ∷ [] = rw c.in_ok-push.ensures.items (map_push (λ (w : Vertex). w.0) c.loop-index.pins.items v) in (
       rw c.in_ok-push.ensures.items (omega (arith, length_push c.loop-index.pins.items v, c.loop-index.invariant.0)),
-      rw next (goes_on part ns c.args.count c.loop-index.index c.loop-index.tokens v.0 c.pin.new.tokens (pins_at header c.args.id c.args.count c.args.tokens.now) c.loop-index-test.true c.in_ok-pin.ensures.pin c.loop-index.invariant.1),
+      rw next (goes_on part ns c.args.count c.loop-index.index c.loop-index.scanner v.0 c.pin.new.scanner (pins_at header c.args.id c.args.count c.args.scanner.now) c.loop-index-test.true c.in_ok-pin.ensures.pin c.loop-index.invariant.1),
       rw next (All-push (λ w. w < vertices (size_of c.args.grid.now)) ns v.0 c.loop-index.invariant.2 c.in_ok-pin.ensures.vertex),
     )
 
@@ -27,9 +27,9 @@ pub returns-in_err-pin-clause-pins : goal.returns-in_err-pin-clause-pins
 returns-in_err-pin-clause-pins c =
     let p = err_from_is_err_and c.from_residual.result c.from_residual.ensures.1 in
     let header = header_of (layout_of c.args.grid.now) in
-    rw (p.1, p.2) (ends refusal_in (pin_at header c.args.id) c.in_err-pin.field-0.0 (numbers c.loop-index.pins.items) c.args.count c.loop-index.index c.loop-index.tokens (pins_at header c.args.id c.args.count c.args.tokens.now) c.loop-index-test.true c.in_err-pin.ensures.pin c.loop-index.invariant.1)
+    rw (p.1, p.2) (ends refusal_in (pin_at header c.args.id) c.in_err-pin.field-0.0 (numbers c.loop-index.pins.items) c.args.count c.loop-index.index c.loop-index.scanner (pins_at header c.args.id c.args.count c.args.scanner.now) c.loop-index-test.true c.in_err-pin.ensures.pin c.loop-index.invariant.1)
 
 pub returns-clause-pins : goal.returns-clause-pins
 returns-clause-pins c =
     let header = header_of (layout_of c.args.grid.now) in
-    is_done (pin_at header c.args.id) (numbers c.loop-index.pins.items) c.args.count c.loop-index.index c.loop-index.tokens (pins_at header c.args.id c.args.count c.args.tokens.now) c.loop-index-test.false c.loop-index.invariant.1
+    is_done (pin_at header c.args.id) (numbers c.loop-index.pins.items) c.args.count c.loop-index.index c.loop-index.scanner (pins_at header c.args.id c.args.count c.args.scanner.now) c.loop-index-test.false c.loop-index.invariant.1

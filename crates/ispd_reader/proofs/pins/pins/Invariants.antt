@@ -11,5 +11,5 @@ use Rattle.ispd_reader.proofs.pins.pins.Given as goal
 abbrev pub invariant-loop-index : goal.invariant-loop-index
 invariant-loop-index l =
     (length l.pins.items ≡ l.index)
-    × (with_parts (numbers l.pins.items) (parts_at (pin_at (header_of (layout_of l.grid)) l.id) l.index (l.count - l.index) l.tokens) ≡ pins_at (header_of (layout_of l.grid)) l.id l.count l.fn.tokens)
+    × (with_parts (numbers l.pins.items) (parts_at (pin_at (header_of (layout_of l.grid)) l.id) l.index (l.count - l.index) l.scanner) ≡ pins_at (header_of (layout_of l.grid)) l.id l.count l.fn.scanner)
     × All (λ w. w < vertices (size_of l.grid)) (numbers l.pins.items)

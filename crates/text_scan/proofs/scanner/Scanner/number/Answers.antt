@@ -1,8 +1,10 @@
-use Rattle.std.proofs.Common.{◌≡◌, List, ℕ, ℤ, length, sym, ap, ◌∙◌, Ok, SFits, w64, to_z, of_z, to_z-of_z, arith}
+use Rattle.std.proofs.Common.{◌≡◌, ℤ, length, slice_get, refl, sym, ◌∙◌, Ok, SFits, w64, to_z, of_z, to_z-of_z, arith}
 use Rattle.std.specs.Int.{w128}
-use Rattle.text_scan.specs.Tokens.{Token, token_at}
-use Rattle.text_scan.specs.Numbers.{token_number, first_number}
-use Rattle.text_scan.specs.Reading.{Reading, rest_of}
+use Rattle.text_scan.specs.Tokens.{token_at}
+use Rattle.text_scan.specs.Numbers.{token_number}
+use Rattle.text_scan.specs.Parts.{or_refuse}
+use Rattle.text_scan.specs.Reading.{tokens_left}
+use Rattle.text_scan.specs.declared.number_fault.NumberFault.TheVariants.{End}
 use Rattle.text_scan.proofs.Numbers.{read_is_within, fits_between}
 use Rattle.text_scan.proofs.scanner.Scanner.number.Goals as goal
 
@@ -19,7 +21,5 @@ returns-in-Ok-clause-answer c =
     let read : token_number c.args.lo c.args.hi token ≡ Ok value = rw (lo, hi) at (sym c.number_in.ensures ∙ c.in-Ok.is) in
     let within = read_is_within c.args.lo c.args.hi value token read in
     let fits = fits_between c.args.lo c.args.hi value c.ranges.lo c.ranges.hi within.0 within.1 in
-    let first : first_number c.args.lo c.args.hi (rest_of c.args.self.now) ≡ token_number c.args.lo c.args.hi token =
-    ap (λ (ts : List Token). first_number c.args.lo c.args.hi (record { end = length c.args.self.now.text; tokens = ts })) c.in-Some.ensures.token
-    ∙ ap (λ (text : List ℕ). token_number c.args.lo c.args.hi (token_at text c.in-Some.span)) (sym (ap (λ (r : Reading). r.text) c.self.view_is)) in
-    rw (widens value fits, to_z-of_z fits) (sym (first ∙ read))
+    let here : or_refuse (slice_get (tokens_left c.args.self.now) 0) (End (length c.args.self.now.text)) ≡ Ok token = rw (c.in-Some.ensures.token, ← c.self.view_is) refl in
+    rw (widens value fits, to_z-of_z fits) (rw (here, read) refl)

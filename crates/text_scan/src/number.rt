@@ -1,9 +1,9 @@
-//! A number of the text.
+//! A number of a text.
 
 ghost use Rattle.std.specs.Prelude.{◌≡◌};
-ghost use Rattle.ispd_reader.specs.Within.{within};
+ghost use Rattle.text_scan.specs.Within.{within};
 
-/// A number of the text, from -2^40 to 2^40, and the place of its token.
+/// A number, and the place of its first byte in the text.
 #[derive(Clone, Copy, Debug, Drop, PartialEq, Eq)]
 pub struct Number {
     pub value: i64,
