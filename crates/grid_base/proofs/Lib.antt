@@ -9,3 +9,4 @@ pub mod Runs
 pub mod Walks
 pub mod Lines
 pub mod Chosen
+pub mod Spots

@@ -3,6 +3,7 @@ pub mod Limits
 pub mod Lists
 pub mod Neighbours
 pub mod Numbers
+pub mod Spots
 pub mod Standing
 pub mod Walks
 pub mod Lines

@@ -31,6 +31,8 @@ mod piece_set;
 mod place;
 mod sides;
 mod size;
+mod spot;
+mod spot_sides;
 mod vertex;
 mod via;
 
@@ -49,6 +51,8 @@ pub use piece_set::PieceSet;
 pub use place::Place;
 pub use sides::{nth_step, steps};
 pub use size::Size;
+pub use spot::Spot;
+pub use spot_sides::spot_steps;
 pub use vertex::Vertex;
 pub use via::Via;
 

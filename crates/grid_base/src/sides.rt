@@ -29,7 +29,7 @@ pub fn steps(size: Size, v: Vertex) -> [Option<(Vertex, Piece)>; 6]
     ]
 }
 
-fn west(size: Size, place: Place, v: Vertex) -> Option<(Vertex, Piece)>
+pub(crate) fn west(size: Size, place: Place, v: Vertex) -> Option<(Vertex, Piece)>
     requires { StandsAt size place v.0 }
     ensures { result ≡ six.west size v.0 }
 {
@@ -40,7 +40,7 @@ fn west(size: Size, place: Place, v: Vertex) -> Option<(Vertex, Piece)>
     Some((to, Piece::Edge(Edge::along(to, Axis::X))))
 }
 
-fn east(size: Size, place: Place, v: Vertex) -> Option<(Vertex, Piece)>
+pub(crate) fn east(size: Size, place: Place, v: Vertex) -> Option<(Vertex, Piece)>
     requires { StandsAt size place v.0 }
     ensures { result ≡ six.east size v.0 }
 {
@@ -50,7 +50,7 @@ fn east(size: Size, place: Place, v: Vertex) -> Option<(Vertex, Piece)>
     Some((Vertex(v.0 + 1), Piece::Edge(Edge::along(v, Axis::X))))
 }
 
-fn south(size: Size, place: Place, v: Vertex) -> Option<(Vertex, Piece)>
+pub(crate) fn south(size: Size, place: Place, v: Vertex) -> Option<(Vertex, Piece)>
     requires { StandsAt size place v.0 }
     ensures { result ≡ six.south size v.0 }
 {
@@ -61,7 +61,7 @@ fn south(size: Size, place: Place, v: Vertex) -> Option<(Vertex, Piece)>
     Some((to, Piece::Edge(Edge::along(to, Axis::Y))))
 }
 
-fn north(size: Size, place: Place, v: Vertex) -> Option<(Vertex, Piece)>
+pub(crate) fn north(size: Size, place: Place, v: Vertex) -> Option<(Vertex, Piece)>
     requires { StandsAt size place v.0 }
     ensures { result ≡ six.north size v.0 }
 {
@@ -74,7 +74,7 @@ fn north(size: Size, place: Place, v: Vertex) -> Option<(Vertex, Piece)>
     ))
 }
 
-fn down(size: Size, place: Place, v: Vertex) -> Option<(Vertex, Piece)>
+pub(crate) fn down(size: Size, place: Place, v: Vertex) -> Option<(Vertex, Piece)>
     requires { StandsAt size place v.0 }
     ensures { result ≡ six.down size v.0 }
 {
@@ -85,7 +85,7 @@ fn down(size: Size, place: Place, v: Vertex) -> Option<(Vertex, Piece)>
     Some((Vertex(to), Piece::Via(Via(to))))
 }
 
-fn up(size: Size, place: Place, v: Vertex) -> Option<(Vertex, Piece)>
+pub(crate) fn up(size: Size, place: Place, v: Vertex) -> Option<(Vertex, Piece)>
     requires { StandsAt size place v.0 }
     ensures { result ≡ six.up size v.0 }
 {

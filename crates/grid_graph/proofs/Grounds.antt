@@ -70,7 +70,7 @@ joins_with_choked g terminals WithChoked is = is.1
 
 -- the first net without a ground is the cause
 pub first_cause : (g : Grid) (nets : List NetSpec) (place : ℕ) (n : NetSpec) (e : GroundError) → At nets place n → IsGroundError g n e → ((j : ℕ) (m : NetSpec) → j < place → At nets j m → JoinsTerminals g WithChoked m.terminals) → IsFirstGroundError g nets e
-first_cause g nets place n (Unreachable id terminal) at cause earlier =
+first_cause g nets place n (Unreachable net) at cause earlier =
     record { place = place; net = n; stands = at; cut_off = cause; earlier = earlier }
 first_cause g nets place n NoMemory at cause earlier = tt
 

@@ -3,7 +3,11 @@ use Rattle.std.specs.Prelude.{ℕ, Option, None, Some}
 use Rattle.grid_graph.specs.declared.ground_error.GroundError.{GroundError}
 use Rattle.grid_graph.specs.declared.ground_error.GroundError.TheVariants.{Unreachable, NoMemory}
 
--- an unreachable net is fault 4; want of memory has no number
+-- the number of an unreachable net
+abbrev pub unreachable_number : ℕ
+unreachable_number = 4
+
+-- an unreachable net has that number; want of memory has none
 abbrev pub number_of : GroundError → Option ℕ
-number_of (Unreachable id terminal) = Some 4
+number_of (Unreachable net) = Some unreachable_number
 number_of NoMemory = None

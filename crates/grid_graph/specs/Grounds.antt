@@ -35,7 +35,7 @@ pub record IsCutOff (g : Grid) (n : NetSpec) (id terminal : ℕ) : Type 0 where
 
 -- why a net has no ground; want of memory has no cause
 abbrev pub IsGroundError : Grid → NetSpec → GroundError → Type 0
-IsGroundError g n (Unreachable id terminal) = IsCutOff g n id terminal
+IsGroundError g n (Unreachable net) = IsCutOff g n net.id net.terminal
 IsGroundError g n NoMemory = Unit {0}
 
 -- net k is the first that has no ground
@@ -48,7 +48,7 @@ pub record IsFirstCutOff (g : Grid) (nets : List NetSpec) (id terminal : ℕ) : 
 
 -- why a list of nets has no grounds
 abbrev pub IsFirstGroundError : Grid → List NetSpec → GroundError → Type 0
-IsFirstGroundError g nets (Unreachable id terminal) = IsFirstCutOff g nets id terminal
+IsFirstGroundError g nets (Unreachable net) = IsFirstCutOff g nets net.id net.terminal
 IsFirstGroundError g nets NoMemory = Unit {0}
 
 -- one ground per net, in order

@@ -5,6 +5,8 @@ pub use Rattle.grid_base.specs.Walks
 pub mod Apart
 pub mod Borders
 pub mod Capacities
+pub mod Flat
+pub mod Floors
 pub mod Grids
 pub mod GroundErrors
 pub mod Grounds

@@ -8,6 +8,7 @@ use crate::ground::Ground;
 use crate::ground_error::GroundError;
 use crate::labels::labels_of;
 use crate::nets::Nets;
+use crate::unreachable_net::UnreachableNet;
 
 /// A grid and the nets to be routed on it.
 #[derive(Drop)]
@@ -74,10 +75,10 @@ impl Design {
         };
         match first_apart(by_choked, terminals) {
             None => Ok(Ground::WithChoked),
-            Some(terminal) => Err(GroundError::Unreachable {
+            Some(terminal) => Err(GroundError::Unreachable(UnreachableNet {
                 id: spec.id,
                 terminal: terminal as u32,
-            }),
+            })),
         }
     }
 }

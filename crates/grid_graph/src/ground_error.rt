@@ -4,6 +4,7 @@ ghost use Rattle.std.specs.Prelude.{◌≡◌};
 ghost use Rattle.grid_graph.specs.declared.ground_error.GroundError.TheVariants.{NoMemory};
 ghost use Rattle.grid_graph.specs.GroundErrors.{number_of};
 
+use crate::unreachable_net::UnreachableNet;
 use std::alloc::AllocFailed;
 use thiserror::Error;
 
@@ -11,13 +12,8 @@ use thiserror::Error;
 #[derive(Debug, Drop, Clone, Copy, PartialEq, Eq, Error)]
 pub enum GroundError {
     /// Open and choked edges with vias don't join the net's terminals.
-    #[error("net {id} is unreachable: its terminal {terminal} is not joined to its first one")]
-    Unreachable {
-        /// The net's id.
-        id: u32,
-        /// The place among its terminals, from 0, of the first one that isn't joined to the first.
-        terminal: u32,
-    },
+    #[error("{0}")]
+    Unreachable(UnreachableNet),
     /// There was no memory for the labels.
     #[error("want of memory")]
     NoMemory,
@@ -29,7 +25,7 @@ impl GroundError {
         ensures { result ≡ number_of self }
     {
         match self {
-            GroundError::Unreachable { .. } => Some(4),
+            GroundError::Unreachable(net) => Some(net.number()),
             GroundError::NoMemory => None,
         }
     }

@@ -15,6 +15,8 @@
 mod design;
 mod first_apart;
 mod first_capacity;
+mod floored_weights;
+mod floors;
 mod grid;
 mod grid_parts;
 mod grid_refusal;
@@ -31,9 +33,12 @@ mod net_spec;
 mod nets;
 mod terms;
 mod tiles;
+mod unreachable_net;
 mod weights;
 
 pub use design::Design;
+pub use floored_weights::FlooredWeights;
+pub use floors::Floors;
 pub use grid::Grid;
 pub use grid_parts::GridParts;
 pub use grid_refusal::GridRefusal;
@@ -47,4 +52,5 @@ pub use net_spec::NetSpec;
 pub use nets::Nets;
 pub use terms::Terms;
 pub use tiles::{tile_index, written_position};
+pub use unreachable_net::UnreachableNet;
 pub use weights::Weights;
