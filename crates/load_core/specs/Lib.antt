@@ -1,0 +1,6 @@
+pub mod Entries
+pub mod Lending
+pub mod Parties
+pub mod Soundness
+pub mod Events
+pub mod Runs

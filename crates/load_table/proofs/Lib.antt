@@ -1,0 +1,2 @@
+pub mod HeldAfter
+pub mod KeptRule

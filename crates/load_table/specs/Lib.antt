@@ -1,0 +1,5 @@
+pub use Rattle.load_core.specs.Entries
+pub use Rattle.load_core.specs.Parties
+pub use Rattle.load_core.specs.Soundness
+pub mod Holdings
+pub mod Tables
