@@ -19,7 +19,7 @@ use Rattle.grid_graph.specs.Weighed.{Weighs, IsAllowed, NoPieceTwice, WeighsOnly
 use Rattle.grid_graph.proofs.Allowed.{Allows-IsPiece}
 use Rattle.edge_prices.specs.PieceLists.{admits, has_piece, edge, all_pieces, pieces_with, AreGroundPieces}
 use Rattle.edge_prices.specs.Vectors.{edge_numbers}
-use Rattle.edge_prices.proofs.Members.{In, In-Contains, Contains-In, In-map, In-from_map, In-filter, In-from_filter, In-append_left, In-append_right, In-range, Differ, Differ-filter, Differ-append, Differ-map_range, Differ-HasNoRepeats}
+use Rattle.grid_graph.proofs.Members.{In, In-Contains, Contains-In, In-map, In-from_map, In-filter, In-from_filter, In-append_left, In-append_right, In-range, Differ, Differ-filter, Differ-append, Differ-map_range, Differ-HasNoRepeats}
 
 edge-tells : (j k : ℕ) → edge j ≡ edge k → j ≡ k
 edge-tells j k same =

@@ -12,6 +12,7 @@ use Rattle.edge_prices.specs.declared.least_prices.LeastPrices.{LeastPrices}
 use Rattle.edge_prices.specs.Floors.{least_along, AreLeast}
 use Rattle.edge_prices.specs.Kept.{IsCurrent}
 use Rattle.edge_prices.specs.Limits.{max_load}
+use Rattle.edge_prices.specs.TilePrices.{AreTilePrices}
 use Rattle.edge_prices.specs.Prices.{index_or_zero, price_or_zero}
 use Rattle.edge_prices.specs.Vectors.{edge_numbers, entries, capacity_of, index_of, top_of, price_of, price_vector, IsLoadList}
 use Rattle.edge_prices.proofs.Entries.{set_within}
@@ -66,22 +67,31 @@ vector-after g loads scale budget r load price loaded keeps priced k below = eli
       ∙ entry-price_vector g loads scale budget k below ∙ price_of-after g loads scale budget r load loaded keeps k apart
 ]
 
--- the prices stay current where the greatest index stays and the entry gets its price
-pub IsCurrent-set : (g : Grid) (loads : List ℕ) (scale : ℕ) (budget : Option ℕ) (prices : List ℕ) (top : ℕ) (least lower : LeastPrices) (r load price : ℕ) →
-    IsLoadList g loads → IsCurrent g loads scale budget prices top least → KeepsGreatest g loads scale budget r load →
-    price ≡ price_or_zero (capacity_of g budget r) top (index_or_zero (capacity_of g budget r) load scale) → AreLeast g (set prices r price) lower →
-    IsCurrent g (set loads r load) scale budget (set prices r price) top lower
-IsCurrent-set g loads scale budget prices top least lower r load price loaded current keeps priced lowest =
+-- the prices are those of the loads after the change
+pub vector-set : (g : Grid) (loads : List ℕ) (scale : ℕ) (budget : Option ℕ) (prices : List ℕ) (top : ℕ) (r load price : ℕ) →
+    IsLoadList g loads → prices ≡ price_vector g loads scale budget → top ≡ top_of g loads scale budget → KeepsGreatest g loads scale budget r load →
+    price ≡ price_or_zero (capacity_of g budget r) top (index_or_zero (capacity_of g budget r) load scale) →
+    set prices r price ≡ price_vector g (set loads r load) scale budget
+vector-set g loads scale budget prices top r load price loaded vector greatest keeps priced =
     let is : price ≡ price_of g (set loads r load) scale budget r =
-    priced ∙ ap (λ t. price_or_zero (capacity_of g budget r) t (index_or_zero (capacity_of g budget r) load scale)) current.greatest
+    priced ∙ ap (λ t. price_or_zero (capacity_of g budget r) t (index_or_zero (capacity_of g budget r) load scale)) greatest
     ∙ price_of-here g loads scale budget r load loaded keeps in
+    ap (λ xs. set xs r price) vector
+    ∙ fill_by_all (price_of g (set loads r load) scale budget) (set (price_vector g loads scale budget) r price) (entries g) 0
+    (length-set (price_vector g loads scale budget) r price ∙ length-price_vector g loads scale budget)
+    (vector-after g loads scale budget r load price loaded keeps is)
+
+-- the prices stay current where the greatest index stays and the entry gets its price
+pub IsCurrent-set : (g : Grid) (loads : List ℕ) (scale : ℕ) (budget : Option ℕ) (prices : List ℕ) (top : ℕ) (least lower : LeastPrices) (over after : List ℕ) (r load price : ℕ) →
+    IsLoadList g loads → IsCurrent g loads scale budget prices top least over → KeepsGreatest g loads scale budget r load →
+    price ≡ price_or_zero (capacity_of g budget r) top (index_or_zero (capacity_of g budget r) load scale) → AreLeast g (set prices r price) lower → AreTilePrices g (set prices r price) after →
+    IsCurrent g (set loads r load) scale budget (set prices r price) top lower after
+IsCurrent-set g loads scale budget prices top least lower over after r load price loaded current keeps priced lowest tiled =
     record {
       greatest = current.greatest ∙ sym (top_of-kept g loads scale budget r load loaded keeps);
-      vector = ap (λ xs. set xs r price) current.vector
-          ∙ fill_by_all (price_of g (set loads r load) scale budget) (set (price_vector g loads scale budget) r price) (entries g) 0
-          (length-set (price_vector g loads scale budget) r price ∙ length-price_vector g loads scale budget)
-          (vector-after g loads scale budget r load price loaded keeps is);
+      vector = vector-set g loads scale budget prices top r load price loaded current.vector current.greatest keeps priced;
       lowest = lowest;
+      tiled = tiled;
     }
 
 -- the least prices where one entry changes

@@ -3,8 +3,10 @@ pub mod Greatest
 pub mod GroundPieces
 pub mod KeptSteps
 pub mod Layers
-pub mod Members
+pub mod Least
+pub mod LeastOver
 pub mod PriceTable
 pub mod PriceVectors
+pub mod TilePrices
 pub mod WeightFloors
 pub mod WeightLimits

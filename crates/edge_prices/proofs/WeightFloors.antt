@@ -1,24 +1,30 @@
 -- How little a piece weighs at least.
-use Rattle.std.proofs.Common.{ℕ, ◌+◌, ◌*◌, ◌≡◌, ◌≤◌, ◌<◌, List, slice_index, arith}
+use Rattle.std.proofs.Common.{ℕ, ◌+◌, ◌*◌, ◌%◌, ◌==◌, cond, ltb, ◌≡◌, ◌≤◌, ◌<◌, List, slice_index, ap, arith}
 use Rattle.std.proofs.lemmas.Bool.{cond_both, ltb-true}
 use Rattle.std.proofs.lemmas.Nat.{mul-le}
 use Rattle.grid_base.specs.declared.axis.Axis.{Axis}
 use Rattle.grid_base.specs.declared.axis.Axis.TheVariants.{X, Y}
 use Rattle.grid_base.specs.declared.piece.Piece.{Piece}
 use Rattle.grid_base.specs.declared.piece.Piece.TheVariants.{Edge, Via}
-use Rattle.grid_base.specs.Numbers.{edge_axis}
+use Rattle.grid_base.specs.declared.size.Size.{Size}
+use Rattle.grid_base.specs.Numbers.{layers, edge_axis}
 use Rattle.grid_graph.specs.declared.grid.Grid.{Grid}
 use Rattle.grid_graph.specs.declared.ground.Ground.{Ground}
-use Rattle.grid_graph.specs.Grids.{capacity, demand_on, Allows}
-use Rattle.grid_graph.specs.Limits.{max_demand}
-use Rattle.edge_prices.specs.declared.floors.Floors.{Floors}
+use Rattle.grid_graph.specs.Grids.{size_of, capacity, demand_on, Allows}
+use Rattle.grid_graph.specs.Limits.{max_demand, max_weight}
+use Rattle.grid_graph.specs.declared.floors.Floors.{Floors}
 use Rattle.edge_prices.specs.declared.least_prices.LeastPrices.{LeastPrices}
-use Rattle.edge_prices.specs.Floors.{least_along, AreLeast, floor_along, floor_of, AreFloors}
+use Rattle.grid_graph.specs.Flat.{tiles}
+use Rattle.grid_graph.specs.Floors.{floor_along, floor_of, AreFloors, AreTileFloors, AreWithin}
+use Rattle.edge_prices.specs.Floors.{least_along, AreLeast}
 use Rattle.edge_prices.specs.Limits.{max_price}
 use Rattle.edge_prices.specs.PieceLists.{pieces_with, edge}
+use Rattle.edge_prices.specs.TilePrices.{no_price, price_on, least_price_over, least_weight_over}
 use Rattle.edge_prices.specs.Vectors.{edge_numbers}
 use Rattle.edge_prices.specs.Weights.{is_open, edge_cost, weight, wirelength_price}
 use Rattle.edge_prices.proofs.GroundPieces.{allowed_number, pieces_with-Weighs}
+use Rattle.edge_prices.proofs.Least.{least-ge}
+use Rattle.edge_prices.proofs.LeastOver.{number-on}
 
 -- an edge weighs at least what it would at a lower price and a lower demand
 edge-floor : (g : Grid) (width : ℕ) (prices : List ℕ) (e low demand : ℕ) →
@@ -56,3 +62,40 @@ pub floors-hold : (g : Grid) (over : Ground) (width : ℕ) (prices : List ℕ) (
 floors-hold g over width prices least floors demand low uses small wire are p n weighs =
     let facts = (pieces_with-Weighs g over (weight g width prices) p n).0 weighs in
     rw facts.1 (piece-floor g over width prices least floors demand low uses small wire are p facts.0)
+
+-- no floor along an axis is above the limit
+axis-within : (least low demand wire : ℕ) → low ≡ 4 * (least * demand + wire) + 1 → least ≤ max_price → demand ≤ max_demand → wire ≤ max_price → low ≤ max_weight
+axis-within least low demand wire is cheap small paid = omega (arith, mul-le least demand max_price max_demand cheap small)
+
+pub floors-within : (floors : Floors) (least : LeastPrices) (demand wire : ℕ) → least.along_x ≤ max_price → least.along_y ≤ max_price → demand ≤ max_demand → wire ≤ max_price →
+    AreFloorsAt floors least demand wire → AreWithin floors
+floors-within floors least demand wire cheap_x cheap_y small paid are = record {
+  x = axis-within least.along_x floors.along_x demand wire are.x cheap_x small paid;
+  y = axis-within least.along_y floors.along_y demand wire are.y cheap_y small paid;
+  vias = axis-within 0 floors.via demand wire (omega (arith, are.via)) (omega arith) small paid;
+}
+
+-- edges over one another run along one axis
+axis-on : (s : Size) (layer e : ℕ) → edge_axis (layer * (2 * tiles s) + e) ≡ edge_axis e
+axis-on s layer e = let same : (layer * (2 * tiles s) + e) % 2 ≡ e % 2 = omega arith in ap (λ n. cond (n == 0) X Y) same
+
+-- nor does any edge over a tile edge weigh less
+pub tile-floors : (g : Grid) (prices : List ℕ) (least : LeastPrices) (floors : Floors) (demand : ℕ) → AreLeast g prices least → demand ≤ max_demand → wirelength_price g prices ≤ max_price →
+    AreFloorsAt floors least demand (wirelength_price g prices) → AreTileFloors (size_of g) floors (least_weight_over g prices demand)
+tile-floors g prices least floors demand low small wire are e below =
+    let s = size_of g in
+    let axis = edge_axis e in
+    let paid = wirelength_price g prices in
+    let price = least_price_over g prices e in
+    let is = floor_along-is floors least demand paid are axis in
+    let cheap : least_along least axis ≤ price =
+    least-ge no_price (price_on g prices e) (layers s) (least_along least axis) (omega (arith, low.within axis))
+    (λ layer inside.
+    let f = layer * (2 * tiles s) + e in
+    let same : least_along least (edge_axis f) ≡ least_along least axis = ap (least_along least) (axis-on s layer e) in
+    cond_both (is_open g f) (slice_index prices f) no_price (λ p. least_along least axis ≤ p)
+    (λ opens. omega (arith, same, low.below f (number-on s layer e inside below) (ltb-true _ _ opens)))
+    (λ _. omega (arith, low.within axis))) in
+    cond_both (ltb max_price price) max_weight (4 * (price * demand + paid) + 1) (λ w. floor_along floors axis ≤ w)
+    (λ _. axis-within (least_along least axis) (floor_along floors axis) demand paid is (low.within axis) small wire)
+    (λ _. omega (arith, is, mul-le (least_along least axis) demand price demand cheap (omega arith)))

@@ -33,10 +33,10 @@ weight-limit g over width prices demands (Edge e) listed used allowed =
 weight-limit g over width prices demands (Via v) listed used allowed = let wire = listed.within (edge_numbers g) in omega arith
 
 pub cost-limit : (g : Grid) (over : Ground) (width : ℕ) (prices demands : List ℕ) (p : Piece) → ArePrices g prices → AreDemands g width demands → Allows g over p →
-    cost g width prices p ≤ max_weight
+    cost g width prices p ≤ max_price * max_demand
 cost-limit g over width prices demands (Edge e) listed used allowed =
     let pays : edge_cost g width prices e.0 ≤ max_price * max_demand = edge_cost-limit g width prices demands e.0 listed used (allowed_number g over e allowed) in
-    cond_both (is_open g e.0) _ _ (λ w. w ≤ max_weight) (λ _. omega arith) (λ _. omega arith)
+    cond_both (is_open g e.0) _ _ (λ w. w ≤ max_price * max_demand) (λ _. pays) (λ _. omega arith)
 cost-limit g over width prices demands (Via v) listed used allowed = omega arith
 
 -- so the weights and the costs of a ground's pieces are within the limit
@@ -50,7 +50,7 @@ pub costs_within : (g : Grid) (over : Ground) (width : ℕ) (prices demands : Li
     AreWithinLimit (pieces_with g over (cost g width prices))
 costs_within g over width prices demands listed used p n weighs =
     let facts = (pieces_with-Weighs g over (cost g width prices) p n).0 weighs in
-    rw facts.1 (cost-limit g over width prices demands p listed used facts.0)
+    omega (arith, facts.1, cost-limit g over width prices demands p listed used facts.0)
 
 -- the lists of weights and of costs are lists for a search
 pub weights_listed : (g : Grid) (over : Ground) (width : ℕ) (prices demands : List ℕ) → ArePrices g prices → AreDemands g width demands →

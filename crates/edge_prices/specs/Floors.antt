@@ -1,14 +1,10 @@
--- Floors of prices and of weights.
+-- Floors of prices.
 use Rattle.std.specs.Prelude.{ℕ, ◌≤◌, ◌<◌, List, slice_index}
 use Rattle.grid_base.specs.declared.axis.Axis.{Axis}
 use Rattle.grid_base.specs.declared.axis.Axis.TheVariants.{X, Y}
-use Rattle.grid_base.specs.declared.piece.Piece.{Piece}
-use Rattle.grid_base.specs.declared.piece.Piece.TheVariants.{Edge, Via}
 use Rattle.grid_base.specs.Numbers.{edge_axis}
 use Rattle.grid_graph.specs.declared.grid.Grid.{Grid}
 use Rattle.grid_graph.specs.Grids.{capacity}
-use Rattle.grid_graph.specs.Weighed.{Weighs}
-use Rattle.edge_prices.specs.declared.floors.Floors.{Floors}
 use Rattle.edge_prices.specs.declared.least_prices.LeastPrices.{LeastPrices}
 use Rattle.edge_prices.specs.Limits.{max_price}
 use Rattle.edge_prices.specs.Vectors.{edge_numbers}
@@ -22,17 +18,3 @@ least_along least Y = least.along_y
 pub record AreLeast (g : Grid) (prices : List ℕ) (least : LeastPrices) : Type 0 where
   pub below : (e : ℕ) → e < edge_numbers g → 0 < capacity g e → least_along least (edge_axis e) ≤ slice_index prices e
   pub within : (axis : Axis) → least_along least axis ≤ max_price
-
--- the floor of an axis
-abbrev pub floor_along : Floors → Axis → ℕ
-floor_along floors X = floors.along_x
-floor_along floors Y = floors.along_y
-
--- the floor of a piece
-abbrev pub floor_of : Floors → Piece → ℕ
-floor_of floors (Edge e) = floor_along floors (edge_axis e.0)
-floor_of floors (Via v) = floors.via
-
--- no piece of the list weighs less than its floor
-abbrev pub AreFloors : Floors → List (Piece × ℕ) → Type 0
-AreFloors floors pieces = (p : Piece) (weight : ℕ) → Weighs pieces p weight → floor_of floors p ≤ weight

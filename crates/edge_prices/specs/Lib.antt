@@ -1,4 +1,5 @@
 pub use Rattle.grid_base.specs.Numbers
+pub use Rattle.grid_graph.specs.Flat
 pub use Rattle.grid_graph.specs.Grids
 pub use Rattle.grid_graph.specs.Weighed
 pub mod Costings
@@ -7,9 +8,11 @@ pub mod Floors
 pub mod Greatest
 pub mod Kept
 pub mod KeptLists
+pub mod Least
 pub mod Limits
 pub mod PieceLists
 pub mod Prices
+pub mod TilePrices
 pub mod Vectors
 pub mod Weighings
 pub mod Weights

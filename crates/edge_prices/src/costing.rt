@@ -16,10 +16,14 @@ pub struct Costing<'a> {
 }
 
 impl<'a> Costing<'a> {
-    ghost use Rattle.std.specs.Prelude.{◌≡◌};
+    ghost use Rattle.std.specs.Prelude.{◌≡◌, ◌≤◌, ◌*◌, ℕ};
+    ghost use Rattle.grid_base.specs.declared.piece.Piece.{Piece};
     ghost use Rattle.grid_graph.specs.Grids.{size_of, IsNetWidth};
+    ghost use Rattle.grid_graph.specs.Limits.{max_demand};
+    ghost use Rattle.grid_graph.specs.Weighed.{Weighs};
     ghost use Rattle.edge_prices.specs.Costings.{costed_size, costed_pieces};
-    ghost use Rattle.edge_prices.specs.PieceLists.{AreGroundPieces};
+    ghost use Rattle.edge_prices.specs.Limits.{max_price};
+    ghost use Rattle.edge_prices.specs.PieceLists.{AreGroundPieces, pieces_with};
     ghost use Rattle.edge_prices.specs.Weights.{AreEdgePrices, cost};
 
     /// The pieces of the ground with their costs for a net of this width, at one price per edge number.
@@ -28,6 +32,8 @@ impl<'a> Costing<'a> {
         requires prices { AreEdgePrices grid.now prices.now }
         ensures size { costed_size result ≡ size_of grid.now }
         ensures pieces { AreGroundPieces grid.now ground (cost grid.now width prices.now) (costed_pieces result) }
+        ensures list { costed_pieces result ≡ pieces_with grid.now ground (cost grid.now width prices.now) }
+        ensures small { (p : Piece) (k : ℕ) → Weighs (costed_pieces result) p k → k ≤ max_price * max_demand }
     {
         Costing {
             net: NetPrices::new(grid, width, ground, prices, false),

@@ -8,6 +8,7 @@ use crate::least_of::least_prices_of;
 use crate::least_prices::LeastPrices;
 use crate::net_prices::NetPrices;
 use crate::resources::Resources;
+use crate::tile_prices::{write_tile_price, write_tile_prices};
 use crate::weighing::Weighing;
 use grid_graph::{Grid, Ground};
 
@@ -21,12 +22,14 @@ pub struct KeptPrices<'a> {
     prices: Vec<u32>,
     top: u128,
     least: LeastPrices,
+    tile_prices: Vec<u32>,
     stale: bool,
-    pub ghost kept: { IsKept resources.grid.now loads.items resources.scale resources.budget prices.items top least stale },
+    pub ghost kept: { IsKept resources.grid.now loads.items resources.scale resources.budget prices.items top least tile_prices.items stale },
 }
 
 impl<'a> KeptPrices<'a> {
-    ghost use Rattle.std.specs.Prelude.{◌≡◌, ◌≤◌, ◌<◌, length, slice_set, slice_index};
+    ghost use Rattle.std.specs.Prelude.{◌≡◌, ◌≤◌, ◌<◌, ◌*◌, length, slice_set, slice_index};
+    ghost use Rattle.grid_graph.specs.Flat.{tiles};
     ghost use Rattle.grid_graph.specs.Grids.{size_of, IsNetWidth};
     ghost use Rattle.edge_prices.specs.KeptLists.{grid_of, scale_of, budget_of, loads_of, vector_of, IsRenewed, KeepsSetting};
     ghost use Rattle.edge_prices.specs.Limits.{max_load};
@@ -35,18 +38,21 @@ impl<'a> KeptPrices<'a> {
     ghost use Rattle.edge_prices.specs.Weighings.{weighed_size, weighed_pieces};
     ghost use Rattle.edge_prices.specs.Weights.{IsPriceList, weight};
 
-    /// The prices of these loads. They are written over `prices`, whatever it holds.
+    /// The prices of these loads. They are written over `prices`, and the least over each tile edge, by its number on layer
+    /// 0, over `tile_prices`, whatever the two hold.
     pub fn new(
         grid: &'a Grid,
         loads: Vec<u64>,
         scale: u32,
         budget: Option<u64>,
         prices: Vec<u32>,
+        tile_prices: Vec<u32>,
     ) -> KeptPrices<'a>
         requires loads { IsLoadList grid.now loads.items }
         requires scale { IsScale scale }
         requires budget { IsBudget budget }
         requires prices { length prices.items ≡ entries grid.now }
+        requires tile_prices { length tile_prices.items ≡ 2 * tiles (size_of grid.now) }
         ensures grid { grid_of result ≡ grid.now }
         ensures scale { scale_of result ≡ scale }
         ensures budget { budget_of result ≡ budget }
@@ -63,6 +69,7 @@ impl<'a> KeptPrices<'a> {
             prices,
             top: 0,
             least: LeastPrices::NONE,
+            tile_prices,
             stale: true,
         };
         kept.renew();
@@ -95,6 +102,12 @@ impl<'a> KeptPrices<'a> {
         let price = self.resources.price(entry, load, self.top);
         self.prices[entry as usize] = price;
         self.least = self.least.with_entry(self.resources.edges(), entry, price);
+        write_tile_price(
+            self.resources.grid,
+            self.prices.as_slice(),
+            entry,
+            self.tile_prices.as_mut_slice(),
+        );
     }
 
     /// Renews all prices where they are stale.
@@ -109,6 +122,11 @@ impl<'a> KeptPrices<'a> {
         self.top = self.resources.top(self.loads.as_slice());
         self.resources.write_prices(self.loads.as_slice(), self.top, self.prices.as_mut_slice());
         self.least = least_prices_of(self.resources.grid, self.prices.as_slice());
+        write_tile_prices(
+            self.resources.grid,
+            self.prices.as_slice(),
+            self.tile_prices.as_mut_slice(),
+        );
         self.stale = false;
     }
 
@@ -135,7 +153,7 @@ impl<'a> KeptPrices<'a> {
             self.prices.as_slice(),
             true,
         );
-        Weighing::at(net, self.least)
+        Weighing::at(net, self.least, Some(self.tile_prices.as_slice()))
     }
 
     /// The loads and the prices, taken out.

@@ -4,7 +4,7 @@
 //! higher its price. A search takes a `Weighing`, a bound takes a `Costing`:
 //!
 //! ```text
-//! let mut kept = KeptPrices::new(&grid, loads, 1, None, prices);
+//! let mut kept = KeptPrices::new(&grid, loads, 1, None, prices, tile_prices);
 //! kept.set_load(edge, load);
 //! kept.renew();
 //! let weighing = kept.weighing(width, Ground::Open);
@@ -12,12 +12,11 @@
 //!
 //! It stands on `grid_graph` and `grid_base`. No call takes memory, and no weight takes a division. It promises that
 //! prices, weights and costs are exactly those of its definitions, that kept prices are those of the loads as they now
-//! stand, and that no allowed piece weighs less than its floor.
+//! stand, that no allowed piece weighs less than its floor, and no edge less than the least over its tile edge.
 #![tactic(auto)]
 
 mod change;
 mod costing;
-mod floors;
 mod index;
 mod kept_prices;
 mod layer_demands;
@@ -29,10 +28,10 @@ mod price;
 mod price_table;
 mod price_vector;
 mod resources;
+mod tile_prices;
 mod weighing;
 
 pub use costing::Costing;
-pub use floors::Floors;
 pub use index::index_at;
 pub use kept_prices::KeptPrices;
 pub use limits::{LAST_INDEX, MAX_BUDGET, MAX_LOAD, MAX_PRICE, MAX_SCALE};

@@ -26,7 +26,7 @@ pub struct NetPrices<'a> {
 
 impl<'a> NetPrices<'a> {
     ghost use Rattle.std.specs.Prelude.{ℕ, ◌≡◌, ◌≤◌, ◌<◌, ◌↔◌, ◌^◌, IsTrue, IfSome, Some, None, cond, slice_index};
-    ghost use Rattle.grid_base.specs.Numbers.{layer_of, IsVertex};
+    ghost use Rattle.grid_base.specs.Numbers.{layer_of, edge_start, IsVertex};
     ghost use Rattle.grid_graph.specs.Grids.{size_of, demand_on, Allows, IsNetWidth};
     ghost use Rattle.grid_graph.specs.Limits.{max_demand};
     ghost use Rattle.edge_prices.specs.Demands.{AreAllPriced, AreDemands};
@@ -79,11 +79,24 @@ impl<'a> NetPrices<'a> {
         ensures value { e.0 < edge_numbers self.now.grid.now → result ≡ cond (is_open self.now.grid.now e.0) (Some (edge_cost self.now.grid.now self.now.width self.now.prices.now e.0)) None }
         ensures limit { IfSome result (λ cost. cost ≤ 2 ^ 25) }
     {
-        if e.0 >= self.edges || !self.is_open(e) {
+        if e.0 >= self.edges {
+            return None;
+        }
+        self.cost_on(e, self.layer_of(e.start()))
+    }
+
+    /// The same of an edge on this layer.
+    fn cost_on(&self, e: Edge, layer: usize) -> Option<u64>
+        requires edge { e.0 < edge_numbers self.now.grid.now }
+        requires layer { layer ≡ layer_of (size_of self.now.grid.now) (edge_start e.0) }
+        ensures value { result ≡ cond (is_open self.now.grid.now e.0) (Some (edge_cost self.now.grid.now self.now.width self.now.prices.now e.0)) None }
+        ensures limit { IfSome result (λ cost. cost ≤ 2 ^ 25) }
+    {
+        if !self.is_open(e) {
             return None;
         }
         let price = u64::from(self.prices[e.0 as usize]);
-        let demand = u64::from(self.demands[self.layer_of(e.start())]);
+        let demand = u64::from(self.demands[layer]);
         Some(price * demand)
     }
 

@@ -1,7 +1,8 @@
 //! Prices of a worked grid, worked out by hand.
 
 ghost use Rattle.std.specs.Prelude.{◌≡◌, ◌≤◌, IsTrue, IfOk, IfSome};
-ghost use Rattle.grid_graph.specs.Grids.{IsNetWidth};
+ghost use Rattle.grid_graph.specs.Flat.{tiles};
+ghost use Rattle.grid_graph.specs.Grids.{size_of, IsNetWidth};
 ghost use Rattle.edge_prices.specs.KeptLists.{grid_of, IsRenewed};
 ghost use Rattle.edge_prices.specs.Limits.{IsBudget};
 ghost use Rattle.edge_prices.specs.Vectors.{IsLoadList};
@@ -9,7 +10,7 @@ ghost use Rattle.edge_prices.specs.Weights.{AreEdgePrices};
 
 use super::*;
 use grid_base::{Edge, NoMemory, Piece, Size, Via};
-use grid_graph::{Grid, GridParts, Ground, MAX_DEMAND, Weights};
+use grid_graph::{FlooredWeights, Floors, Grid, GridParts, Ground, MAX_DEMAND, Weights};
 use std::alloc::Global;
 use std::test::Fail;
 
@@ -111,6 +112,14 @@ fn prices_follow_the_greatest_index_of_all_resources(rt: HostRuntime) -> Result<
     Ok(())
 }
 
+/// Whether a layer has four vertices.
+fn has_four_tiles(grid: &Grid) -> bool
+    ensures { IsTrue result → tiles (size_of grid.now) ≡ 4 }
+{
+    let size = grid.size();
+    size.cols() * size.rows() == 4
+}
+
 /// A keeper of prices for loads of 0.
 fn kept_at_zero(alloc: Global, grid: &Grid) -> Result<Option<KeptPrices<'_>>, NoMemory>
     ensures grid { IfOk result (λ found. IfSome found (λ kept. grid_of kept ≡ grid.now)) }
@@ -118,10 +127,11 @@ fn kept_at_zero(alloc: Global, grid: &Grid) -> Result<Option<KeptPrices<'_>>, No
 {
     let loads = [0; 17].to_vec(alloc)?;
     let prices = [7; 17].to_vec(alloc)?;
-    if !are_loads(grid, loads.as_slice()) {
+    let tile_prices = [7; 8].to_vec(alloc)?;
+    if !are_loads(grid, loads.as_slice()) || !has_four_tiles(grid) {
         return Ok(None);
     }
-    Ok(Some(KeptPrices::new(grid, loads, 1, None, prices)))
+    Ok(Some(KeptPrices::new(grid, loads, 1, None, prices, tile_prices)))
 }
 
 /// The keeper after one load changed.

@@ -2,6 +2,7 @@ use Rattle.std.proofs.Common.{◌*◌, slice_index, ap, ◌∙◌}
 use Rattle.grid_base.specs.Numbers.{vertices}
 use Rattle.edge_prices.specs.Weights.{weight}
 use Rattle.edge_prices.proofs.GroundPieces.{pieces_with-Weighs}
+use Rattle.edge_prices.proofs.LeastOver.{least_over}
 use Rattle.edge_prices.proofs.WeightLimits.{weights_listed}
 use Rattle.edge_prices.proofs.weighing.Weighing.at.Goals as goal
 
@@ -14,3 +15,8 @@ invariant_of-result-clause-listed c =
 
 pub returns-clause-pieces : goal.returns-clause-pieces
 returns-clause-pieces c = let net = c.args.net in pieces_with-Weighs net.grid.now net.ground (weight net.grid.now net.width net.prices.now)
+
+pub invariant_of-result-clause-under : goal.invariant_of-result-clause-under
+invariant_of-result-clause-under c =
+    let net = c.args.net in
+    least_over net.grid.now net.ground net.width net.prices.now c.least_demand-demand.result net.known.listed (record { below = c.least_demand-demand.ensures.below; within = c.least_demand-demand.ensures.limit })
