@@ -1,4 +1,3 @@
-pub mod Spanning
 pub mod NetSteps
 pub mod Loads
 pub mod Parts

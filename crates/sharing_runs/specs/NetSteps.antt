@@ -14,7 +14,7 @@ use Rattle.edge_prices.specs.PieceLists.{pieces_with}
 use Rattle.shortest_paths.specs.Sets.{IsLeastWeight}
 use Rattle.tree_set.specs.Order.{IsRising}
 use Rattle.tree_set.specs.Routings.{IsRoute}
-use Rattle.sharing_runs.specs.Spanning.{Link, IsSpanningTree, links_weight}
+use Rattle.shortest_paths.specs.Spanning.{Link, IsSpanningTree, links_weight}
 
 -- up to so many terminals a net gets a set of least weight
 abbrev pub few_terminals : ℕ

@@ -1,5 +1,5 @@
 -- Reading a path back from the numbers.
-use Rattle.std.proofs.Common.{◌≡◌, ℕ, ◌+◌, ◌<◌, List, [], ◌∷◌, ◌++◌, reverse, Some, None, get_or, refl, sym, ◌∙◌, ap, subst, inl, inr, ⊎_elim, arith}
+use Rattle.std.proofs.Common.{◌≡◌, ℕ, ◌+◌, ◌<◌, List, Option, [], ◌∷◌, ◌++◌, reverse, Some, None, get_or, refl, sym, ◌∙◌, ap, subst, inl, inr, ⊎_elim, arith}
 use Rattle.std.proofs.lemmas.Bool.{cases_eq}
 use Rattle.std.proofs.lemmas.List.{reverse-append}
 use Rattle.std.proofs.lemmas.Option.{get_or_from_slice_get, same_Some}
@@ -18,6 +18,10 @@ use Rattle.shortest_paths.proofs.Sets.{extended, no_pieces}
 
 connects_back : (s : Size) (p : Piece) (a b : ℕ) → Connects s p a b → Connects s p b a
 connects_back s p a b connects = ⊎_elim (λ there. inr there) (λ back. inl back) connects
+
+-- a step that was read from a table of the steps
+pub read_step : (s : Size) (from k : ℕ) (table : List (Option (Vertex × Piece))) (x : Option (Vertex × Piece)) → table ≡ steps s from → get_or table k None ≡ x → get_or (steps s from) k None ≡ x
+read_step s from k table x is read = ap (λ (xs : List (Option (Vertex × Piece))). get_or xs k None) (sym is) ∙ read
 
 -- none of the steps below this place leads back
 abbrev pub NoneReachesBelow : Size → List (Piece × ℕ) → (ℕ → ℕ) → ℕ → ℕ → ℕ → Type 0

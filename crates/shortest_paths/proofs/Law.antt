@@ -14,19 +14,23 @@ use Rattle.grid_graph.specs.Weighed.{IsAllowed}
 use Rattle.shortest_paths.specs.Sets.{RisesSlowly, weight}
 
 -- the ends of a piece are two
-one_end : (s : Size) (p : Piece) (x y v w : ℕ) → Connects s p x y → Connects s p v w → (w ≡ x) ⊎ (w ≡ y)
+pub one_end : (s : Size) (p : Piece) (x y v w : ℕ) → Connects s p x y → Connects s p v w → (w ≡ x) ⊎ (w ≡ y)
 one_end s p x y v w first second = ⊎_elim
     (λ there. ⊎_elim (λ goes. inr (sym goes.2 ∙ there.2)) (λ goes. inl (sym goes.1 ∙ there.1)) second)
     (λ back. ⊎_elim (λ goes. inl (sym goes.2 ∙ back.2)) (λ goes. inr (sym goes.1 ∙ back.1)) second)
     first
 
+-- a piece connects its ends in either order
+pub connects_back : (s : Size) (p : Piece) (a b : ℕ) → Connects s p a b → Connects s p b a
+connects_back s p a b connects = ⊎_elim (λ there. inr there) (λ back. inl back) connects
+
 -- a walk that uses the piece between two walks that don't
-record UsesBetween (s : Size) (F : Piece → Type 0) (p : Piece) (a b : ℕ) : Type 0 where
-  enters : ℕ
-  leaves : ℕ
-  connects : Connects s p enters leaves
-  before : WalkBetween s F a enters
-  behind : WalkBetween s F leaves b
+pub record UsesBetween (s : Size) (F : Piece → Type 0) (p : Piece) (a b : ℕ) : Type 0 where
+  pub enters : ℕ
+  pub leaves : ℕ
+  pub connects : Connects s p enters leaves
+  pub before : WalkBetween s F a enters
+  pub behind : WalkBetween s F leaves b
 
 -- one more piece at the end
 by_other : (s : Size) (F : Piece → Type 0) (p : Piece) (a w v : ℕ) → AreLinked s F w v → WalkBetween s F a w ⊎ UsesBetween s F p a w → WalkBetween s F a v ⊎ UsesBetween s F p a v
@@ -45,7 +49,7 @@ by_piece s F p a w v connects alone parted = ⊎_elim
     parted
 
 -- a walk with one piece more uses it nowhere, or once between two walks without it
-parted : (s : Size) (F G : Piece → Type 0) (p : Piece) → ((q : Piece) → G q → (q ≡ p) ⊎ F q) → (a b : ℕ) → WalkBetween s G a b → WalkBetween s F a b ⊎ UsesBetween s F p a b
+pub parted : (s : Size) (F G : Piece → Type 0) (p : Piece) → ((q : Piece) → G q → (q ≡ p) ⊎ F q) → (a b : ℕ) → WalkBetween s G a b → WalkBetween s F a b ⊎ UsesBetween s F p a b
 parted s F G p without a b walk = closed_under_walks s G (λ w. WalkBetween s F a w ⊎ UsesBetween s F p a w)
     (λ w v before link. ⊎_elim
     (λ same. by_piece s F p a w v (subst (λ q. Connects s q w v) same link.connects) (WalkBetween-refl s F v (linked_vertex s G v w (AreLinked-sym s G w v link))) before)
@@ -54,12 +58,12 @@ parted s F G p without a b walk = closed_under_walks s G (λ w. WalkBetween s F 
     a b (inl (WalkBetween-refl s F a (walk_vertices s G a b walk).0)) walk
 
 -- a walk is at its end, or goes on from a linked vertex
-record GoesBy (s : Size) (F : Piece → Type 0) (a b : ℕ) : Type 0 where
-  next : ℕ
-  link : AreLinked s F a next
-  rest : WalkBetween s F next b
+pub record GoesBy (s : Size) (F : Piece → Type 0) (a b : ℕ) : Type 0 where
+  pub next : ℕ
+  pub link : AreLinked s F a next
+  pub rest : WalkBetween s F next b
 
-first_step : (s : Size) (F : Piece → Type 0) (a b : ℕ) → WalkBetween s F a b → (a ≡ b) ⊎ GoesBy s F a b
+pub first_step : (s : Size) (F : Piece → Type 0) (a b : ℕ) → WalkBetween s F a b → (a ≡ b) ⊎ GoesBy s F a b
 first_step s F a b walk =
     let M : ℕ → Type 0 = λ w. WalkBetween s F w b × ((w ≡ b) ⊎ GoesBy s F w b) in
     let back = WalkBetween-sym s F a b walk in
@@ -69,19 +73,19 @@ first_step s F a b walk =
     (WalkBetween-step s F v w b step at.0, inr (record { next = w; link = step; rest = at.0 })))
     b a (WalkBetween-refl s F b (walk_vertices s F b a back).0, inl refl) back).1
 
-pub head_or_rest : (x : Piece × ℕ) (rest : List (Piece × ℕ)) (y : Piece × ℕ) → Contains (x ∷ rest) y → (y ≡ x) ⊎ Contains rest y
+pub head_or_rest : {X : Type 0} (x : X) (rest : List X) (y : X) → Contains (x ∷ rest) y → (y ≡ x) ⊎ Contains rest y
 head_or_rest x rest y (zero, within, is) = inl (sym is)
 head_or_rest x rest y (suc k, within, is) = inr (k, omega (arith, within), is)
 
 -- a piece of a set and the rest of the set
-record Splits (set : List (Piece × ℕ)) (x : Piece × ℕ) : Type 0 where
-  rest : List (Piece × ℕ)
-  shorter : length rest + 1 ≡ length set
-  weighs : weight set ≡ x.1 + weight rest
-  kept : (y : Piece × ℕ) → Contains rest y → Contains set y
-  only : (y : Piece × ℕ) → Contains set y → (y ≡ x) ⊎ Contains rest y
+pub record Splits (set : List (Piece × ℕ)) (x : Piece × ℕ) : Type 0 where
+  pub rest : List (Piece × ℕ)
+  pub shorter : length rest + 1 ≡ length set
+  pub weighs : weight set ≡ x.1 + weight rest
+  pub kept : (y : Piece × ℕ) → Contains rest y → Contains set y
+  pub only : (y : Piece × ℕ) → Contains set y → (y ≡ x) ⊎ Contains rest y
 
-splits : (set : List (Piece × ℕ)) (x : Piece × ℕ) → Contains set x → Splits set x
+pub splits : (set : List (Piece × ℕ)) (x : Piece × ℕ) → Contains set x → Splits set x
 splits set x at =
     let moved = IsPermutation-remove set at.0 x at.1 (sym at.2) in
     let rest = remove set at.0 in

@@ -1,100 +1,108 @@
--- What a search knows after a vertex got a lower number.
-use Rattle.std.proofs.Common.{◌≡◌, ◌≢◌, ℕ, ◌+◌, ◌<◌, ◌≤◌, ◌⊎◌, List, sym, ap, subst, inl, inr, ⊎_elim, arith}
+-- What a search knows after a vertex was offered a number.
+use Rattle.std.proofs.Common.{◌≡◌, ◌≢◌, ℕ, ◌+◌, ◌<◌, ◌≤◌, ◌⊎◌, List, [], ◌∷◌, refl, sym, ap, subst, inl, inr, ⊎_elim, arith}
 use Rattle.std.proofs.lemmas.Bool.{cases_eq}
 use Rattle.grid_base.specs.declared.piece.Piece.{Piece}
 use Rattle.grid_base.specs.declared.size.Size.{Size}
 use Rattle.grid_base.specs.Numbers.{IsVertex, Connects}
 use Rattle.grid_base.proofs.Pieces.{neighbours_from_connects}
-use Rattle.grid_base.proofs.Walks.{WalkBetween-superset, WalkBetween-trans, WalkBetween-piece}
-use Rattle.grid_graph.specs.Weighed.{Weighs, IsAllowed}
-use Rattle.shortest_paths.specs.Searches.{HasSet, IsReached}
-use Rattle.shortest_paths.specs.Stamped.{most}
-use Rattle.shortest_paths.proofs.Sets.{extended}
+use Rattle.grid_graph.specs.Weighed.{Weighs}
+use Rattle.shortest_paths.specs.declared.row.Row.{Row}
+use Rattle.shortest_paths.specs.Founds.{FindsMore}
+use Rattle.shortest_paths.specs.Rows.{number_in, IsWaiting, total}
+use Rattle.shortest_paths.specs.Runs.{IsSearch, TakesOffer, GoesOn}
+use Rattle.shortest_paths.specs.Stamped.{far}
 
 -- the far end of a piece is a vertex
 pub end_vertex : (s : Size) (p : Piece) (a b : ℕ) → Connects s p a b → IsVertex s b
 end_vertex s p a b connects = (neighbours_from_connects s p a b connects).1
 
--- a set that joins a vertex joins its neighbours too, with a piece more
-further : (s : Size) (pieces : List (Piece × ℕ)) (source from to d k : ℕ) (p : Piece) → HasSet s pieces source from d → Weighs pieces p k → Connects s p from to → HasSet s pieces source to (d + k)
-further s pieces source from to d k p has weighs connects =
-    let more = extended pieces has.set p k has.is_set weighs in
-    record {
-      set = more.new;
-      is_set = more.is_set;
-      walk = WalkBetween-trans s (IsAllowed more.new) source from to (WalkBetween-superset s (IsAllowed has.set) (IsAllowed more.new) more.kept source from has.walk) (WalkBetween-piece s (IsAllowed more.new) p from to more.has connects);
-      light = omega (arith, more.light, has.light);
-    }
+-- one vertex got a lower number, and waits with it
+pub record IsLowered (old new : Row) (to number key : ℕ) : Type 0 where
+  pub found : FindsMore old.found new.found
+  pub less : number < number_in old to
+  pub there : number_in new to ≡ number
+  pub others : (v : ℕ) → v ≢ to → number_in new v ≡ number_in old v
+  pub total : total new + number_in old to ≡ total old + number
+  pub count : new.heap.len ≤ old.heap.len + 1
+  pub placed : IsWaiting new to key
+  pub kept : (u k : ℕ) → u ≢ to → IsWaiting old u k → IsWaiting new u k
+  pub only : (u k : ℕ) → IsWaiting new u k → ((u ≡ to) × (k ≡ key)) ⊎ ((u ≢ to) × IsWaiting old u k)
 
--- one vertex got another number
-pub record IsLowered (num new : ℕ → ℕ) (to number : ℕ) : Type 0 where
-  pub less : number < num to
-  pub there : new to ≡ number
-  pub others : (v : ℕ) → v ≢ to → new v ≡ num v
-
-pub lowered_falls : (num new : ℕ → ℕ) (to number : ℕ) → IsLowered num new to number → (v : ℕ) → new v ≤ num v
-lowered_falls num new to number is v = ⊎_elim
-    (λ here. omega (arith, is.less, is.there, ap num here, ap new here))
+pub lowered_falls : (old new : Row) (to number key : ℕ) → IsLowered old new to number key → (v : ℕ) → number_in new v ≤ number_in old v
+lowered_falls old new to number key is v = ⊎_elim
+    (λ here. omega (arith, is.less, is.there, ap (number_in old) here, ap (number_in new) here))
     (λ other. omega (arith, is.others v other))
     (cases_eq v to)
 
-pub lowered_reached : (s : Size) (pieces : List (Piece × ℕ)) (source : ℕ) (num new : ℕ → ℕ) (from to k : ℕ) (p : Piece) → IsReached s pieces source num → num from ≤ most → Weighs pieces p k → Connects s p from to →
-    IsLowered num new to (num from + k) → IsReached s pieces source new
-lowered_reached s pieces source num new from to k p is near weighs connects low =
-    let falls = lowered_falls num new to (num from + k) low in
-    let apart : from ≢ to = λ same. omega (arith, low.less, ap num same) in
-    let from_same = low.others from apart in
-    record {
-      vertex = is.vertex;
-      start = omega (arith, is.start, falls source);
-      limit = λ v. omega (arith, is.limit v, falls v);
-      joined = λ v numbered. ⊎_elim
-          (λ here.
-          let has = further s pieces source from to (num from) k p (is.joined from near) weighs connects in
-          subst (λ w. HasSet s pieces source w (new w)) (sym here) (subst (HasSet s pieces source to) (sym low.there) has))
-          (λ other. subst (HasSet s pieces source v) (sym (low.others v other)) (is.joined v (omega (arith, low.others v other))))
-          (cases_eq v to);
-      behind = λ v numbered. ⊎_elim
-          (λ here. inr (record {
-            before = from;
-            piece = p;
-            by = k;
-            connects = subst (Connects s p from) (sym here) connects;
-            weighs = weighs;
-            less = omega (arith, from_same, low.there, ap new here);
-          }))
-          (λ other. ⊎_elim
-          (λ first. inl first)
-          (λ old. inr (record {
-            before = old.before;
-            piece = old.piece;
-            by = old.by;
-            connects = old.connects;
-            weighs = old.weighs;
-            less = omega (arith, old.less, falls old.before, low.others v other);
-          }))
-          (is.behind v (omega (arith, low.others v other))))
-          (cases_eq v to);
-    }
+pub lowered_search : (old new : Row) (rest : ℕ → ℕ) (limit to number key : ℕ) → IsSearch rest limit old → IsLowered old new to number key → number_in old to ≤ far → key ≡ number + rest to → key ≤ limit → IsSearch rest limit new
+lowered_search old new rest limit to number key before is small is_key within = record {
+  keys = λ v k waits. ⊎_elim
+      (λ here. omega (arith, here.1, is_key, is.there, ap (number_in new) here.0, ap rest here.0))
+      (λ other. omega (arith, before.keys v k other.1, is.others v other.0))
+      (is.only v k waits);
+  numbered = λ v k waits. ⊎_elim
+      (λ here. omega (arith, is.less, small, is.there, ap (number_in new) here.0))
+      (λ other. omega (arith, before.numbered v k other.1, is.others v other.0))
+      (is.only v k waits);
+  within = λ v numbered. ⊎_elim
+      (λ here. omega (arith, is.there, is_key, within, ap (number_in new) here, ap rest here))
+      (λ other. omega (arith, before.within v (omega (arith, numbered, is.others v other)), is.others v other))
+      (cases_eq v to);
+}
 
--- the vertex that got a number waits with its new key, and the others with theirs
-pub lowered_keys : (num new rest : ℕ → ℕ) (to number : ℕ) (Held After : ℕ → ℕ → Type 0) → IsLowered num new to number → ((v key : ℕ) → Held v key → key ≡ num v + rest v) →
-    ((v key : ℕ) → After v key → ((v ≡ to) × (key ≡ number + rest to)) ⊎ ((v ≢ to) × Held v key)) → (v key : ℕ) → After v key → key ≡ new v + rest v
-lowered_keys num new rest to number Held After low keys only v key held = ⊎_elim
-    (λ here. omega (arith, here.1, low.there, ap new here.0, ap rest here.0))
-    (λ old. omega (arith, keys v key old.1, low.others v old.0))
-    (only v key held)
+pub lowered_taken : (old new : Row) (to number key : ℕ) → IsLowered old new to number key → TakesOffer old new to number
+lowered_taken old new to number key is = record {
+  found = is.found;
+  falls = lowered_falls old new to number key is;
+  changed = λ v. ⊎_elim
+      (λ here. inr (here, omega (arith, is.there, ap (number_in new) here), (key, subst (λ u. IsWaiting new u key) (sym here) is.placed)))
+      (λ other. inl (is.others v other))
+      (cases_eq v to);
+  kept = λ v waits. ⊎_elim
+      (λ here. (key, subst (λ u. IsWaiting new u key) (sym here) is.placed))
+      (λ other. (waits.0, is.kept v waits.0 other waits.1))
+      (cases_eq v to);
+  less = omega (arith, is.total, is.less, is.count);
+}
 
--- a vertex whose number changed waits
-pub lowered_changed : (num new : ℕ → ℕ) (to number : ℕ) (Waiting : ℕ → Type 0) → IsLowered num new to number → Waiting to → (v : ℕ) → (new v ≡ num v) ⊎ Waiting v
-lowered_changed num new to number Waiting low waits v = ⊎_elim
-    (λ here. inr (subst Waiting (sym here) waits))
-    (λ other. inl (low.others v other))
-    (cases_eq v to)
+-- an offer by a piece from a vertex that has a number
+pub offered_goes_on : (s : Size) (pieces : List (Piece × ℕ)) (old new : Row) (from to reached k : ℕ) (p : Piece) → TakesOffer old new to (reached + k) → number_in old from ≡ reached → reached < far → Weighs pieces p k → Connects s p from to →
+    GoesOn s pieces old new
+offered_goes_on s pieces old new from to reached k p is at numbered weighs connects = record {
+  fell = record {
+    found = is.found;
+    falls = is.falls;
+    from = λ v has. ⊎_elim
+        (λ same. record { before = v; path = []; length = 0; is_path = (refl, refl); numbered = omega (arith, same, has); light = omega (arith, same) })
+        (λ taken. record {
+          before = from;
+          path = p ∷ [];
+          length = k;
+          is_path = (v, k, 0, record { connects = subst (Connects s p from) (sym taken.0) connects; weighs = weighs }, (refl, refl), omega arith);
+          numbered = omega (arith, at, numbered);
+          light = omega (arith, at, taken.1);
+        })
+        (is.changed v);
+    behind = λ v has. ⊎_elim
+        (λ same. inl same)
+        (λ taken. inr (record {
+          before = from;
+          piece = p;
+          by = k;
+          connects = subst (Connects s p from) (sym taken.0) connects;
+          weighs = weighs;
+          less = omega (arith, is.falls from, at, taken.1);
+        }))
+        (is.changed v);
+  };
+  changed = λ v. ⊎_elim (λ same. inl same) (λ taken. inr taken.2) (is.changed v);
+  kept = is.kept;
+  less = is.less;
+}
 
-pub lowered_numbered : (num new : ℕ → ℕ) (to number : ℕ) (Held After : ℕ → ℕ → Type 0) → IsLowered num new to number → ((v key : ℕ) → Held v key → num v ≤ most) → number ≤ most →
-    ((v key : ℕ) → After v key → (v ≡ to) ⊎ ((v ≢ to) × Held v key)) → (v key : ℕ) → After v key → new v ≤ most
-lowered_numbered num new to number Held After low numbered small only v key held = ⊎_elim
-    (λ here. omega (arith, small, low.there, ap new here))
-    (λ old. omega (arith, numbered v key old.1, low.others v old.0))
-    (only v key held)
+-- the vertex that offers keeps its number
+pub offered_from : (old new : Row) (from to reached k : ℕ) → TakesOffer old new to (reached + k) → number_in old from ≡ reached → number_in new from ≡ reached
+offered_from old new from to reached k is at = ⊎_elim
+    (λ same. omega (arith, same, at))
+    (λ taken. omega (arith, taken.1, is.falls from, at))
+    (is.changed from)

@@ -3,7 +3,7 @@ use Rattle.std.proofs.Common.{◌≡◌, ◌≢◌, ℕ, zero, suc, ◌-◌, ◌
 use Rattle.std.proofs.lemmas.Bool.Decides.{nat_tests}
 
 -- the number without a gap at x
-closed : ℕ → ℕ → ℕ
+unfoldable pub closed : ℕ → ℕ → ℕ
 closed x y = cond (ltb y x) y (y - 1)
 
 closed_below : (n x y : ℕ) → x < suc n → y < suc n → y ≢ x → closed x y < n

@@ -18,7 +18,7 @@ use Rattle.shortest_paths.specs.Sets.{IsSetOf, IsLeastWeight, IsEither, weight}
 use Rattle.shortest_paths.proofs.Law.{head_or_rest}
 use Rattle.shortest_paths.proofs.Pigeons.{at_most}
 
-piece_cases : (p q : Piece) → (p ≡ q) ⊎ (p ≢ q)
+pub piece_cases : (p q : Piece) → (p ≡ q) ⊎ (p ≢ q)
 piece_cases (Edge e) (Edge f) = ⊎_elim (λ same. inl (ap (λ n. Edge (record { 0 = n })) same)) (λ other. inr (λ same. other (cc same))) (cases_eq e.0 f.0)
 piece_cases (Via e) (Via f) = ⊎_elim (λ same. inl (ap (λ n. Via (record { 0 = n })) same)) (λ other. inr (λ same. other (cc same))) (cases_eq e.0 f.0)
 piece_cases (Edge e) (Via f) = inr (λ same. cc)
@@ -40,7 +40,7 @@ allowed_at [] j p at = cc
 allowed_at (x ∷ set) zero p at = (x.1, (0, omega arith, ap (λ (q : Piece). (q, x.1)) (same_Some _ _ at)))
 allowed_at (x ∷ set) (suc j) p at = let rest = allowed_at set j p at in (rest.0, (suc rest.1.0, omega (arith, rest.1.1), rest.1.2))
 
-once_more : (x : Piece × ℕ) (set : List (Piece × ℕ)) → NoPieceTwice set → ¬ IsAllowed set x.0 → NoPieceTwice (x ∷ set)
+pub once_more : (x : Piece × ℕ) (set : List (Piece × ℕ)) → NoPieceTwice set → ¬ IsAllowed set x.0 → NoPieceTwice (x ∷ set)
 once_more x set once new zero zero q first second = refl
 once_more x set once new zero (suc j) q first second = absurd (new (subst (IsAllowed set) (sym (same_Some _ _ first)) (allowed_at set j q second)))
 once_more x set once new (suc i) zero q first second = absurd (new (subst (IsAllowed set) (sym (same_Some _ _ second)) (allowed_at set i q first)))
@@ -112,7 +112,7 @@ set_count s pieces set are is = at_most (3 * vertices s) (length set) (λ j. pie
     let one = numbers_differ s (piece_at set i) (piece_at set j) (piece_at-is s pieces set i are is low) (piece_at-is s pieces set j are is high) same in
     is.once i j (piece_at set j) (subst (At (map (λ x. x.0) set) i) one (piece_at-at set i low)) (piece_at-at set j high))
 
-weighs_at_most : (set : List (Piece × ℕ)) → ((x : Piece × ℕ) → Contains set x → x.1 ≤ 2 ^ 38) → weight set ≤ length set * 2 ^ 38
+pub weighs_at_most : (set : List (Piece × ℕ)) → ((x : Piece × ℕ) → Contains set x → x.1 ≤ 2 ^ 38) → weight set ≤ length set * 2 ^ 38
 weighs_at_most [] small = omega arith
 weighs_at_most (x ∷ set) small =
     omega (arith, sum_by-cons (λ (y : Piece × ℕ). y.1) x set, small x (0, omega arith, refl), weighs_at_most set (λ y at. small y (suc at.0, omega (arith, at.1), at.2)))

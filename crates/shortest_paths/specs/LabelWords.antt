@@ -3,18 +3,21 @@ use Rattle.std.specs.Prelude.{ℕ, ◌≡◌, ◌≤◌, ◌⊎◌, List, Option
 use Rattle.grid_base.specs.declared.piece.Piece.{Piece}
 use Rattle.grid_base.specs.declared.size.Size.{Size}
 use Rattle.shortest_paths.specs.declared.labels.Labels.{Labels}
-use Rattle.shortest_paths.specs.Numbers.{number}
+use Rattle.shortest_paths.specs.Founds.{index_in}
+use Rattle.shortest_paths.specs.Kept.{masks_in, kept_in}
+use Rattle.shortest_paths.specs.Rows.{size_in, number_in}
 use Rattle.shortest_paths.specs.Searches.{IsBehind}
 use Rattle.shortest_paths.specs.Sets.{IsDistance}
-use Rattle.shortest_paths.specs.Stamped.{most, answer}
+use Rattle.shortest_paths.specs.Stamped.{most, far}
+use Rattle.shortest_paths.specs.Tables.{answer_at}
 
 -- the size of the grid that they are of
 abbrev pub size_of : Labels → Size
-size_of l = l.size
+size_of l = size_in l.row
 
 -- how many sets of terminals they have room for
 abbrev pub masks_of : Labels → ℕ
-masks_of l = l.masks
+masks_of l = masks_in l.rows
 
 -- the source of the latest search
 abbrev pub source_of : Labels → ℕ
@@ -22,11 +25,15 @@ source_of l = l.source.0
 
 -- the number of a vertex
 abbrev pub number_of : Labels → ℕ → ℕ
-number_of l v = number l.numbers v
+number_of l v = number_in l.row v
 
 -- the same as an answer
 abbrev pub distance_of : Labels → ℕ → Option ℕ
-distance_of l v = answer (number_of l v)
+distance_of l v = answer_at far (number_of l v)
+
+-- the number of a mask at a vertex
+abbrev pub label_of : Labels → ℕ → ℕ → ℕ
+label_of l mask v = kept_in l.rows mask (index_in l.row.found v)
 
 -- what the labels answer for v is its distance from the source
 abbrev pub HasDistance : Size → List (Piece × ℕ) → Labels → ℕ → Type 0

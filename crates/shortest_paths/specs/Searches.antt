@@ -32,6 +32,10 @@ pub record IsReached (s : Size) (pieces : List (Piece × ℕ)) (source : ℕ) (n
   pub joined : (v : ℕ) → num v ≤ most → HasSet s pieces source v (num v)
   pub behind : (v : ℕ) → num v ≤ most → (v ≡ source) ⊎ IsBehind s pieces num v
 
+-- the number of v is at most the weight of each set of allowed pieces that joins the source and v
+abbrev pub IsLow : Size → List (Piece × ℕ) → ℕ → (ℕ → ℕ) → ℕ → Type 0
+IsLow s pieces source num v = (set : List (Piece × ℕ)) → IsSetOf pieces set → WalkBetween s (IsAllowed set) source v → num v ≤ weight set
+
 -- no neighbour of v by an allowed piece has a number that v could lower
 abbrev pub IsSpread : Size → List (Piece × ℕ) → (ℕ → ℕ) → ℕ → Type 0
 IsSpread s pieces num v = (p : Piece) (k u : ℕ) → Weighs pieces p k → Connects s p v u → num u ≤ num v + k

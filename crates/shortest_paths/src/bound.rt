@@ -1,27 +1,28 @@
 //! What is still to go from a vertex.
 
-/// A lower bound of what is still to go from each vertex. A search takes the vertices in the order of their number and
-/// this bound together, so a good bound leads it to its goal.
+use grid_base::{Place, Vertex};
+
+/// A lower bound of what is still to go from each vertex, which no allowed piece lets fall by more than its weight. A
+/// search takes the vertices in the order of their number and this bound together, so a good bound leads it to its goal.
 pub trait Bound {
-    ghost use Rattle.std.specs.Prelude.{◌≡◌, ◌≤◌, ◌^◌, ℕ};
+    ghost use Rattle.std.specs.Prelude.{◌≡◌, ◌≤◌, ◌^◌, ℕ, List};
+    ghost use Rattle.grid_base.specs.declared.piece.Piece.{Piece};
+    ghost use Rattle.grid_base.specs.declared.size.Size.{Size};
+    ghost use Rattle.grid_base.specs.Numbers.{IsVertex, place_at};
+    ghost use Rattle.shortest_paths.specs.Sets.{RisesSlowly};
+
+    ghost size: { Self → Size };
+
+    ghost pieces: { Self → List (Piece × ℕ) };
 
     ghost rest: { Self → ℕ → ℕ };
 
-    /// The bound at a vertex.
-    fn rest(&self, v: Vertex) -> u64
+    /// The bound at a vertex, which stands at this place.
+    fn rest(&self, v: Vertex, place: Place) -> u64
+        requires vertex { IsVertex (size self.now) v.0 }
+        requires place { place ≡ place_at (size self.now) v.0 }
         ensures value { result ≡ rest self.now v.0 }
         ensures limit { result ≤ 2 ^ 61 };
-}
 
-use grid_base::Vertex;
-
-/// No bound: nothing is known of what is still to go.
-pub struct NoBound;
-
-impl Bound for NoBound {
-    ghost rest = { λ _ _. 0 };
-
-    fn rest(&self, v: Vertex) -> u64 {
-        0
-    }
+    ghost slow: { (x : Self) → RisesSlowly (size x) (pieces x) (rest x) };
 }

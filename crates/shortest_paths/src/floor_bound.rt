@@ -1,72 +1,79 @@
 //! A bound by the grid distance.
 
-ghost use Rattle.std.specs.Prelude.{◌≤◌};
+ghost use Rattle.std.specs.Prelude.{◌≡◌, ◌≤◌, min};
 ghost use Rattle.grid_base.specs.Numbers.{IsInside};
 ghost use Rattle.grid_graph.specs.Limits.{max_weight};
+ghost use Rattle.shortest_paths.specs.Floors.{floor_rest};
+ghost use Rattle.shortest_paths.specs.Sets.{RisesSlowly};
 
+use crate::apart::apart;
 use crate::bound::Bound;
 use grid_base::{Place, Size, Vertex};
-use grid_graph::MAX_WEIGHT;
+use grid_graph::{Floors, MAX_WEIGHT, Weights};
 
 /// The grid distance to a goal, where each step weighs at least the floor of its direction.
 #[derive(Drop)]
-pub struct FloorBound {
+pub struct FloorBound<'a, W: Weights> {
+    pub weights: &'a W,
     size: Size,
     goal: Place,
-    along_x: u64,
-    along_y: u64,
-    via: u64,
+    floors: Floors,
+    pub ghost sized: { size ≡ W.size weights.now },
     pub ghost inside: { IsInside size goal },
-    pub ghost low_x: { along_x ≤ max_weight },
-    pub ghost low_y: { along_y ≤ max_weight },
-    pub ghost low_via: { via ≤ max_weight },
+    pub ghost low_x: { floors.along_x ≤ max_weight },
+    pub ghost low_y: { floors.along_y ≤ max_weight },
+    pub ghost low_via: { floors.via ≤ max_weight },
+    pub ghost slow: { RisesSlowly size (W.pieces weights.now) (floor_rest size floors goal) },
 }
 
-impl FloorBound {
-    ghost use Rattle.std.specs.Prelude.{◌≡◌, ◌≤◌, ◌^◌, ℕ, List};
-    ghost use Rattle.grid_base.specs.declared.piece.Piece.{Piece};
+impl<'a, W: Weights> FloorBound<'a, W> {
+    ghost use Rattle.std.specs.Prelude.{◌≡◌, ◌≤◌, ◌^◌, ℕ};
     ghost use Rattle.grid_base.specs.Numbers.{IsVertex, IsInside, place_at};
-    ghost use Rattle.shortest_paths.specs.FloorBounds.{rest_by};
-    ghost use Rattle.shortest_paths.specs.Floors.{AreFloors, floor_distance};
-    ghost use Rattle.shortest_paths.specs.Sets.{RisesSlowly};
+    ghost use Rattle.grid_graph.specs.Floors.{AreFloors};
+    ghost use Rattle.shortest_paths.specs.Floors.{floor_distance};
 
-    /// What is still to go to this goal, by the floors of edges along x, of edges along y and of vias. A floor above the
-    /// greatest weight counts as that one.
-    pub fn new(size: Size, goal: Vertex, along_x: u64, along_y: u64, via: u64) -> FloorBound
-        requires { IsVertex size goal.0 }
-        ensures slow { (pieces : List (Piece × ℕ)) → AreFloors along_x along_y via pieces → RisesSlowly size pieces (rest_by result) }
-        ensures rest { along_x ≤ max_weight → along_y ≤ max_weight → via ≤ max_weight → (v : ℕ) → IsVertex size v → rest_by result v ≡ floor_distance along_x along_y via (place_at size v) (place_at size goal.0) }
+    /// What is still to go to this goal, by floors of the weights. A floor above the greatest weight counts as that one.
+    pub fn new(weights: &'a W, size: Size, goal: Vertex, floors: Floors) -> FloorBound<'a, W>
+        requires size { size ≡ W.size weights.now }
+        requires goal { IsVertex size goal.0 }
+        requires floors { AreFloors floors (W.pieces weights.now) }
+        ensures weights { result.weights.now ≡ weights.now }
+        ensures rest { floors.along_x ≤ max_weight → floors.along_y ≤ max_weight → floors.via ≤ max_weight → (v : ℕ) → IsVertex size v → ⟦<FloorBound<'a, W> as Bound>⟧.rest result v ≡ floor_distance floors (place_at size v) (place_at size goal.0) }
     {
         FloorBound {
+            weights,
             size,
             goal: size.place_of(goal),
-            along_x: along_x.min(MAX_WEIGHT),
-            along_y: along_y.min(MAX_WEIGHT),
-            via: via.min(MAX_WEIGHT),
+            floors: lowered(floors),
         }
-    }
-
-    /// The grid distance from a place to the goal, each step at its floor.
-    fn distance_from(&self, here: Place) -> u64
-        requires { IsInside self.now.size here }
-        ensures value { result ≡ floor_distance self.now.along_x self.now.along_y self.now.via here self.now.goal }
-        ensures limit { result ≤ 2 ^ 61 }
-    {
-        u64::from(here.col.abs_diff(self.goal.col)) * self.along_x
-            + u64::from(here.row.abs_diff(self.goal.row)) * self.along_y
-            + u64::from(here.layer.abs_diff(self.goal.layer)) * self.via
     }
 }
 
-impl Bound for FloorBound {
-    ghost use Rattle.shortest_paths.specs.FloorBounds.{rest_by};
+/// Floors of which none is above the greatest weight.
+fn lowered(floors: Floors) -> Floors
+    ensures x { result.along_x ≡ min floors.along_x max_weight }
+    ensures y { result.along_y ≡ min floors.along_y max_weight }
+    ensures via { result.via ≡ min floors.via max_weight }
+{
+    Floors {
+        along_x: floors.along_x.min(MAX_WEIGHT),
+        along_y: floors.along_y.min(MAX_WEIGHT),
+        via: floors.via.min(MAX_WEIGHT),
+    }
+}
 
-    ghost rest = { rest_by };
+impl<'a, W: Weights> Bound for FloorBound<'a, W> {
+    ghost use Rattle.shortest_paths.specs.Floors.{floor_rest};
 
-    fn rest(&self, v: Vertex) -> u64 {
-        if v.0 >= self.size.vertices() {
-            return 0;
-        }
-        self.distance_from(self.size.place_of(v))
+    ghost size = { λ x. x.size };
+
+    ghost pieces = { λ x. W.pieces x.weights.now };
+
+    ghost rest = { λ x. floor_rest x.size x.floors x.goal };
+
+    ghost slow = { λ x. x.slow };
+
+    fn rest(&self, _v: Vertex, place: Place) -> u64 {
+        apart(self.size, self.floors, place, self.goal)
     }
 }

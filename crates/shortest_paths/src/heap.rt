@@ -1,12 +1,12 @@
-//! A heap of vertices.
+//! A heap of indices.
 
 ghost use Rattle.shortest_paths.specs.Heaps.{IsIndexed, AreOrdered};
 
 use crate::sift::{sift_down, sift_up};
-use grid_base::{NoMemory, Vertex};
+use grid_base::NoMemory;
 use std::alloc::Global;
 
-/// Vertices with keys, each vertex at most once. A key is lowered in place, and no call but `new` takes memory.
+/// Indices of found vertices with keys, each at most once. A key is lowered in place, and no call but `new` takes memory.
 ///
 /// The first `len` of `keys` and `vertices` are in use, and `places` has the place of each vertex that is there. Of
 /// other vertices it has any number, so nothing has to be cleared.
@@ -21,7 +21,7 @@ pub(crate) struct Heap {
 }
 
 impl Heap {
-    ghost use Rattle.std.specs.Prelude.{◌≡◌, ◌≢◌, ◌<◌, ◌≤◌, ◌+◌, ◌⊎◌, ℕ, Some, None, IfOk, IfSome, IfNone, slice_index};
+    ghost use Rattle.std.specs.Prelude.{◌≡◌, ◌≢◌, ◌<◌, ◌≤◌, ◌+◌, ◌⊎◌, ℕ, true, false, Some, None, IfOk, IfSome, IfNone, slice_index};
     ghost use Rattle.grid_base.specs.Limits.{max_vertices};
     ghost use Rattle.shortest_paths.specs.Held.{IsHeld, IsLeastHeld, capacity};
 
@@ -29,6 +29,7 @@ impl Heap {
     pub(crate) fn new(alloc: Global, vertices: u32) -> Result<Heap, NoMemory>
         requires { vertices ≤ max_vertices }
         ensures room { IfOk result (λ h. capacity h ≡ vertices) }
+        ensures empty { IfOk result (λ h. h.len ≡ 0) }
     {
         let room = vertices as usize;
         let keys = vec![in alloc; 0; room]?;
@@ -52,18 +53,39 @@ impl Heap {
     }
 
     /// Puts a vertex in with this key, or lowers its key to this.
-    pub(crate) fn lower(&mut self, v: Vertex, key: u64)
-        requires vertex { v.0 < capacity self.old }
-        requires lower { (k : ℕ) → IsHeld self.old v.0 k → key ≤ k }
+    pub(crate) fn lower(&mut self, index: u32, key: u64)
+        requires vertex { index < capacity self.old }
+        requires lower { (k : ℕ) → IsHeld self.old index k → key ≤ k }
         ensures room { capacity self.new ≡ capacity self.old }
         ensures count { self.new.len ≤ self.old.len + 1 }
-        ensures placed { IsHeld self.new v.0 key }
-        ensures kept { (u k : ℕ) → u ≢ v.0 → IsHeld self.old u k → IsHeld self.new u k }
-        ensures only { (u k : ℕ) → IsHeld self.new u k → ((u ≡ v.0) × (k ≡ key)) ⊎ ((u ≢ v.0) × IsHeld self.old u k) }
+        ensures placed { IsHeld self.new index key }
+        ensures kept { (u k : ℕ) → u ≢ index → IsHeld self.old u k → IsHeld self.new u k }
+        ensures only { (u k : ℕ) → IsHeld self.new u k → ((u ≡ index) × (k ≡ key)) ⊎ ((u ≢ index) × IsHeld self.old u k) }
     {
-        match self.place_of(v) {
-            Some(place) => self.raise(place, v, key),
-            None => self.insert(v, key),
+        match self.place_of(index) {
+            Some(place) => self.raise(place, index, key),
+            None => self.insert(index, key),
+        }
+    }
+
+    /// Whether nothing is in the heap.
+    pub(crate) fn is_empty(&self) -> bool
+        ensures none { result ≡ true → (u key : ℕ) → ¬ IsHeld self.now u key }
+        ensures some { result ≡ false → 0 < self.now.len }
+    {
+        self.len == 0
+    }
+
+    /// The lesser of a key and that of the vertex, if it is in the heap.
+    pub(crate) fn lesser(&self, index: u32, key: u64) -> u64
+        requires vertex { index < capacity self.now }
+        ensures one { (result ≡ key) ⊎ IsHeld self.now index result }
+        ensures less { result ≤ key }
+        ensures held { (k : ℕ) → IsHeld self.now index k → result ≤ k }
+    {
+        match self.place_of(index) {
+            Some(place) => key.min(self.keys[place]),
+            None => key,
         }
     }
 
@@ -80,15 +102,15 @@ impl Heap {
     }
 
     /// Takes a vertex of least key out.
-    pub(crate) fn take(&mut self) -> Vertex
+    pub(crate) fn take(&mut self) -> u32
         requires { 0 < self.old.len }
         ensures room { capacity self.new ≡ capacity self.old }
         ensures count { self.new.len + 1 ≡ self.old.len }
-        ensures least { IsLeastHeld self.old result.0 }
-        ensures kept { (u k : ℕ) → u ≢ result.0 → IsHeld self.old u k → IsHeld self.new u k }
-        ensures only { (u k : ℕ) → IsHeld self.new u k → (u ≢ result.0) × IsHeld self.old u k }
+        ensures least { IsLeastHeld self.old result }
+        ensures kept { (u k : ℕ) → u ≢ result → IsHeld self.old u k → IsHeld self.new u k }
+        ensures only { (u k : ℕ) → IsHeld self.new u k → (u ≢ result) × IsHeld self.old u k }
     {
-        let least = Vertex(self.vertices[0]);
+        let least = self.vertices[0];
         self.len -= 1;
         if self.len > 0 {
             let vertex = self.vertices[self.len];
@@ -107,13 +129,13 @@ impl Heap {
     }
 
     /// The place of a vertex that is in the heap.
-    fn place_of(&self, v: Vertex) -> Option<usize>
-        requires { v.0 < capacity self.now }
-        ensures place { IfSome result (λ p. (p < self.now.len) × (slice_index self.now.vertices.items p ≡ v.0)) }
-        ensures none { result ≡ None → (j : ℕ) → j < self.now.len → slice_index self.now.vertices.items j ≢ v.0 }
+    fn place_of(&self, index: u32) -> Option<usize>
+        requires { index < capacity self.now }
+        ensures place { IfSome result (λ p. (p < self.now.len) × (slice_index self.now.vertices.items p ≡ index)) }
+        ensures none { result ≡ None → (j : ℕ) → j < self.now.len → slice_index self.now.vertices.items j ≢ index }
     {
-        let place = self.places[v.0 as usize] as usize;
-        if place < self.len && self.vertices[place] == v.0 {
+        let place = self.places[index as usize] as usize;
+        if place < self.len && self.vertices[place] == index {
             Some(place)
         } else {
             None
@@ -121,15 +143,15 @@ impl Heap {
     }
 
     /// Lowers the key of the vertex at this place.
-    fn raise(&mut self, place: usize, v: Vertex, key: u64)
+    fn raise(&mut self, place: usize, index: u32, key: u64)
         requires inside { place < self.old.len }
-        requires vertex { slice_index self.old.vertices.items place ≡ v.0 }
+        requires vertex { slice_index self.old.vertices.items place ≡ index }
         requires lower { key ≤ slice_index self.old.keys.items place }
         ensures room { capacity self.new ≡ capacity self.old }
         ensures count { self.new.len ≡ self.old.len }
-        ensures placed { IsHeld self.new v.0 key }
-        ensures kept { (u k : ℕ) → u ≢ v.0 → IsHeld self.old u k → IsHeld self.new u k }
-        ensures only { (u k : ℕ) → IsHeld self.new u k → ((u ≡ v.0) × (k ≡ key)) ⊎ ((u ≢ v.0) × IsHeld self.old u k) }
+        ensures placed { IsHeld self.new index key }
+        ensures kept { (u k : ℕ) → u ≢ index → IsHeld self.old u k → IsHeld self.new u k }
+        ensures only { (u k : ℕ) → IsHeld self.new u k → ((u ≡ index) × (k ≡ key)) ⊎ ((u ≢ index) × IsHeld self.old u k) }
     {
         sift_up(
             self.keys.as_mut_slice(),
@@ -137,20 +159,20 @@ impl Heap {
             self.places.as_mut_slice(),
             self.len,
             place,
-            v.0,
+            index,
             key,
         );
     }
 
     /// Puts in a vertex that isn't there.
-    fn insert(&mut self, v: Vertex, key: u64)
-        requires vertex { v.0 < capacity self.old }
-        requires other { (j : ℕ) → j < self.old.len → slice_index self.old.vertices.items j ≢ v.0 }
+    fn insert(&mut self, index: u32, key: u64)
+        requires vertex { index < capacity self.old }
+        requires other { (j : ℕ) → j < self.old.len → slice_index self.old.vertices.items j ≢ index }
         ensures room { capacity self.new ≡ capacity self.old }
         ensures count { self.new.len ≡ self.old.len + 1 }
-        ensures placed { IsHeld self.new v.0 key }
+        ensures placed { IsHeld self.new index key }
         ensures kept { (u k : ℕ) → IsHeld self.old u k → IsHeld self.new u k }
-        ensures only { (u k : ℕ) → IsHeld self.new u k → ((u ≡ v.0) × (k ≡ key)) ⊎ ((u ≢ v.0) × IsHeld self.old u k) }
+        ensures only { (u k : ℕ) → IsHeld self.new u k → ((u ≡ index) × (k ≡ key)) ⊎ ((u ≢ index) × IsHeld self.old u k) }
     {
         let gap = self.len;
         self.len += 1;
@@ -160,7 +182,7 @@ impl Heap {
             self.places.as_mut_slice(),
             gap + 1,
             gap,
-            v.0,
+            index,
             key,
         );
     }

@@ -1,61 +1,66 @@
 //! Labels of vertices by a search.
 
-ghost use Rattle.std.specs.Prelude.{◌≡◌};
-ghost use Rattle.grid_base.specs.Numbers.{vertices};
-ghost use Rattle.shortest_paths.specs.Held.{capacity};
-ghost use Rattle.shortest_paths.specs.Numbers.{count};
+ghost use Rattle.shortest_paths.specs.LabelParts.{ArePartsOfLabels};
 
-use crate::bound::{Bound, NoBound};
-use crate::heap::Heap;
-use crate::numbers::{MOST, Numbers};
-use grid_base::{NoMemory, Piece, Size, Vertex, steps};
-use grid_graph::Weights;
+use crate::bound::Bound;
+use crate::family::Family;
+use crate::grow::grow;
+use crate::kept_rows::KeptRows;
+use crate::no_bound::NoBound;
+use crate::no_family::NoFamily;
+use crate::rest_of::RestOf;
+use crate::row::{FAR, MOST, Row};
+use crate::search::{exhaust, offer, settle, settle_each};
+use crate::seeds::seed;
+use grid_base::{NoMemory, Piece, Size, Spot, Vertex, steps};
+use grid_graph::{FlooredWeights, Weights};
 use std::alloc::Global;
 
-/// Numbers of the vertices of a grid by the latest search: of each vertex that it asked for, the distance from its source.
+/// Above each number with what is still to go: no offer is refused for this limit.
+const NO_LIMIT: u64 = 1 << 62;
+
+/// Numbers of the vertices of a grid by the latest search: after `distances` or `distance_between` distances from a
+/// source, after `subsets` or `pruned` least weights of trees.
 ///
-/// Other vertices may have a number too, which is at least their distance.
+/// After `distances` other vertices than those asked for may have a number too, which is at least their distance.
 #[derive(Drop)]
 pub struct Labels {
-    size: Size,
-    masks: u32,
     source: Vertex,
-    numbers: Numbers,
-    heap: Heap,
-    pub ghost numbered: { count numbers ≡ vertices size },
-    pub ghost room: { capacity heap ≡ vertices size },
+    row: Row,
+    rows: KeptRows,
+    pub ghost parts: { ArePartsOfLabels row rows },
 }
 
 impl Labels {
-    ghost use Rattle.std.specs.Prelude.{◌≡◌, ◌≢◌, ◌<◌, ◌≤◌, ◌+◌, ◌↔◌, ℕ, false, List, [], All, IfOk, IfSome, IsSome, IsTrue};
+    ghost use Rattle.std.specs.Prelude.{◌≡◌, ◌≢◌, ◌<◌, ◌≤◌, ◌+◌, ◌-◌, ◌↔◌, ◌⊎◌, ℕ, List, [], All, IfOk, IfSome, IsSome, IsTrue, length};
     ghost use Rattle.grid_base.specs.declared.piece.Piece.{Piece};
     ghost use Rattle.grid_base.specs.Numbers.{IsVertex, Connects};
-    ghost use Rattle.grid_graph.specs.Weighed.{Weighs};
-    ghost use Rattle.shortest_paths.specs.Held.{IsHeld};
-    ghost use Rattle.shortest_paths.specs.LabelStates.{no_rest, IsSearch, IsSettled, GoesOn, FallsFrom, work_left};
-    ghost use Rattle.shortest_paths.specs.LabelWords.{size_of, masks_of, source_of, number_of, distance_of, HasDistance, LeadsBack};
+    ghost use Rattle.grid_base.specs.Walks.{Joins, InPieces, InVertices, JoinsList};
+    ghost use Rattle.grid_graph.specs.Weighed.{IsAllowed};
+    ghost use Rattle.shortest_paths.specs.Growths.{AreLight};
+    ghost use Rattle.shortest_paths.specs.Spanning.{Link, IsSpanningTree, links_weight};
+    ghost use Rattle.shortest_paths.specs.LabelWords.{size_of, masks_of, source_of, number_of, distance_of, label_of, HasDistance, LeadsBack};
+    ghost use Rattle.shortest_paths.specs.Masks.{all_of, all_but_root};
     ghost use Rattle.shortest_paths.specs.Paths.{IsPath, IsStepBack, Reaches, NoneWeighsNothing};
-    ghost use Rattle.shortest_paths.specs.Searches.{IsSpread};
-    ghost use Rattle.shortest_paths.specs.Sets.{RisesSlowly};
-    ghost use Rattle.shortest_paths.specs.Stamped.{most};
+    ghost use Rattle.shortest_paths.specs.Rows.{number_in, IsWaiting};
+    ghost use Rattle.shortest_paths.specs.Runs.{IsSearch};
+    ghost use Rattle.shortest_paths.specs.Stamped.{most, far};
+    ghost use Rattle.shortest_paths.specs.Tables.{IsPrunedTable, IsLabel, IsReachedExactly, answer_at};
 
     /// Labels of a grid of this size. Searches take no further memory. `masks` says for how many sets of terminals
     /// there shall be room.
     pub fn new(alloc: Global, size: Size, masks: u32) -> Result<Labels, NoMemory>
         requires least { 1 ≤ masks }
-        requires most { masks ≤ 15 }
+        requires most { masks ≤ 30 }
         ensures size { IfOk result (λ l. size_of l ≡ size) }
         ensures masks { IfOk result (λ l. masks_of l ≡ masks) }
     {
-        let vertices = size.vertices();
-        let numbers = Numbers::new(alloc, vertices)?;
-        let heap = Heap::new(alloc, vertices)?;
+        let row = Row::new(alloc, size)?;
+        let rows = KeptRows::new(alloc, masks, size.vertices())?;
         Ok(Labels {
-            size,
-            masks,
             source: Vertex(0),
-            numbers,
-            heap,
+            row,
+            rows,
         })
     }
 
@@ -63,14 +68,14 @@ impl Labels {
     pub fn size(&self) -> Size
         ensures { result ≡ size_of self.now }
     {
-        self.size
+        self.row.size()
     }
 
     /// For how many sets of terminals there is room.
     pub fn masks(&self) -> u32
         ensures { result ≡ masks_of self.now }
     {
-        self.masks
+        self.rows.masks()
     }
 
     /// Searches from a source until the distance of each vertex of `stop` is known, or of all vertices where `stop` is
@@ -86,11 +91,12 @@ impl Labels {
         ensures all { stop.now ≡ [] → (v : ℕ) → IsVertex (W.size weights.now) v → HasDistance (W.size weights.now) (W.pieces weights.now) self.new v }
         ensures back { LeadsBack (W.size weights.now) (W.pieces weights.now) self.new }
     {
-        self.start(&NoBound, source);
+        let bound = NoBound { weights };
+        self.start(&bound, source);
         if stop.is_empty() {
-            self.settle_all(weights);
+            exhaust(&mut self.row, weights, &bound, NO_LIMIT);
         } else {
-            self.settle_each(weights, stop);
+            settle_each(&mut self.row, weights, &bound, NO_LIMIT, stop);
         }
     }
 
@@ -103,9 +109,10 @@ impl Labels {
         goal: Vertex,
     )
         requires size { size_of self.old ≡ W.size weights.now }
+        requires bound_size { B.size bound.now ≡ W.size weights.now }
+        requires bound { B.pieces bound.now ≡ W.pieces weights.now }
         requires source { IsVertex (W.size weights.now) source.0 }
         requires goal { IsVertex (W.size weights.now) goal.0 }
-        requires slow { RisesSlowly (W.size weights.now) (W.pieces weights.now) (B.rest bound.now) }
         ensures size { size_of self.new ≡ size_of self.old }
         ensures masks { masks_of self.new ≡ masks_of self.old }
         ensures source { source_of self.new ≡ source.0 }
@@ -113,20 +120,19 @@ impl Labels {
         ensures back { LeadsBack (W.size weights.now) (W.pieces weights.now) self.new }
     {
         self.start(bound, source);
-        self.settle(weights, bound, goal);
+        settle(&mut self.row, weights, bound, NO_LIMIT, goal);
     }
 
-    /// The distance of a vertex from the source, if the latest search asked for it. `None` is no distance: no set of
-    /// allowed pieces joins the two.
+    /// The distance of a vertex that the latest search asked for; `None` where no walk of allowed pieces leads there.
     pub fn distance(&self, v: Vertex) -> Option<u64>
         requires { IsVertex (size_of self.now) v.0 }
         ensures { result ≡ distance_of self.now v.0 }
     {
-        let number = self.numbers.get(v);
-        if number > MOST { None } else { Some(number) }
+        let number = self.row.number(v);
+        if number < FAR { Some(number) } else { None }
     }
 
-    /// A walk of allowed pieces from the source to a vertex that the latest search asked for. Its pieces weigh together
+    /// A walk of allowed pieces from the source of the latest search to a vertex that it asked for, whose pieces weigh
     /// as much as the distance. `weights` are those of the search.
     pub fn path_to<W: Weights>(&self, weights: &W, v: Vertex) -> Result<Vec<Piece>, NoMemory>
         requires vertex { IsVertex (W.size weights.now) v.0 }
@@ -136,7 +142,7 @@ impl Labels {
         requires positive { NoneWeighsNothing (W.pieces weights.now) }
         ensures { IfOk result (λ path. IfSome (distance_of self.now v.0) (λ d. IsPath (W.size weights.now) (W.pieces weights.now) (source_of self.now) v.0 d path.items)) }
     {
-        let mut path = Vec::new(self.numbers.allocator());
+        let mut path = Vec::new(self.row.allocator());
         let mut here = v;
         while here != self.source {
             let (before, by) = self.step_back(weights, here).unwrap();
@@ -156,8 +162,8 @@ impl Labels {
         ensures found { IsSome result }
         ensures step { IfSome result (λ x. IsStepBack (W.size weights.now) (W.pieces weights.now) (number_of self.now) here.0 x.0.0 x.1) }
     {
-        let number = self.numbers.get(here);
-        for step in &steps(self.size, here) {
+        let number = self.row.number(here);
+        for step in &steps(self.row.size(), here) {
             if let Some((before, by)) = *step {
                 if self.reaches(weights, before, by, number) {
                     return Some((before, by));
@@ -169,140 +175,146 @@ impl Labels {
 
     /// Whether a vertex gets at most this number from a neighbour, by the piece between.
     fn reaches<W: Weights>(&self, weights: &W, before: Vertex, by: Piece, number: u64) -> bool
-        requires { IsVertex self.now.size before.0 }
+        requires { IsVertex (size_of self.now) before.0 }
         ensures { IsTrue result ↔ Reaches (W.pieces weights.now) by (number_of self.now before.0) number }
     {
-        weights.allows(by) && self.numbers.get(before) + weights.weight(by) <= number
+        weights.allows(by) && self.row.number(before) + weights.weight(by) <= number
+    }
+
+    /// The least weight of a set of allowed pieces that joins a vertex and the terminals of a mask, by the latest
+    /// search. It is `None` where there is no such set, or none that was light enough for `pruned`.
+    pub fn label(&self, mask: u32, v: Vertex) -> Option<u64>
+        requires some { 0 < mask }
+        requires mask { mask ≤ masks_of self.now }
+        requires vertex { IsVertex (size_of self.now) v.0 }
+        ensures { result ≡ answer_at far (label_of self.now mask v.0) }
+    {
+        let index = self.row.index_of(v)?;
+        let number = self.rows.number(mask, index);
+        if number < FAR { Some(number) } else { None }
+    }
+
+    /// Finds the labels of the masks up to the last one at all vertices, but for those that together with the family's
+    /// bound for the other terminals are above the limit.
+    pub fn pruned<W: Weights, F: Family>(
+        &mut self,
+        weights: &W,
+        family: &F,
+        terminals: &[Vertex],
+        last: u32,
+        limit: u64,
+    )
+        requires size { size_of self.old ≡ W.size weights.now }
+        requires family_size { F.size family.now ≡ W.size weights.now }
+        requires family { F.pieces family.now ≡ W.pieces weights.now }
+        requires family_terminals { F.terminals family.now ≡ terminals.now }
+        requires terminals { All (λ v. IsVertex (W.size weights.now) v.0) terminals.now }
+        requires some { 1 ≤ length terminals.now }
+        requires few { length terminals.now ≤ 5 }
+        requires room { last ≤ masks_of self.old }
+        requires last { last < all_of terminals.now }
+        requires limit { limit ≤ most }
+        ensures size { size_of self.new ≡ size_of self.old }
+        ensures masks { masks_of self.new ≡ masks_of self.old }
+        ensures table { IsPrunedTable (W.size weights.now) (W.pieces weights.now) terminals.now last (F.low family.now) limit far (label_of self.new) }
+    {
+        self.rows.forget();
+        self.row.forget();
+        for mask in 1..last + 1 {
+            self.fill(weights, family, terminals, mask, limit);
+        }
+    }
+
+    /// Finds the labels of one mask, where those of all smaller ones are found.
+    fn fill<W: Weights, F: Family>(
+        &mut self,
+        weights: &W,
+        family: &F,
+        terminals: &[Vertex],
+        mask: u32,
+        limit: u64,
+    )
+        requires size { size_of self.old ≡ W.size weights.now }
+        requires family_size { F.size family.now ≡ W.size weights.now }
+        requires family_terminals { F.terminals family.now ≡ terminals.now }
+        requires terminals { All (λ v. IsVertex (W.size weights.now) v.0) terminals.now }
+        requires few { length terminals.now ≤ 5 }
+        requires some { 0 < mask }
+        requires room { mask ≤ masks_of self.old }
+        requires last { mask < all_of terminals.now }
+        requires limit { limit ≤ most }
+        requires table { IsPrunedTable (W.size weights.now) (W.pieces weights.now) terminals.now (mask - 1) (F.low family.now) limit far (label_of self.old) }
+        ensures size { size_of self.new ≡ size_of self.old }
+        ensures masks { masks_of self.new ≡ masks_of self.old }
+        ensures table { IsPrunedTable (W.size weights.now) (W.pieces weights.now) terminals.now mask (F.low family.now) limit far (label_of self.new) }
+    {
+        let all = (1 << terminals.len() as u32) - 1;
+        let rest = RestOf {
+            family,
+            mask: all - mask,
+        };
+        self.row.clear();
+        seed(&mut self.row, &self.rows, &rest, terminals, mask, limit);
+        exhaust(&mut self.row, weights, &rest, limit);
+        self.rows.store(mask, self.row.numbers());
+    }
+
+    /// Finds the labels of all sets of the terminals without the last one, which is the root, at all vertices.
+    pub fn subsets<W: Weights>(&mut self, weights: &W, terminals: &[Vertex])
+        requires size { size_of self.old ≡ W.size weights.now }
+        requires terminals { All (λ v. IsVertex (W.size weights.now) v.0) terminals.now }
+        requires some { 1 ≤ length terminals.now }
+        requires few { length terminals.now ≤ 5 }
+        requires room { all_but_root terminals.now ≤ masks_of self.old }
+        ensures size { size_of self.new ≡ size_of self.old }
+        ensures masks { masks_of self.new ≡ masks_of self.old }
+        ensures table { IsPrunedTable (W.size weights.now) (W.pieces weights.now) terminals.now (all_but_root terminals.now) (λ _ _. 0) most far (label_of self.new) }
+        ensures reached { (mask v : ℕ) → 0 < mask → mask ≤ all_but_root terminals.now → label_of self.new mask v < far → IsReachedExactly (W.size weights.now) (W.pieces weights.now) terminals.now (label_of self.new) mask v }
+        ensures labels { (mask v : ℕ) → 0 < mask → mask ≤ all_but_root terminals.now → IsVertex (W.size weights.now) v → IsLabel (W.size weights.now) (W.pieces weights.now) terminals.now mask v (answer_at far (label_of self.new mask v)) }
+    {
+        let last = (1 << (terminals.len() as u32 - 1)) - 1;
+        let family = NoFamily { weights, terminals };
+        self.pruned(weights, &family, terminals, last, MOST);
+    }
+
+    /// The pieces of a tree that joins the terminals, by a search from the first of them that takes in the nearest other
+    /// one, with the whole way to it, until all are in. A piece may be listed twice.
+    pub fn grow<W: FlooredWeights>(
+        &mut self,
+        weights: &W,
+        terminals: &[Vertex],
+    ) -> Result<Vec<Piece>, NoMemory>
+        requires size { size_of self.old ≡ W.size weights.now }
+        requires terminals { All (λ v. IsVertex (W.size weights.now) v.0) terminals.now }
+        requires some { 1 ≤ length terminals.now }
+        requires joined { Joins (W.size weights.now) (IsAllowed (W.pieces weights.now)) (InVertices terminals.now) }
+        requires positive { NoneWeighsNothing (W.pieces weights.now) }
+        ensures allowed { IfOk result (λ grown. (p : Piece) → InPieces grown.items p → IsAllowed (W.pieces weights.now) p) }
+        ensures joins { IfOk result (λ grown. JoinsList (W.size weights.now) grown.items terminals.now) }
+        ensures light { IfOk result (λ grown. (links : List Link) → IsSpanningTree (W.size weights.now) (W.pieces weights.now) terminals.now links → AreLight (W.pieces weights.now) grown.items (links_weight links)) }
+        ensures size { size_of self.new ≡ size_of self.old }
+        ensures masks { masks_of self.new ≡ masks_of self.old }
+    {
+        self.rows.forget();
+        grow(&mut self.row, weights, terminals)
     }
 
     /// Begins a search: the source has the number 0 and waits, and no other vertex has a number.
     fn start<B: Bound>(&mut self, bound: &B, source: Vertex)
-        requires { IsVertex self.old.size source.0 }
-        ensures size { self.new.size ≡ self.old.size }
-        ensures masks { self.new.masks ≡ self.old.masks }
-        ensures source { self.new.source ≡ source }
-        ensures search { (pieces : List (Piece × ℕ)) → IsSearch self.old.size pieces (B.rest bound.now) self.new }
-        ensures settled { (pieces : List (Piece × ℕ)) → IsSettled self.old.size pieces self.new }
+        requires size { B.size bound.now ≡ size_of self.old }
+        requires source { IsVertex (size_of self.old) source.0 }
+        ensures size { size_of self.new ≡ size_of self.old }
+        ensures masks { masks_of self.new ≡ masks_of self.old }
+        ensures source { source_of self.new ≡ source.0 }
+        ensures search { IsSearch (B.rest bound.now) NO_LIMIT self.new.row }
+        ensures begins { number_of self.new source.0 ≡ 0 }
+        ensures others { (v : ℕ) → v ≢ source.0 → number_of self.new v ≡ far }
+        ensures waits { (key : ℕ) × IsWaiting self.new.row source.0 key }
     {
         self.source = source;
-        self.numbers.forget();
-        self.heap.clear();
-        self.numbers.set(source, 0);
-        self.heap.lower(source, bound.rest(source));
-    }
-
-    /// Goes on until all numbers are distances.
-    fn settle_all<W: Weights>(&mut self, weights: &W)
-        requires search { IsSearch (W.size weights.now) (W.pieces weights.now) no_rest self.old }
-        requires settled { IsSettled (W.size weights.now) (W.pieces weights.now) self.old }
-        ensures falls { FallsFrom self.old self.new }
-        ensures search { IsSearch (W.size weights.now) (W.pieces weights.now) no_rest self.new }
-        ensures all { (v : ℕ) → IsVertex (W.size weights.now) v → HasDistance (W.size weights.now) (W.pieces weights.now) self.new v }
-    {
-        for v in 0..self.size.vertices() {
-            self.settle(weights, &NoBound, Vertex(v));
-        }
-    }
-
-    /// Goes on until the numbers of these vertices are distances.
-    fn settle_each<W: Weights>(&mut self, weights: &W, goals: &[Vertex])
-        requires search { IsSearch (W.size weights.now) (W.pieces weights.now) no_rest self.old }
-        requires settled { IsSettled (W.size weights.now) (W.pieces weights.now) self.old }
-        requires goals { All (λ v. IsVertex (W.size weights.now) v.0) goals.now }
-        ensures falls { FallsFrom self.old self.new }
-        ensures search { IsSearch (W.size weights.now) (W.pieces weights.now) no_rest self.new }
-        ensures each { All (λ v. HasDistance (W.size weights.now) (W.pieces weights.now) self.new v.0) goals.now }
-    {
-        for goal in goals {
-            self.settle(weights, &NoBound, *goal);
-        }
-    }
-
-    /// Offers a vertex the number that it gets by a piece from a vertex with this number.
-    fn offer<W: Weights, B: Bound>(
-        &mut self,
-        weights: &W,
-        bound: &B,
-        from: Vertex,
-        reached: u64,
-        to: Vertex,
-        by: Piece,
-    )
-        requires search { IsSearch (W.size weights.now) (W.pieces weights.now) (B.rest bound.now) self.old }
-        requires from { number_of self.old from.0 ≡ reached }
-        requires number { reached ≤ most }
-        requires connects { Connects (W.size weights.now) by from.0 to.0 }
-        ensures search { IsSearch (W.size weights.now) (W.pieces weights.now) (B.rest bound.now) self.new }
-        ensures goes_on { GoesOn self.old self.new }
-        ensures from { number_of self.new from.0 ≡ reached }
-        ensures offered { (k : ℕ) → Weighs (W.pieces weights.now) by k → number_of self.new to.0 ≤ reached + k }
-    {
-        if !weights.allows(by) {
-            return;
-        }
-        let offered = reached + weights.weight(by);
-        if offered < self.numbers.get(to) {
-            self.numbers.set(to, offered);
-            self.heap.lower(to, offered + bound.rest(to));
-        }
-    }
-
-    /// Offers each neighbour of a vertex the number that it gets from there.
-    fn spread<W: Weights, B: Bound>(&mut self, weights: &W, bound: &B, from: Vertex)
-        requires search { IsSearch (W.size weights.now) (W.pieces weights.now) (B.rest bound.now) self.old }
-        requires vertex { IsVertex (W.size weights.now) from.0 }
-        requires number { number_of self.old from.0 ≤ most }
-        ensures search { IsSearch (W.size weights.now) (W.pieces weights.now) (B.rest bound.now) self.new }
-        ensures goes_on { GoesOn self.old self.new }
-        ensures spread { IsSpread (W.size weights.now) (W.pieces weights.now) (number_of self.new) from.0 }
-    {
-        let reached = self.numbers.get(from);
-        for step in &steps(self.size, from) {
-            if let Some((to, by)) = *step {
-                self.offer(weights, bound, from, reached, to, by);
-            }
-        }
-    }
-
-    /// Takes the vertex of least key out and offers its neighbours what they get from there.
-    fn advance<W: Weights, B: Bound>(&mut self, weights: &W, bound: &B)
-        requires search { IsSearch (W.size weights.now) (W.pieces weights.now) (B.rest bound.now) self.old }
-        requires settled { IsSettled (W.size weights.now) (W.pieces weights.now) self.old }
-        requires waiting { 0 < self.old.heap.len }
-        ensures search { IsSearch (W.size weights.now) (W.pieces weights.now) (B.rest bound.now) self.new }
-        ensures settled { IsSettled (W.size weights.now) (W.pieces weights.now) self.new }
-        ensures falls { FallsFrom self.old self.new }
-        ensures less { work_left self.new < work_left self.old }
-    {
-        let from = self.heap.take();
-        self.spread(weights, bound, from);
-    }
-
-    /// Whether the number of the goal may still fall.
-    fn is_open<B: Bound>(&self, bound: &B, goal: Vertex) -> bool
-        requires { IsVertex self.now.size goal.0 }
-        ensures open { IsTrue result → 0 < self.now.heap.len }
-        ensures closed { result ≡ false → (v key : ℕ) → IsHeld self.now.heap v key → number_of self.now goal.0 + B.rest bound.now goal.0 ≤ key }
-    {
-        match self.heap.least() {
-            Some(least) => least < self.numbers.get(goal) + bound.rest(goal),
-            None => false,
-        }
-    }
-
-    /// Goes on with a search until the number of the goal can't fall any more.
-    fn settle<W: Weights, B: Bound>(&mut self, weights: &W, bound: &B, goal: Vertex)
-        requires search { IsSearch (W.size weights.now) (W.pieces weights.now) (B.rest bound.now) self.old }
-        requires settled { IsSettled (W.size weights.now) (W.pieces weights.now) self.old }
-        requires slow { RisesSlowly (W.size weights.now) (W.pieces weights.now) (B.rest bound.now) }
-        requires goal { IsVertex (W.size weights.now) goal.0 }
-        ensures search { IsSearch (W.size weights.now) (W.pieces weights.now) (B.rest bound.now) self.new }
-        ensures settled { IsSettled (W.size weights.now) (W.pieces weights.now) self.new }
-        ensures falls { FallsFrom self.old self.new }
-        ensures distance { HasDistance (W.size weights.now) (W.pieces weights.now) self.new goal.0 }
-    {
-        while self.is_open(bound, goal) {
-            self.advance(weights, bound);
-        }
+        self.rows.forget();
+        self.row.forget();
+        let from = Spot::of(self.row.size(), source);
+        offer(&mut self.row, bound, NO_LIMIT, from, 0);
     }
 }

@@ -16,31 +16,62 @@
 //! the least that pieces of each direction weigh:
 //!
 //! ```text
-//! let bound = FloorBound::new(labels.size(), goal, along_x, along_y, via);
+//! let bound = FloorBound::new(&weights, labels.size(), goal, floors);
 //! labels.distance_between(&weights, &bound, source, goal);
 //! ```
 //!
+//! The same search finds least trees of up to five terminals, one row of numbers for each set of them (Dreyfus and Wagner
+//! 1971), without what a `Family` of lower bounds shows to be too heavy; `subsets` leaves nothing out:
+//!
+//! ```text
+//! labels.pruned(&weights, &family, &terminals, last, limit);
+//! let least = labels.label(last, root);
+//! ```
+//!
+//! For more terminals a tree grows from one of them by one search, which takes in the nearest other one each time and goes
+//! on from the whole tree:
+//!
+//! ```text
+//! let pieces = labels.grow(&weights, &terminals)?;
+//! ```
+//!
 //! It stands on `grid_base` for vertices and pieces and on `grid_graph` for `Weights`. A search takes no memory and
-//! clears nothing: its heap is reserved with the labels, and a number counts only under the stamp of its search.
+//! clears nothing: its lists are reserved with the labels, and what was found counts only under the stamp of its search.
 //!
 //! Promised: the distance of two vertices is the least weight over all sets of allowed pieces that join them, and `None`
-//! exactly where no set does; a path is a walk of allowed pieces whose weights sum to the distance.
+//! exactly where no set does; a path is a walk of allowed pieces whose weights sum to the distance. A label is the least
+//! weight over all sets that join a vertex and some terminals, and `None` exactly where each such set is too heavy or there
+//! is none. A tree that was grown joins its terminals, and weighs no more than a spanning tree of them by distances. Of any
+//! table over sets of terminals, whoever made it, it is a law that where the table holds none of its numbers is above a
+//! joining set's weight.
 #![tactic(auto)]
 
+mod ahead;
+mod apart;
 mod bound;
+mod family;
 mod floor_bound;
+mod found;
+mod grow;
 mod heap;
+mod kept_rows;
 mod labels;
-#[cfg(test)]
-mod listed;
-#[cfg(test)]
-mod listing;
-mod numbers;
+mod laws;
+mod nearest;
+mod no_bound;
+mod no_family;
+mod rest_of;
+mod row;
+mod search;
+mod seeds;
 mod sift;
+mod step_back;
+mod way_back;
 
-pub use bound::{Bound, NoBound};
+pub use bound::Bound;
+pub use family::Family;
 pub use floor_bound::FloorBound;
 pub use labels::Labels;
-
-#[cfg(test)]
-mod tests;
+pub use laws::{holding_tables_bound_sets, pruned_tables_hold_completed};
+pub use no_bound::NoBound;
+pub use no_family::NoFamily;

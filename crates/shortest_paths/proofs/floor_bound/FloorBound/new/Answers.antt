@@ -1,9 +1,18 @@
-use Rattle.std.proofs.Common.{min}
+use Rattle.std.proofs.Common.{arith}
 use Rattle.grid_graph.specs.Limits.{max_weight}
 use Rattle.shortest_paths.proofs.FloorSteps.{floor_rest-slow, AreFloors-lowered}
 use Rattle.shortest_paths.proofs.floor_bound.FloorBound.new.Goals as goal
 
-pub returns-clause-slow : goal.returns-clause-slow
-returns-clause-slow c = λ pieces floors.
-    let low = AreFloors-lowered c.args.along_x c.args.along_y c.args.via max_weight pieces floors in
-    rw (c.min.ensures, c.min-2.ensures, c.min-3.ensures) (floor_rest-slow c.args.size (min c.args.along_x max_weight) (min c.args.along_y max_weight) (min c.args.via max_weight) c.place_of.result pieces low)
+pub invariant_of-result : goal.invariant_of-result
+invariant_of-result g c =
+    let pieces = g.W.Weights.pieces c.args.weights.now in
+    let cut = c.lowered.ensures in
+    let low = AreFloors-lowered c.lowered.result c.args.floors max_weight pieces (record { x = cut.x; y = cut.y; via = cut.via }) c.requires.floors in
+    record {
+      sized = c.requires.size;
+      inside = c.place_of.ensures.inside;
+      low_x = omega (arith, cut.x);
+      low_y = omega (arith, cut.y);
+      low_via = omega (arith, cut.via);
+      slow = floor_rest-slow c.args.size c.lowered.result c.place_of.result pieces low;
+    }

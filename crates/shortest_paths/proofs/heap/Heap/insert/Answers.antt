@@ -7,7 +7,7 @@ pub sift_up-requires-clause-gap : goal.sift_up-requires-clause-gap
 sift_up-requires-clause-gap c =
     let s = c.args.self.now in
     rw (c.as_mut_slice.ensures.value, c.as_mut_slice-2.ensures.value, c.as_mut_slice-3.ensures.value)
-    (gap_at_end s.keys.items s.vertices.items s.places.items s.len c.args.v.0 s.indexed c.requires.vertex c.requires.other)
+    (gap_at_end s.keys.items s.vertices.items s.places.items s.len c.args.index s.indexed c.requires.vertex c.requires.other)
 
 pub returns-clause-kept : goal.returns-clause-kept
 returns-clause-kept c =
@@ -17,7 +17,7 @@ returns-clause-kept c =
     let same_ks : take s.keys.len (ks ++ drop (length ks) s.keys.items) ≡ ks = grind (arith, common_steps, c.sift_up.auto.keys) in
     let same_vs : take s.vertices.len (vs ++ drop (length vs) s.vertices.items) ≡ vs = grind (arith, common_steps, c.sift_up.auto.vertices) in
     let filled = rw (c.as_mut_slice.ensures.value, c.as_mut_slice-2.ensures.value) at c.sift_up.ensures.filled in
-    rw (same_ks, same_vs) (inserted_kept s.keys.items s.vertices.items ks vs s.len c.args.v.0 c.args.key filled)
+    rw (same_ks, same_vs) (inserted_kept s.keys.items s.vertices.items ks vs s.len c.args.index c.args.key filled)
 
 pub returns-clause-only : goal.returns-clause-only
 returns-clause-only c =
@@ -27,4 +27,4 @@ returns-clause-only c =
     let same_ks : take s.keys.len (ks ++ drop (length ks) s.keys.items) ≡ ks = grind (arith, common_steps, c.sift_up.auto.keys) in
     let same_vs : take s.vertices.len (vs ++ drop (length vs) s.vertices.items) ≡ vs = grind (arith, common_steps, c.sift_up.auto.vertices) in
     let filled = rw (c.as_mut_slice.ensures.value, c.as_mut_slice-2.ensures.value) at c.sift_up.ensures.filled in
-    λ u k held. inserted_only s.keys.items s.vertices.items ks vs s.len c.args.v.0 c.args.key c.requires.other filled u k (rw (same_ks, same_vs) at held)
+    λ u k held. inserted_only s.keys.items s.vertices.items ks vs s.len c.args.index c.args.key c.requires.other filled u k (rw (same_ks, same_vs) at held)

@@ -11,7 +11,7 @@ returns-clause-kept c =
     let same_ks : take s.keys.len (ks ++ drop (length ks) s.keys.items) ≡ ks = grind (arith, common_steps, c.sift_up.auto.keys) in
     let same_vs : take s.vertices.len (vs ++ drop (length vs) s.vertices.items) ≡ vs = grind (arith, common_steps, c.sift_up.auto.vertices) in
     let filled = rw (c.as_mut_slice.ensures.value, c.as_mut_slice-2.ensures.value) at c.sift_up.ensures.filled in
-    rw (same_ks, same_vs) (raised_kept s.keys.items s.vertices.items ks vs s.len c.args.v.0 c.args.place c.args.key c.requires.vertex filled)
+    rw (same_ks, same_vs) (raised_kept s.keys.items s.vertices.items ks vs s.len c.args.index c.args.place c.args.key c.requires.vertex filled)
 
 pub returns-clause-only : goal.returns-clause-only
 returns-clause-only c =
@@ -21,4 +21,4 @@ returns-clause-only c =
     let same_ks : take s.keys.len (ks ++ drop (length ks) s.keys.items) ≡ ks = grind (arith, common_steps, c.sift_up.auto.keys) in
     let same_vs : take s.vertices.len (vs ++ drop (length vs) s.vertices.items) ≡ vs = grind (arith, common_steps, c.sift_up.auto.vertices) in
     let filled = rw (c.as_mut_slice.ensures.value, c.as_mut_slice-2.ensures.value) at c.sift_up.ensures.filled in
-    λ u k held. raised_only s.keys.items s.vertices.items s.places.items ks vs s.len c.args.v.0 c.args.place c.args.key s.indexed c.requires.inside c.requires.vertex filled u k (rw (same_ks, same_vs) at held)
+    λ u k held. raised_only s.keys.items s.vertices.items s.places.items ks vs s.len c.args.index c.args.place c.args.key s.indexed c.requires.inside c.requires.vertex filled u k (rw (same_ks, same_vs) at held)

@@ -9,7 +9,9 @@ use Rattle.grid_graph.specs.Weighed.{IsAllowed}
 use Rattle.shortest_paths.specs.LabelWords.{number_of}
 use Rattle.shortest_paths.specs.Paths.{IsPath, IsStepBack}
 use Rattle.shortest_paths.proofs.Backwards.{path_more, path_back, path_set}
-use Rattle.shortest_paths.proofs.Distances.{answer_found, answer-some, distance_least}
+use Rattle.shortest_paths.proofs.Distances.{answer_found, distance_least}
+use Rattle.shortest_paths.proofs.Pruned.{answer_at-some}
+use Rattle.shortest_paths.specs.Stamped.{far}
 use Rattle.shortest_paths.proofs.Offers.{end_vertex}
 use Rattle.shortest_paths.proofs.Sets.{joins_ends}
 use Rattle.shortest_paths.proofs.labels.Labels.path_to.Goals as goal
@@ -65,6 +67,6 @@ returns g c =
     let least = distance_least s pieces source c.args.v.0 n c.requires.distance (omega (arith, found)) has.set has.is_set
     (joins_ends s (IsAllowed has.set) source c.args.v.0 (WalkBetween-sym s (IsAllowed has.set) c.args.v.0 source has.walk)) in
     let whole : walked.0 ≡ n = omega (arith, least, has.light, walked.2) in
-    subst (λ (o : Option ℕ). IfSome o (λ d. IsPath s pieces source c.args.v.0 d c.reverse.new.self.items)) (sym (answer-some n found))
+    subst (λ (o : Option ℕ). IfSome o (λ d. IsPath s pieces source c.args.v.0 d c.reverse.new.self.items)) (sym (answer_at-some far n (omega (arith, found))))
     (subst (λ total. IsPath s pieces source c.args.v.0 total c.reverse.new.self.items) whole
     (subst (λ (ps : List Piece). IsPath s pieces source c.args.v.0 walked.0 ps) (sym c.reverse.ensures.items) (path_back s pieces c.args.v.0 source c.loop-here.path.items walked.0 path)))

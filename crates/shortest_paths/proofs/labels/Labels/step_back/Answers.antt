@@ -5,16 +5,15 @@ use Rattle.grid_base.specs.Numbers.{Connects}
 use Rattle.grid_base.specs.Neighbours.{steps}
 use Rattle.grid_base.proofs.Neighbours.{step_read, steps_lead}
 use Rattle.shortest_paths.specs.LabelWords.{number_of}
-use Rattle.shortest_paths.proofs.Backwards.{NoneReachesBelow, none_more, none_past, some_reaches}
+use Rattle.shortest_paths.proofs.Backwards.{NoneReachesBelow, read_step, none_more, none_past, some_reaches}
 use Rattle.shortest_paths.proofs.Offers.{end_vertex}
-use Rattle.shortest_paths.proofs.Spreading.{read_step}
 use Rattle.shortest_paths.proofs.labels.Labels.step_back.Goals as goal
 use Rattle.shortest_paths.proofs.labels.Labels.step_back.Goals.{in-Some+else-reaches, in_default}
 
 pub reaches-requires : goal.reaches-requires
 reaches-requires g c =
     let s = g.W.Weights.size c.args.weights.now in
-    let table : c.steps.result ≡ steps s c.args.here.0 = c.steps.ensures ∙ ap (λ (x : Size). steps x c.args.here.0) c.requires.back.size in
+    let table : c.steps.result ≡ steps s c.args.here.0 = c.steps.ensures ∙ ap (λ (x : Size). steps x c.args.here.0) (c.size.ensures ∙ c.requires.back.size) in
     let connects : Connects s c.in-Some.by c.args.here.0 c.in-Some.before.0 = steps_lead s c.args.here.0 c.loop-step.step-index (Some (c.in-Some.before, c.in-Some.by)) c.requires.vertex
     (step_read s c.args.here.0 c.loop-step.step-index c.steps.result _ table c.loop-step-test.true c.in-Some.is) in
     rw c.requires.back.size (end_vertex s c.in-Some.by c.args.here.0 c.in-Some.before.0 connects)
@@ -22,14 +21,14 @@ reaches-requires g c =
 pub returns-then-reaches-clause-step : goal.returns-then-reaches-clause-step
 returns-then-reaches-clause-step g c =
     let s = g.W.Weights.size c.args.weights.now in
-    let table : c.steps.result ≡ steps s c.args.here.0 = c.steps.ensures ∙ ap (λ (x : Size). steps x c.args.here.0) c.requires.back.size in
+    let table : c.steps.result ≡ steps s c.args.here.0 = c.steps.ensures ∙ ap (λ (x : Size). steps x c.args.here.0) (c.size.ensures ∙ c.requires.back.size) in
     let connects : Connects s c.in-Some.by c.args.here.0 c.in-Some.before.0 = steps_lead s c.args.here.0 c.loop-step.step-index (Some (c.in-Some.before, c.in-Some.by)) c.requires.vertex
     (step_read s c.args.here.0 c.loop-step.step-index c.steps.result _ table c.loop-step-test.true c.in-Some.is) in
     let reaches = c.if-reaches.ensures.0 refl in
     record {
       weight = reaches.weight;
       step = record { connects = connects; weighs = reaches.weighs };
-      less = omega (arith, reaches.within, c.get-number.ensures.number);
+      less = omega (arith, reaches.within, c.number-number.ensures.number);
     }
 
 pub loop-step-preserved : goal.loop-step-preserved
@@ -37,14 +36,14 @@ loop-step-preserved g c =
     let s = g.W.Weights.size c.args.weights.now in
     let pieces = g.W.Weights.pieces c.args.weights.now in
     let num = number_of c.args.self.now in
-    let table : c.steps.result ≡ steps s c.args.here.0 = c.steps.ensures ∙ ap (λ (x : Size). steps x c.args.here.0) c.requires.back.size in
+    let table : c.steps.result ≡ steps s c.args.here.0 = c.steps.ensures ∙ ap (λ (x : Size). steps x c.args.here.0) (c.size.ensures ∙ c.requires.back.size) in
     elim c.match-step.branch [
       | in-Some+else-reaches w ↦
-          none_more s pieces num c.args.here.0 c.get-number.result c.loop-step.step-index w.in-Some.before w.in-Some.by c.loop-step.invariant
+          none_more s pieces num c.args.here.0 c.number-number.result c.loop-step.step-index w.in-Some.before w.in-Some.by c.loop-step.invariant
           (read_step s c.args.here.0 c.loop-step.step-index c.steps.result _ table w.in-Some.is)
           (λ reaches. let yes : IsTrue false = w.if-reaches.ensures.1 reaches in cc)
       | in_default w ↦
-          none_past s pieces num c.args.here.0 c.get-number.result c.loop-step.step-index c.loop-step.invariant
+          none_past s pieces num c.args.here.0 c.number-number.result c.loop-step.step-index c.loop-step.invariant
           (read_step s c.args.here.0 c.loop-step.step-index c.steps.result _ table w.in_default.is)
     ]
 
@@ -57,5 +56,5 @@ returns-clause-found g c =
     ⊎_elim
     (λ first. absurd (c.requires.other first))
     (λ behind. absurd (some_reaches s pieces num c.args.here.0 behind
-    (subst (λ (n : ℕ). NoneReachesBelow s pieces num c.args.here.0 n 6) c.get-number.ensures.number (subst (NoneReachesBelow s pieces num c.args.here.0 c.get-number.result) all c.loop-step.invariant))))
+    (subst (λ (n : ℕ). NoneReachesBelow s pieces num c.args.here.0 n 6) c.number-number.ensures.number (subst (NoneReachesBelow s pieces num c.args.here.0 c.number-number.result) all c.loop-step.invariant))))
     (c.requires.back.behind c.args.here.0 c.requires.found)

@@ -1,0 +1,62 @@
+use Rattle.std.proofs.Common.{◌≡◌, ℕ, List, false, true, sym, ◌∙◌, ap, subst, arith}
+use Rattle.grid_base.specs.declared.piece.Piece.{Piece}
+use Rattle.grid_base.specs.declared.size.Size.{Size}
+use Rattle.grid_base.specs.Walks.{InVertices}
+use Rattle.shortest_paths.specs.declared.step_back.StepBack.{StepBack}
+use Rattle.shortest_paths.specs.Rows.{number_in}
+use Rattle.shortest_paths.specs.Sets.{RisesSlowly}
+use Rattle.shortest_paths.proofs.Reaching.{IsOnWay, way_begins, way_goes_on, way_ends, seeding_begins, seeding_on, seeded_growing, no_elements}
+use Rattle.shortest_paths.proofs.grow.reach.Goals as goal
+
+pub loop-from-init : goal.loop-from-init
+loop-from-init g c =
+    let s = g.W.Weights.size c.args.weights.now in
+    let pieces = g.W.Weights.pieces c.args.weights.now in
+    let way = c.in_ok-way.ensures in
+    record {
+      seeding = seeding_begins s pieces (InVertices c.args.terminals.now) (g.B.Bound.rest c.args.bound.now) c.args.row.now c.args.at.vertex.0 c.requires.taken;
+      on = way_begins s pieces c.args.terminals.now (number_in c.args.row.now) c.args.at.vertex.0 way.0 c.in_ok-way.way.items c.args.grown.now.items c.requires.grown way.1 way.2;
+    }
+
+pub loop-from-preserved : goal.loop-from-preserved
+loop-from-preserved g c =
+    let s = g.W.Weights.size c.args.weights.now in
+    let pieces = g.W.Weights.pieces c.args.weights.now in
+    let num = number_in c.args.row.now in
+    let before = c.loop-from.invariant in
+    let x = c.in-Some.field-0 in
+    let on = subst (λ (ws : List StepBack). IsOnWay s pieces c.args.terminals.now num (number_in c.loop-from.row) c.args.at.vertex.0 ws c.loop-from.grown.items) c.in-Some.ensures.items before.on in
+    record {
+      seeding = seeding_on s pieces (g.B.Bound.rest c.args.bound.now) c.args.row.now c.loop-from.row c.offer.new.row x.from.vertex.0 before.seeding c.offer.ensures.keys c.offer.ensures.taken;
+      on = rw c.in_ok-push.ensures.items (way_goes_on s pieces c.args.terminals.now num c.loop-from.row c.offer.new.row c.args.at.vertex.0 c.pop.new.self.items x c.loop-from.grown.items on c.offer.ensures.taken c.offer.ensures.lower);
+    }
+
+pub returns-clause-growing : goal.returns-clause-growing
+returns-clause-growing g c =
+    let s = g.W.Weights.size c.args.weights.now in
+    let pieces = g.W.Weights.pieces c.args.weights.now in
+    let num = number_in c.args.row.now in
+    let none = no_elements c.loop-from.way.items (λ some. let clash : false ≡ true = c.in_default.ensures.variant.1 (omega (arith, some, c.loop-from.way.ok)) in cc) in
+    let on = subst (λ (ws : List StepBack). IsOnWay s pieces c.args.terminals.now num (number_in c.loop-from.row) c.args.at.vertex.0 ws c.loop-from.grown.items) none c.loop-from.invariant.on in
+    seeded_growing s pieces (InVertices c.args.terminals.now) (g.B.Bound.rest c.args.bound.now) c.args.row.now c.loop-from.row c.args.at.vertex.0 c.requires.taken c.requires.unreached c.loop-from.invariant.seeding
+    (ap (number_in c.loop-from.row) (sym on.leads) ∙ on.reached)
+
+pub returns-clause-grown : goal.returns-clause-grown
+returns-clause-grown g c =
+    let s = g.W.Weights.size c.args.weights.now in
+    let pieces = g.W.Weights.pieces c.args.weights.now in
+    let num = number_in c.args.row.now in
+    let rest = g.B.Bound.rest c.args.bound.now in
+    let slow : RisesSlowly s pieces rest = subst (λ (r : Size). RisesSlowly r pieces rest) c.requires.bound_size (subst (λ (ps : List (Piece × ℕ)). RisesSlowly (g.B.Bound.size c.args.bound.now) ps rest) c.requires.bound (g.met.B.Bound.slow c.args.bound.now)) in
+    let none = no_elements c.loop-from.way.items (λ some. let clash : false ≡ true = c.in_default.ensures.variant.1 (omega (arith, some, c.loop-from.way.ok)) in cc) in
+    let on = subst (λ (ws : List StepBack). IsOnWay s pieces c.args.terminals.now num (number_in c.loop-from.row) c.args.at.vertex.0 ws c.loop-from.grown.items) none c.loop-from.invariant.on in
+    way_ends s pieces c.args.terminals.now rest c.args.row.now (number_in c.loop-from.row) c.args.at.vertex.0 c.loop-from.grown.items c.requires.taken slow c.requires.near c.requires.terminal c.requires.unreached c.loop-from.invariant.seeding.fell.falls on
+
+pub returns-clause-reached : goal.returns-clause-reached
+returns-clause-reached g c =
+    let s = g.W.Weights.size c.args.weights.now in
+    let pieces = g.W.Weights.pieces c.args.weights.now in
+    let num = number_in c.args.row.now in
+    let none = no_elements c.loop-from.way.items (λ some. let clash : false ≡ true = c.in_default.ensures.variant.1 (omega (arith, some, c.loop-from.way.ok)) in cc) in
+    let on = subst (λ (ws : List StepBack). IsOnWay s pieces c.args.terminals.now num (number_in c.loop-from.row) c.args.at.vertex.0 ws c.loop-from.grown.items) none c.loop-from.invariant.on in
+    ap (number_in c.loop-from.row) (sym on.leads) ∙ on.reached
