@@ -1,0 +1,11 @@
+pub mod Attempts
+pub mod BoxSides
+pub mod BoxSteps
+pub mod EdgeLists
+pub mod FlatSteps
+pub mod FoundNumbers
+pub mod LeastSets
+pub mod RowLaws
+pub mod TreesRead
+pub mod TwoTerminals
+pub mod WeighedLists

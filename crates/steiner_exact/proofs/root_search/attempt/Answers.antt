@@ -1,0 +1,34 @@
+use Rattle.std.proofs.Common.{◌∙◌, All, sym, subst, arith}
+use Rattle.grid_base.specs.declared.size.Size.{Size}
+use Rattle.grid_base.specs.Numbers.{IsVertex}
+use Rattle.grid_base.specs.declared.vertex.Vertex.{Vertex}
+use Rattle.shortest_paths.specs.LabelWords.{label_of}
+use Rattle.shortest_paths.specs.Stamped.{far}
+use Rattle.shortest_paths.specs.Tables.{IsPrunedTable}
+use Rattle.shortest_paths.proofs.Roots.{root_mask}
+use Rattle.steiner_exact.proofs.Attempts.{attempted, family_of}
+use Rattle.steiner_exact.proofs.root_search.attempt.Goals as goal
+
+pub pruned-requires-clause-last : goal.pruned-requires-clause-last
+pruned-requires-clause-last g c = rw c.all_but_root_of-last.ensures (root_mask c.args.terminals.now c.requires.two).1
+
+pub root_label-requires-clause-terminals : goal.root_label-requires-clause-terminals
+root_label-requires-clause-terminals g c =
+    subst (λ (x : Size). All (λ (v : Vertex). IsVertex x v.0) c.args.terminals.now) (sym (c.pruned.ensures.size ∙ c.requires.size)) c.requires.terminals
+
+pub root_label-requires-clause-room : goal.root_label-requires-clause-room
+root_label-requires-clause-room g c = omega (arith, c.requires.room, c.pruned.ensures.masks)
+
+pub returns-clause-found : goal.returns-clause-found
+returns-clause-found g c =
+    let s = g.W.Weights.size c.args.weights.now in
+    let pieces = g.W.Weights.pieces c.args.weights.now in
+    let terminals = c.args.terminals.now in
+    let low = g.F.Family.low c.args.family.now in
+    let number = label_of c.pruned.new.self in
+    let last = c.all_but_root_of-last.ensures in
+    let w = c.args.weights.now in
+    let table = subst (λ m. IsPrunedTable s pieces terminals m low c.args.limit far number) last c.pruned.ensures.table in
+    attempted s pieces terminals low c.args.limit number c.root_label.result (g.met.W.Weights.once w) (g.met.W.Weights.small w)
+    (family_of s pieces terminals _ _ _ low c.requires.family_size c.requires.family c.requires.family_terminals (g.met.F.Family.holds c.args.family.now))
+    c.requires.two c.requires.limit c.requires.joined table c.root_label.ensures

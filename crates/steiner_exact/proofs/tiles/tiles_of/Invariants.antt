@@ -1,0 +1,7 @@
+use Rattle.std.proofs.Common.{◌≡◌, take}
+use Rattle.steiner_exact.specs.FlatPieces.{tiles_of}
+use Rattle.steiner_exact.proofs.tiles.tiles_of.Given as goal
+
+-- the tiles of the terminals so far
+abbrev pub invariant-loop-terminal : goal.invariant-loop-terminal
+invariant-loop-terminal l = l.tiles.items ≡ tiles_of l.fn.size (take l.terminal-index l.terminals)

@@ -1,0 +1,7 @@
+pub mod Boxes
+pub mod FlatPieces
+pub mod LeastSets
+pub mod Reading
+pub mod Roots
+pub mod RowLows
+pub mod TreeLabelWords

@@ -1,0 +1,46 @@
+//! Least trees for up to five terminals.
+//!
+//! Labels are made once for a grid and used for many trees:
+//!
+//! ```text
+//! let mut labels = TreeLabels::new(alloc, grid.size())?;
+//! let (tree, weight) = least_tree(alloc, &weighing, terminals.list(), &mut labels)?;
+//! ```
+//!
+//! A table of the flat grid, searched under boxes of terminals, bounds a table of the grid; the tree is read back from its
+//! numbers. Both bounds are families of `shortest_paths`, and so is any other that a caller has.
+//!
+//! It stands on `shortest_paths` for tables, on `tree_set` for sets of pieces and on `grid_graph` for weights that know
+//! lower bounds of themselves. A tree takes memory for its own pieces and its terminals, and none that grows with the grid.
+//!
+//! Promised: the tree is a set of allowed pieces that joins the terminals, no such set weighs less, and the weight is its
+//! own.
+#![tactic(auto)]
+
+mod box_family;
+mod boxes;
+mod flat_edges;
+mod flat_size;
+mod flat_weights;
+mod guess;
+mod least_path;
+mod limits;
+mod masks;
+mod nearness;
+mod reading;
+mod root_label;
+mod root_search;
+mod row_family;
+mod span;
+mod terminal_box;
+mod tiles;
+mod tree_labels;
+mod trees;
+
+pub use box_family::BoxFamily;
+pub use flat_weights::FlatWeights;
+pub use row_family::RowFamily;
+pub use span::Span;
+pub use terminal_box::TerminalBox;
+pub use tree_labels::TreeLabels;
+pub use trees::least_tree;

@@ -1,0 +1,66 @@
+//! Masks of terminals, bit by bit.
+
+ghost use Rattle.std.specs.Prelude.{◌≡◌, ◌<◌, ◌≤◌, ◌-◌, ◌^◌, ◌==◌, ◌↔◌, IsTrue};
+ghost use Rattle.shortest_paths.specs.Masks.{bit, single, AreParts};
+
+/// The greatest number of terminals.
+pub(crate) const MOST_TERMINALS: u32 = 5;
+
+/// 1 where the mask has the terminal at this place, else 0.
+pub(crate) fn bit_of(mask: u32, place: u32) -> u32
+    requires { place < 32 }
+    ensures { result ≡ bit mask place }
+{
+    (mask >> place) % 2
+}
+
+/// Whether the mask has the terminal at this place.
+pub(crate) fn has_terminal(mask: u32, place: u32) -> bool
+    requires { place < 32 }
+    ensures { result ≡ (bit mask place == 1) }
+{
+    bit_of(mask, place) == 1
+}
+
+/// The mask of the terminal at this place alone.
+pub(crate) fn single_of(place: u32) -> u32
+    requires { place < 32 }
+    ensures { result ≡ single place }
+{
+    1 << place
+}
+
+/// The mask of all terminals but the last of so many.
+pub(crate) fn all_but_root_of(count: usize) -> u32
+    requires some { 1 ≤ count }
+    requires few { count ≤ 5 }
+    ensures { result ≡ 2 ^ (count - 1) - 1 }
+{
+    single_of(count as u32 - 1) - 1
+}
+
+/// The mask of so many terminals.
+pub(crate) fn all_of(count: usize) -> u32
+    requires { count ≤ 5 }
+    ensures { result ≡ 2 ^ count - 1 }
+{
+    single_of(count as u32) - 1
+}
+
+/// Whether each terminal of a mask is in one of two parts, neither of which is empty.
+pub(crate) fn are_parts(one: u32, other: u32, mask: u32) -> bool
+    requires one { one < 32 }
+    requires other { other < 32 }
+    requires mask { mask < 32 }
+    ensures { IsTrue result ↔ AreParts one other mask }
+{
+    if one == 0 || other == 0 {
+        return false;
+    }
+    for place in 0..MOST_TERMINALS {
+        if bit_of(mask, place) != bit_of(one, place) + bit_of(other, place) {
+            return false;
+        }
+    }
+    true
+}

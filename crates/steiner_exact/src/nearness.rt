@@ -1,0 +1,98 @@
+//! Which terminals are near one another.
+
+ghost use Rattle.std.specs.Prelude.{◌≡◌, ◌≤◌, ◌<◌, ◌^◌, All, IfOk, length};
+ghost use Rattle.std.specs.List.Sorted.{IsPermutation};
+ghost use Rattle.grid_base.specs.Numbers.{IsVertex};
+
+use grid_base::{NoMemory, Place, Size, Vertex};
+use std::alloc::Global;
+
+/// The terminals in another order: last comes one with the greatest sum of grid distances to the others. It is the root of
+/// a table, whose rows are those of the others, and any order is right.
+pub(crate) fn with_far_root(
+    alloc: Global,
+    size: Size,
+    terminals: &[Vertex],
+) -> Result<Vec<Vertex>, NoMemory>
+    requires terminals { All (λ v. IsVertex size v.0) terminals.now }
+    requires some { 1 ≤ length terminals.now }
+    requires few { length terminals.now ≤ 5 }
+    ensures { IfOk result (λ ordered. IsPermutation terminals.now ordered.items) }
+{
+    let far = farthest(size, terminals);
+    let last = terminals.len() - 1;
+    let mut ordered = copy_of(alloc, terminals)?;
+    ordered.swap(far, last);
+    Ok(ordered)
+}
+
+/// The same terminals once more.
+fn copy_of(alloc: Global, terminals: &[Vertex]) -> Result<Vec<Vertex>, NoMemory>
+    ensures { IfOk result (λ copied. copied.items ≡ terminals.now) }
+{
+    let mut copied = Vec::new(alloc);
+    for terminal in terminals {
+        copied.push(*terminal)?;
+    }
+    Ok(copied)
+}
+
+/// The place of a terminal with the greatest sum of grid distances to the others.
+fn farthest(size: Size, terminals: &[Vertex]) -> usize
+    requires terminals { All (λ v. IsVertex size v.0) terminals.now }
+    requires some { 1 ≤ length terminals.now }
+    requires few { length terminals.now ≤ 5 }
+    ensures { result < length terminals.now }
+{
+    let mut far = 0;
+    let mut greatest = 0;
+    for i in 0..terminals.len() {
+        let sum = distances_from(size, terminals, size.place_of(terminals[i]));
+        if sum > greatest {
+            far = i;
+            greatest = sum;
+        }
+    }
+    far
+}
+
+/// The sum of the grid distances of the terminals from a place.
+fn distances_from(size: Size, terminals: &[Vertex], here: Place) -> u64
+    requires terminals { All (λ v. IsVertex size v.0) terminals.now }
+    requires few { length terminals.now ≤ 5 }
+{
+    let mut sum = 0;
+    for j in 0..terminals.len() {
+        sum += grid_distance(here, size.place_of(terminals[j]));
+    }
+    sum
+}
+
+/// The place of a terminal before this one that is nearest to it by grid distance.
+pub(crate) fn nearest(size: Size, terminals: &[Vertex], i: usize) -> usize
+    requires terminals { All (λ v. IsVertex size v.0) terminals.now }
+    requires some { 0 < i }
+    requires inside { i < length terminals.now }
+    ensures { result < i }
+{
+    let here = size.place_of(terminals[i]);
+    let mut near = 0;
+    let mut least = u64::MAX;
+    for j in 0..i {
+        let far = grid_distance(here, size.place_of(terminals[j]));
+        if far < least {
+            near = j;
+            least = far;
+        }
+    }
+    near
+}
+
+/// The grid distance of two places.
+fn grid_distance(one: Place, other: Place) -> u64
+    ensures { result < 2 ^ 34 }
+{
+    u64::from(one.col.abs_diff(other.col))
+        + u64::from(one.row.abs_diff(other.row))
+        + u64::from(one.layer.abs_diff(other.layer))
+}

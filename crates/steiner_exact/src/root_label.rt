@@ -1,0 +1,27 @@
+//! The number of a table at the root.
+
+ghost use Rattle.std.specs.Prelude.{◌≡◌, ◌≤◌, All, length};
+ghost use Rattle.grid_base.specs.Numbers.{IsVertex};
+ghost use Rattle.shortest_paths.specs.LabelWords.{size_of, masks_of, label_of};
+ghost use Rattle.shortest_paths.specs.Masks.{all_but_root};
+ghost use Rattle.shortest_paths.specs.Stamped.{far};
+ghost use Rattle.shortest_paths.specs.Tables.{answer_at};
+ghost use Rattle.steiner_exact.specs.Roots.{root_of};
+
+use crate::masks::all_but_root_of;
+use grid_base::Vertex;
+use shortest_paths::Labels;
+
+/// The number of all terminals but the root, at the root.
+pub(crate) fn root_label(labels: &Labels, terminals: &[Vertex]) -> Option<u64>
+    requires terminals { All (λ v. IsVertex (size_of labels.now) v.0) terminals.now }
+    requires two { 2 ≤ length terminals.now }
+    requires few { length terminals.now ≤ 5 }
+    requires room { all_but_root terminals.now ≤ masks_of labels.now }
+    ensures { result ≡ answer_at far (label_of labels.now (all_but_root terminals.now) (root_of terminals.now).0) }
+{
+    labels.label(
+        all_but_root_of(terminals.len()),
+        terminals[terminals.len() - 1],
+    )
+}

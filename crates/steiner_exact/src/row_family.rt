@@ -1,0 +1,140 @@
+//! Lower bounds by a table of the flat grid.
+
+ghost use Rattle.std.specs.Prelude.{◌≡◌, ◌≤◌, ◌-◌, All, length};
+ghost use Rattle.grid_base.specs.Numbers.{IsVertex};
+ghost use Rattle.grid_graph.specs.Flat.{IsFlatOf};
+ghost use Rattle.grid_graph.specs.Limits.{max_weight};
+ghost use Rattle.shortest_paths.specs.LabelWords.{size_of, masks_of, label_of};
+ghost use Rattle.shortest_paths.specs.Stamped.{most, far};
+ghost use Rattle.shortest_paths.specs.Tables.{IsFamily};
+ghost use Rattle.steiner_exact.specs.Boxes.{AreBoxes};
+ghost use Rattle.steiner_exact.specs.FlatPieces.{tiles_of};
+ghost use Rattle.steiner_exact.specs.RowLows.{row_low};
+
+use crate::boxes::{MASKS, boxes_of};
+use crate::limits::MOST_LOW;
+use crate::masks::all_of;
+use crate::terminal_box::TerminalBox;
+use grid_base::{Place, Size, Vertex};
+use grid_graph::FlooredWeights;
+use shortest_paths::{Family, Labels};
+
+/// The numbers of a table of the terminals' tiles, completed by the bounds under which it was pruned, and each layer to
+/// go at the floor of vias.
+#[derive(Drop)]
+pub struct RowFamily<'a, W: FlooredWeights, B: Family> {
+    weights: &'a W,
+    size: Size,
+    terminals: &'a [Vertex],
+    bounds: &'a B,
+    labels: &'a Labels,
+    limit: u64,
+    via: u64,
+    boxes: [TerminalBox; MASKS],
+    ghost vertices: { All (λ v. IsVertex size v.0) terminals.now },
+    ghost few: { length terminals.now ≤ 5 },
+    ghost flat: { IsFlatOf (B.size bounds.now) size },
+    ghost tiles: { B.terminals bounds.now ≡ tiles_of size terminals.now },
+    ghost labelled: { size_of labels.now ≡ B.size bounds.now },
+    ghost room: { 30 ≤ masks_of labels.now },
+    ghost within: { limit ≤ most },
+    ghost low_via: { via ≤ max_weight },
+    ghost boxed: { AreBoxes size terminals.now boxes },
+    ghost holds: { IsFamily size (W.pieces weights.now) terminals.now (row_low size terminals.now via (B.low bounds.now) limit (label_of labels.now)) },
+}
+
+impl<'a, W: FlooredWeights, B: Family> RowFamily<'a, W, B> {
+    ghost use Rattle.std.specs.Prelude.{◌≡◌, ◌≤◌, ◌+◌, ◌-◌, ◌<◌, All, length};
+    ghost use Rattle.grid_base.specs.Numbers.{IsVertex, place_at};
+    ghost use Rattle.grid_graph.specs.Flat.{IsFlatOf};
+    ghost use Rattle.shortest_paths.specs.LabelWords.{size_of, masks_of, label_of};
+    ghost use Rattle.shortest_paths.specs.Stamped.{most, far};
+    ghost use Rattle.shortest_paths.specs.Masks.{all_of};
+    ghost use Rattle.shortest_paths.specs.Tables.{IsPrunedTable, completed};
+    ghost use Rattle.steiner_exact.specs.FlatPieces.{edges_with, tiles_of};
+
+    /// The bounds by these labels, which are those of the tiles of at most five terminals by a search under `bounds` and
+    /// this limit.
+    pub fn new(
+        weights: &'a W,
+        size: Size,
+        terminals: &'a [Vertex],
+        bounds: &'a B,
+        labels: &'a Labels,
+        limit: u64,
+    ) -> RowFamily<'a, W, B>
+        requires size { size ≡ W.size weights.now }
+        requires terminals { All (λ v. IsVertex size v.0) terminals.now }
+        requires some { 1 ≤ length terminals.now }
+        requires few { length terminals.now ≤ 5 }
+        requires flat { IsFlatOf (B.size bounds.now) size }
+        requires pieces { B.pieces bounds.now ≡ edges_with (B.size bounds.now) (W.over weights.now) }
+        requires tiles { B.terminals bounds.now ≡ tiles_of size terminals.now }
+        requires labels { size_of labels.now ≡ B.size bounds.now }
+        requires room { 30 ≤ masks_of labels.now }
+        requires limit { limit ≤ most }
+        requires table { IsPrunedTable (B.size bounds.now) (B.pieces bounds.now) (B.terminals bounds.now) (all_of terminals.now - 1) (B.low bounds.now) limit far (label_of labels.now) }
+        ensures size { result.size ≡ size }
+        ensures weights { result.weights.now ≡ weights.now }
+        ensures terminals { result.terminals.now ≡ terminals.now }
+    {
+        RowFamily {
+            weights,
+            size,
+            terminals,
+            bounds,
+            labels,
+            limit,
+            via: weights.floors().via,
+            boxes: boxes_of(size, terminals),
+        }
+    }
+
+    /// The completed number of a mask at a tile, which stands at this place of the flat grid.
+    fn across(&self, mask: u32, tile: Vertex, place: Place) -> u64
+        requires some { 0 < mask }
+        requires mask { mask < all_of self.now.terminals.now }
+        requires vertex { IsVertex (B.size self.now.bounds.now) tile.0 }
+        requires place { place ≡ place_at (B.size self.now.bounds.now) tile.0 }
+        ensures value { result ≡ completed (tiles_of self.now.size self.now.terminals.now) (B.low self.now.bounds.now) self.now.limit far (label_of self.now.labels.now) mask tile.0 }
+        ensures limit { result ≤ far }
+    {
+        match self.labels.label(mask, tile) {
+            Some(kept) => kept,
+            None => {
+                let low = self.bounds.low(mask, tile, place);
+                let rest = self
+                    .bounds
+                    .low(all_of(self.terminals.len()) - mask, tile, place);
+                low.max((self.limit + 1).saturating_sub(rest))
+            }
+        }
+    }
+}
+
+impl<'a, W: FlooredWeights, B: Family> Family for RowFamily<'a, W, B> {
+    ghost use Rattle.shortest_paths.specs.LabelWords.{label_of};
+    ghost use Rattle.steiner_exact.specs.RowLows.{row_low};
+
+    ghost size = { λ x. x.size };
+
+    ghost pieces = { λ x. W.pieces x.weights.now };
+
+    ghost terminals = { λ x. x.terminals.now };
+
+    ghost low = { λ x. row_low x.size x.terminals.now x.via (B.low x.bounds.now) x.limit (label_of x.labels.now) };
+
+    ghost holds = { λ x. x.holds };
+
+    fn low(&self, mask: u32, v: Vertex, place: Place) -> u64 {
+        let tile = Vertex(place.row * self.size.cols() + place.col);
+        let ground = Place {
+            col: place.col,
+            row: place.row,
+            layer: 0,
+        };
+        let across = self.across(mask, tile, ground);
+        let layers = self.boxes[mask as usize].layers.width_with(place.layer);
+        (across + u64::from(layers) * self.via).min(MOST_LOW)
+    }
+}

@@ -1,0 +1,186 @@
+//! Trees of least weight.
+
+ghost use Rattle.std.specs.Prelude.{◌≡◌, ◌≤◌, ◌<◌, [], All, IfOk, length};
+ghost use Rattle.grid_base.specs.Numbers.{IsVertex};
+ghost use Rattle.grid_base.specs.Walks.{Joins, InVertices};
+ghost use Rattle.grid_graph.specs.Weighed.{IsAllowed};
+ghost use Rattle.grid_graph.specs.Flat.{IsFlatOf};
+ghost use Rattle.shortest_paths.specs.LabelWords.{size_of, masks_of, label_of};
+ghost use Rattle.shortest_paths.specs.Paths.{NoneWeighsNothing};
+ghost use Rattle.steiner_exact.specs.FlatPieces.{edge_flags};
+ghost use Rattle.steiner_exact.specs.LeastSets.{IsLeastTree};
+ghost use Rattle.steiner_exact.specs.Roots.{IsLeastAtRoot};
+ghost use Rattle.steiner_exact.specs.TreeLabelWords.{AreTreeLabels};
+
+use crate::box_family::BoxFamily;
+use crate::flat_weights::FlatWeights;
+use crate::guess::tree_guess;
+use crate::least_path::least_path;
+use crate::limits::{FIRST_SLACK, MOST, TABLE_SLACK};
+use crate::masks::{all_but_root_of, all_of};
+use crate::nearness::with_far_root;
+use crate::reading::read_tree;
+use crate::root_label::root_label;
+use crate::root_search::least_at_root;
+use crate::row_family::RowFamily;
+use crate::tiles::tiles_of;
+use crate::tree_labels::TreeLabels;
+use grid_base::{NoMemory, Vertex};
+use grid_graph::FlooredWeights;
+use shortest_paths::Labels;
+use std::alloc::Global;
+use tree_set::Tree;
+
+/// A set of allowed pieces that joins at most five terminals, of least weight, and that weight. The labels are those of
+/// the weights' size. After Dreyfus and Wagner, "The Steiner problem in graphs" (1971).
+pub fn least_tree<W: FlooredWeights>(
+    alloc: Global,
+    weights: &W,
+    terminals: &[Vertex],
+    labels: &mut TreeLabels,
+) -> Result<(Tree, u64), NoMemory>
+    requires labels { AreTreeLabels (W.size weights.now) labels.old }
+    requires few { length terminals.now ≤ 5 }
+    requires joined { Joins (W.size weights.now) (IsAllowed (W.pieces weights.now)) (InVertices terminals.now) }
+    requires positive { NoneWeighsNothing (W.pieces weights.now) }
+    ensures tree { IfOk result (λ found. IsLeastTree (W.size weights.now) (W.pieces weights.now) terminals.now found.0 found.1) }
+    ensures none { length terminals.now < 2 → IfOk result (λ found. found.0 ≡ []) }
+    ensures labels { AreTreeLabels (W.size weights.now) labels.new }
+{
+    if terminals.len() < 2 {
+        return Ok((Tree::empty(alloc), 0));
+    }
+    if terminals.len() == 2 {
+        return least_path(weights, terminals, &mut labels.grid);
+    }
+    let ordered = with_far_root(alloc, labels.grid.size(), terminals)?;
+    let found = least_of_several(
+        alloc,
+        weights,
+        ordered.as_slice(),
+        &mut labels.grid,
+        &mut labels.flat,
+        labels.flat_edges.as_slice(),
+    )?;
+    Ok(found)
+}
+
+/// The same for two to five terminals, by a table.
+fn least_of_several<W: FlooredWeights>(
+    alloc: Global,
+    weights: &W,
+    terminals: &[Vertex],
+    grid: &mut Labels,
+    flat: &mut Labels,
+    flat_edges: &[bool],
+) -> Result<(Tree, u64), NoMemory>
+    requires size { size_of grid.old ≡ W.size weights.now }
+    requires room { 15 ≤ masks_of grid.old }
+    requires flat_size { IsFlatOf (size_of flat.old) (W.size weights.now) }
+    requires flat_room { 30 ≤ masks_of flat.old }
+    requires flat_edges { flat_edges.now ≡ edge_flags (size_of flat.old) }
+    requires terminals { All (λ v. IsVertex (W.size weights.now) v.0) terminals.now }
+    requires two { 2 ≤ length terminals.now }
+    requires few { length terminals.now ≤ 5 }
+    requires joined { Joins (W.size weights.now) (IsAllowed (W.pieces weights.now)) (InVertices terminals.now) }
+    requires positive { NoneWeighsNothing (W.pieces weights.now) }
+    ensures tree { IfOk result (λ found. IsLeastTree (W.size weights.now) (W.pieces weights.now) terminals.now found.0 found.1) }
+    ensures size { size_of grid.new ≡ size_of grid.old }
+    ensures masks { masks_of grid.new ≡ masks_of grid.old }
+    ensures flat_size { size_of flat.new ≡ size_of flat.old }
+    ensures flat_masks { masks_of flat.new ≡ masks_of flat.old }
+{
+    let weight = least_weight(alloc, weights, terminals, grid, flat, flat_edges)?;
+    let mask = all_but_root_of(terminals.len());
+    let root = terminals[terminals.len() - 1];
+    let tree = read_tree(alloc, weights, grid, terminals, mask, root)?;
+    Ok((tree, weight))
+}
+
+/// The least weight of a set that joins the terminals, with the table that tells it.
+fn least_weight<W: FlooredWeights>(
+    alloc: Global,
+    weights: &W,
+    terminals: &[Vertex],
+    grid: &mut Labels,
+    flat: &mut Labels,
+    flat_edges: &[bool],
+) -> Result<u64, NoMemory>
+    requires size { size_of grid.old ≡ W.size weights.now }
+    requires room { 15 ≤ masks_of grid.old }
+    requires flat_size { IsFlatOf (size_of flat.old) (W.size weights.now) }
+    requires flat_room { 30 ≤ masks_of flat.old }
+    requires flat_edges { flat_edges.now ≡ edge_flags (size_of flat.old) }
+    requires terminals { All (λ v. IsVertex (W.size weights.now) v.0) terminals.now }
+    requires two { 2 ≤ length terminals.now }
+    requires few { length terminals.now ≤ 5 }
+    requires joined { Joins (W.size weights.now) (IsAllowed (W.pieces weights.now)) (InVertices terminals.now) }
+    ensures least { IfOk result (λ least. IsLeastAtRoot (W.size weights.now) (W.pieces weights.now) terminals.now (label_of grid.new) least) }
+    ensures size { size_of grid.new ≡ size_of grid.old }
+    ensures masks { masks_of grid.new ≡ masks_of grid.old }
+    ensures flat_size { size_of flat.new ≡ size_of flat.old }
+    ensures flat_masks { masks_of flat.new ≡ masks_of flat.old }
+{
+    if grid.size().layers() == 1 {
+        return Ok(least_by_boxes(weights, terminals, grid));
+    }
+    least_by_tiles(alloc, weights, terminals, grid, flat, flat_edges)
+}
+
+/// The same by a search under boxes.
+fn least_by_boxes<W: FlooredWeights>(weights: &W, terminals: &[Vertex], labels: &mut Labels) -> u64
+    requires size { size_of labels.old ≡ W.size weights.now }
+    requires room { 15 ≤ masks_of labels.old }
+    requires terminals { All (λ v. IsVertex (W.size weights.now) v.0) terminals.now }
+    requires two { 2 ≤ length terminals.now }
+    requires few { length terminals.now ≤ 5 }
+    requires joined { Joins (W.size weights.now) (IsAllowed (W.pieces weights.now)) (InVertices terminals.now) }
+    ensures least { IsLeastAtRoot (W.size weights.now) (W.pieces weights.now) terminals.now (label_of labels.new) result }
+    ensures size { size_of labels.new ≡ size_of labels.old }
+    ensures masks { masks_of labels.new ≡ masks_of labels.old }
+{
+    let guess = tree_guess(weights, terminals, labels);
+    let family = BoxFamily::new(weights, labels.size(), terminals);
+    least_at_root(weights, &family, terminals, guess, labels)
+}
+
+/// The same by a search under a table of the terminals' tiles.
+fn least_by_tiles<W: FlooredWeights>(
+    alloc: Global,
+    weights: &W,
+    terminals: &[Vertex],
+    grid: &mut Labels,
+    flat: &mut Labels,
+    flat_edges: &[bool],
+) -> Result<u64, NoMemory>
+    requires size { size_of grid.old ≡ W.size weights.now }
+    requires room { 15 ≤ masks_of grid.old }
+    requires flat_size { IsFlatOf (size_of flat.old) (W.size weights.now) }
+    requires flat_room { 30 ≤ masks_of flat.old }
+    requires flat_edges { flat_edges.now ≡ edge_flags (size_of flat.old) }
+    requires terminals { All (λ v. IsVertex (W.size weights.now) v.0) terminals.now }
+    requires two { 2 ≤ length terminals.now }
+    requires few { length terminals.now ≤ 5 }
+    requires joined { Joins (W.size weights.now) (IsAllowed (W.pieces weights.now)) (InVertices terminals.now) }
+    ensures least { IfOk result (λ least. IsLeastAtRoot (W.size weights.now) (W.pieces weights.now) terminals.now (label_of grid.new) least) }
+    ensures size { size_of grid.new ≡ size_of grid.old }
+    ensures masks { masks_of grid.new ≡ masks_of grid.old }
+    ensures flat_size { size_of flat.new ≡ size_of flat.old }
+    ensures flat_masks { masks_of flat.new ≡ masks_of flat.old }
+{
+    let tiles = tiles_of(alloc, grid.size(), terminals)?;
+    let ground = FlatWeights::new(weights, flat.size(), flat_edges);
+    let bounds = BoxFamily::new(&ground, flat.size(), tiles.as_slice());
+    let guess = tree_guess(&ground, tiles.as_slice(), flat);
+    let limit = (guess + TABLE_SLACK).min(MOST);
+    flat.pruned(
+        &ground,
+        &bounds,
+        tiles.as_slice(),
+        all_of(tiles.len()) - 1,
+        limit,
+    );
+    let across = root_label(flat, tiles.as_slice()).unwrap_or(guess);
+    let family = RowFamily::new(weights, grid.size(), terminals, &bounds, flat, limit);
+    Ok(least_at_root(weights, &family, terminals, across + FIRST_SLACK, grid))
+}
