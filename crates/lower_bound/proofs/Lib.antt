@@ -1,0 +1,16 @@
+mod Reach
+mod Shares
+mod Crossing
+mod ListsOf
+mod ManyBounds
+mod Costed
+mod AtRoot
+mod HalvesOf
+mod Mapped
+mod Filling
+mod Apart
+mod Farthest
+mod LowBounds
+mod Held
+mod Parts
+mod Along

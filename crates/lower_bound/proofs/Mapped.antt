@@ -1,0 +1,60 @@
+-- Pieces with other weights.
+use Rattle.std.proofs.Common.{◌≡◌, ℕ, suc, ◌+◌, ◌≤◌, List, [], ◌∷◌, map, refl, sym, ap, subst, ⊎_elim, arith}
+use Rattle.std.specs.List.{Contains}
+use Rattle.grid_base.specs.declared.piece.Piece.{Piece}
+use Rattle.grid_base.specs.declared.size.Size.{Size}
+use Rattle.grid_base.specs.Lists.{HasNoRepeats}
+use Rattle.grid_graph.specs.Weighed.{Weighs, NoPieceTwice, WeighsOnlyPieces}
+use Rattle.edge_prices.specs.Limits.{max_price}
+use Rattle.edge_prices.specs.PieceLists.{IsWeightList}
+use Rattle.shortest_paths.proofs.Law.{head_or_rest}
+use Rattle.lower_bound.specs.Raised.{raised, MayBeRaised}
+
+-- what was mapped
+pub record IsFrom (f : Piece × ℕ → Piece × ℕ) (xs : List (Piece × ℕ)) (y : Piece × ℕ) : Type 0 where
+  pub from : Piece × ℕ
+  pub listed : Contains xs from
+  pub is : f from ≡ y
+
+pub from_map : (f : Piece × ℕ → Piece × ℕ) (xs : List (Piece × ℕ)) (y : Piece × ℕ) → Contains (map f xs) y → IsFrom f xs y
+from_map f [] y at = absurd (omega (arith, at.1))
+from_map f (x ∷ xs) y at = ⊎_elim
+    (λ here. record { from = x; listed = (0, omega arith, refl); is = sym here })
+    (λ rest. let old = from_map f xs y rest in record { from = old.from; listed = (suc old.listed.0, omega (arith, old.listed.1), old.listed.2); is = old.is })
+    (head_or_rest (f x) (map f xs) y at)
+
+pub into_map : (f : Piece × ℕ → Piece × ℕ) (xs : List (Piece × ℕ)) (x : Piece × ℕ) → Contains xs x → Contains (map f xs) (f x)
+into_map f [] x at = absurd (omega (arith, at.1))
+into_map f (y ∷ xs) x at = ⊎_elim
+    (λ here. (0, omega arith, ap f (sym here)))
+    (λ rest. let old = into_map f xs x rest in (suc old.0, omega (arith, old.1), old.2))
+    (head_or_rest y xs x at)
+
+-- a raised piece is one of the pieces
+pub record IsRaised (pieces : List (Piece × ℕ)) (extra : ℕ) (p : Piece) (k : ℕ) : Type 0 where
+  pub before : ℕ
+  pub weighs : Weighs pieces p before
+  pub sum : k ≡ before + extra
+
+pub raised_from : (pieces : List (Piece × ℕ)) (extra : ℕ) (p : Piece) (k : ℕ) → Weighs (raised pieces extra) p k → IsRaised pieces extra p k
+raised_from pieces extra p k at =
+    let old = from_map (λ x. (x.0, x.1 + extra)) pieces (p, k) at in
+    record {
+      before = old.from.1;
+      weighs = subst (λ q. Weighs pieces q old.from.1) (ap (λ (y : Piece × ℕ). y.0) old.is) old.listed;
+      sum = sym (ap (λ (y : Piece × ℕ). y.1) old.is);
+    }
+
+pub raised_into : (pieces : List (Piece × ℕ)) (extra : ℕ) (p : Piece) (k : ℕ) → Weighs pieces p k → Weighs (raised pieces extra) p (k + extra)
+raised_into pieces extra p k at = into_map (λ x. (x.0, x.1 + extra)) pieces (p, k) at
+
+same_pieces : (pieces : List (Piece × ℕ)) (extra : ℕ) → map (λ x. x.0) (raised pieces extra) ≡ map (λ x. x.0) pieces
+same_pieces [] extra = refl
+same_pieces (x ∷ pieces) extra = ap (λ ps. x.0 ∷ ps) (same_pieces pieces extra)
+
+pub raised_list : (s : Size) (pieces : List (Piece × ℕ)) (extra : ℕ) → NoPieceTwice pieces → WeighsOnlyPieces s pieces → MayBeRaised pieces → extra ≤ max_price → IsWeightList s (raised pieces extra)
+raised_list s pieces extra once inside may small = record {
+  once = subst HasNoRepeats (sym (same_pieces pieces extra)) once;
+  inside = λ p at. let old = raised_from pieces extra p at.0 at.1 in inside p (old.before, old.weighs);
+  within = λ p k at. let old = raised_from pieces extra p k at in omega (arith, old.sum, may p old.before old.weighs, small);
+}

@@ -1,0 +1,9 @@
+pub mod Costs
+pub mod HalfWords
+pub mod MoatWords
+pub mod Moats
+pub mod NetBounds
+pub mod Raised
+pub mod RowLists
+pub mod Spread
+pub mod TableWords
