@@ -176,13 +176,6 @@ a 0 2 1
 1
 0 0 1 2 0 1 3' >refused.gr
 refused 'an adjustment between tiles that are no neighbours' 3 'refused 3 22 154 0'
-row 4 4 1 '0 0 10 10' '1
-a 0 3 1
-5 5 1
-15 5 1
-25 5 1
-0' >refused.gr
-refused 'a net of three terminals' 3 'refused 3 10'
 : >refused.gr
 refused 'an empty file' 3 'refused 3 11 0 grid'
 

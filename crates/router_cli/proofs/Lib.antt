@@ -1,12 +1,9 @@
 pub mod Pairs
 pub mod Endings
+pub mod Fields
 pub mod Outcomes
 pub mod Traces
 pub mod LightSteps
-pub mod TwoTerminals
 pub mod Causes
 pub mod Routings
 pub mod ReadBack
-pub mod WeighedLists
-pub mod LeastSets
-pub mod BoundFloors

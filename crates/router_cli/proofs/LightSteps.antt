@@ -1,11 +1,12 @@
 -- A set of least weight at prices is a step.
-use Rattle.std.proofs.Common.{◌≡◌, ◌<◌, ◌≤◌, ◌+◌, ◌*◌, ℕ, Bool, true, false, cond, List, [], ◌∷◌, length, get_or, map, All, refl, sym, ◌∙◌, ap, subst, arith, Option, None, Result, Ok, Err, IfOk}
+use Rattle.std.proofs.Common.{◌≡◌, ◌<◌, ◌≤◌, ◌+◌, ◌*◌, ℕ, Bool, true, false, cond, List, [], ◌∷◌, length, get_or, map, All, refl, sym, ◌∙◌, ap, subst, arith, Option, None}
 use Rattle.std.specs.List.{sum_by, Contains}
 use Rattle.std.proofs.lemmas.List.Sums.{sum_by-cons}
 use Rattle.std.proofs.lemmas.List.Elements.{All-head, All-tail, All-nil, All-cons, Contains-get_or}
 use Rattle.grid_base.specs.declared.piece.Piece.{Piece}
 use Rattle.grid_base.specs.declared.piece.Piece.TheVariants.{Edge, Via}
 use Rattle.grid_base.specs.declared.size.Size.{Size}
+use Rattle.grid_base.specs.declared.vertex.Vertex.{Vertex}
 use Rattle.grid_base.specs.Walks.{Joins, JoinsList, InVertices}
 use Rattle.grid_base.proofs.Joined.{Joins-superset}
 use Rattle.grid_graph.specs.declared.grid.Grid.{Grid}
@@ -24,8 +25,10 @@ use Rattle.shortest_paths.specs.Paths.{NoneWeighsNothing}
 use Rattle.shortest_paths.specs.Sets as sets
 use Rattle.tree_set.specs.Order.{IsRising}
 use Rattle.tree_set.specs.Routings.{KeepsTo}
-use Rattle.sharing_runs.specs.NetSteps.{IsStep, IsStepAt, IsLightest, weighed, set_weight}
-use Rattle.router_cli.specs.LeastSets.{IsLeastSet}
+use Rattle.sharing_runs.specs.NetSteps.{IsStep, IsStepAt, IsLightest, few_terminals, weighed, set_weight}
+use Rattle.shortest_paths.specs.Spanning.{Link, IsSpanningTree}
+use Rattle.steiner_exact.specs.LeastSets.{IsLeastSet}
+use Rattle.steiner_span.specs.LightTrees.{IsLightTree}
 
 one_of : (b : Bool) (x y : ℕ) → 0 < x → 0 < y → 0 < cond b x y
 one_of true x y first second = first
@@ -69,37 +72,66 @@ same_least s pieces others T d fore back least = record {
   lightest = λ other is joins. least.lightest other (record { allowed = λ x in_set. back x (is.allowed x in_set); once = is.once }) joins;
 }
 
--- a set of least weight of a ground's pieces is a step of a net of at most two terminals
+-- a set of a ground's pieces with their weights: its pieces keep to the ground, and it weighs as much as they do
+pub record IsSetOver (g : Grid) (n : NetSpec) (over : Ground) (prices : List ℕ) (pieces : List (Piece × ℕ)) (tree : List Piece) (total : ℕ) : Type 0 where
+  pub inside : KeepsTo g over tree
+  pub weighs : total ≡ set_weight g n.width prices tree
+  pub fore : (x : Piece × ℕ) → Contains pieces x → Contains (weighed g n.width over prices) x
+  pub back : (x : Piece × ℕ) → Contains (weighed g n.width over prices) x → Contains pieces x
+
+set_over : (g : Grid) (n : NetSpec) (over : Ground) (prices : List ℕ) (pieces set : List (Piece × ℕ)) (tree : List Piece)
+    → AreGroundPieces g over (weight g n.width prices) pieces → map (λ x. x.0) set ≡ tree → sets.IsSetOf pieces set → IsSetOver g n over prices pieces tree (sets.weight set)
+set_over g n over prices pieces set tree are of is_set =
+    let f : Piece → ℕ = weight g n.width prices in
+    let each : (x : Piece × ℕ) → Contains set x → Allows g over x.0 × (x.1 ≡ f x.0) = λ x in_set. (are x.0 x.1).0 (is_set.allowed x in_set) in
+    record {
+      inside = subst (KeepsTo g over) of (All-pieces (Allows g over) set (λ i d short. (each (get_or set i d) (Contains-get_or set i d short)).0));
+      weighs = sum_by-given f set (λ i d short. (each (get_or set i d) (Contains-get_or set i d short)).1) ∙ ap (λ ps. sum_by f ps) of;
+      fore = λ x in_pieces. (pieces_with-Weighs g over f x.0 x.1).1 ((are x.0 x.1).0 in_pieces);
+      back = λ x in_others. (are x.0 x.1).1 ((pieces_with-Weighs g over f x.0 x.1).0 in_others);
+    }
+
+-- a set of least weight of a ground's pieces is a step of a net of few terminals
 pub step_from_least : (g : Grid) (n : NetSpec) (over : Ground) (prices : List ℕ) (pieces : List (Piece × ℕ)) (tree : List Piece)
-    → AreGroundPieces g over (weight g n.width prices) pieces → length n.terminals ≤ 2 → IsGround g n.terminals over
+    → AreGroundPieces g over (weight g n.width prices) pieces → length n.terminals ≤ few_terminals → IsGround g n.terminals over
     → IsRising tree → JoinsList (size_of g) tree n.terminals → IsLeastSet (size_of g) pieces n.terminals tree
     → IsStepAt g n prices tree
 step_from_least g n over prices pieces tree are few ground rising joined least =
-    let f : Piece → ℕ = weight g n.width prices in
-    let set : List (Piece × ℕ) = least.set in
-    let each : (x : Piece × ℕ) → Contains set x → Allows g over x.0 × (x.1 ≡ f x.0) = λ x in_set. (are x.0 x.1).0 (least.is_set.allowed x in_set) in
-    let inside : KeepsTo g over tree =
-    subst (KeepsTo g over) least.of (All-pieces (Allows g over) set (λ i d short. (each (get_or set i d) (Contains-get_or set i d short)).0)) in
-    let weighs : sets.weight set ≡ set_weight g n.width prices tree =
-    sum_by-given f set (λ i d short. (each (get_or set i d) (Contains-get_or set i d short)).1) ∙ ap (λ ps. sum_by f ps) least.of in
-    let others : List (Piece × ℕ) = weighed g n.width over prices in
+    let its = set_over g n over prices pieces least.set tree are least.of least.is_set in
     let lightest : IsLightest g n over prices tree =
-    subst (λ (d : ℕ). sets.IsLeastWeight (size_of g) others (InVertices n.terminals) d) weighs
-    (same_least (size_of g) pieces others (InVertices n.terminals) (sets.weight set)
-    (λ x in_pieces. (pieces_with-Weighs g over f x.0 x.1).1 ((are x.0 x.1).0 in_pieces))
-    (λ x in_others. (are x.0 x.1).1 ((pieces_with-Weighs g over f x.0 x.1).0 in_others))
-    least.least) in
+    subst (λ (d : ℕ). sets.IsLeastWeight (size_of g) (weighed g n.width over prices) (InVertices n.terminals) d) its.weighs
+    (same_least (size_of g) pieces (weighed g n.width over prices) (InVertices n.terminals) (sets.weight least.set) its.fore its.back least.least) in
     record {
       set = rising;
-      route = record { over = over; is_ground = ground; inside = inside; joined = joined };
+      route = record { over = over; is_ground = ground; inside = its.inside; joined = joined };
       lightest = λ small. lightest;
       light = λ many. absurd (omega (arith, few, many));
     }
 
--- three facts of what is Ok give a fourth
-pub IfOk-by_three : {A E : Type 0} (P Q R S : A → Type 0) (result : Result A E) → IfOk result P → IfOk result Q → IfOk result R → ((x : A) → P x → Q x → R x → S x) → IfOk result S
-IfOk-by_three P Q R S (Ok x) one two three gives = gives x one two three
-IfOk-by_three P Q R S (Err e) one two three gives = tt
+-- a spanning tree by distances stays one where the allowed pieces stand in another order
+same_spanning : (s : Size) (pieces others : List (Piece × ℕ)) (terminals : List Vertex) (links : List Link)
+    → ((x : Piece × ℕ) → Contains pieces x → Contains others x) → ((x : Piece × ℕ) → Contains others x → Contains pieces x)
+    → IsSpanningTree s pieces terminals links → IsSpanningTree s others terminals links
+same_spanning s pieces others terminals links fore back tree = record {
+  count = tree.count;
+  ends = tree.ends;
+  distances = λ i d short. same_least s pieces others (sets.IsEither (get_or links i d).one (get_or links i d).other) (get_or links i d).distance fore back (tree.distances i d short);
+  connects = tree.connects;
+}
+
+-- a tree of a ground's pieces that is no heavier than spanning trees by distances is a step of a net of many terminals
+pub step_from_light : (g : Grid) (n : NetSpec) (over : Ground) (prices : List ℕ) (pieces : List (Piece × ℕ)) (tree : List Piece) (total : ℕ)
+    → AreGroundPieces g over (weight g n.width prices) pieces → few_terminals < length n.terminals → IsGround g n.terminals over
+    → IsLightTree (size_of g) pieces n.terminals tree total
+    → IsStepAt g n prices tree
+step_from_light g n over prices pieces tree total are many ground light =
+    let its = set_over g n over prices pieces light.set tree are light.of light.is_set in
+    record {
+      set = light.rising;
+      route = record { over = over; is_ground = ground; inside = its.inside; joined = light.joins };
+      lightest = λ few. absurd (omega (arith, few, many));
+      light = λ few links spanning. omega (arith, its.weighs, light.weighs, light.light links (same_spanning (size_of g) (weighed g n.width over prices) pieces n.terminals links its.back its.fore spanning));
+    }
 
 -- a step at the prices of a keeper is one at those of its grid, its loads and its setting
 pub step_moved : (g h : Grid) (n : NetSpec) (loads others : List ℕ) (scale : ℕ) (budget : Option ℕ) (tree : List Piece)

@@ -3,7 +3,7 @@ use Rattle.std.proofs.Common.{◌≡◌, ◌≢◌, ℕ, List, Err, Ok, IsErrOf,
 use Rattle.std.specs.Prelude.{Result}
 use Rattle.std.specs.declared.string.String.{String}
 use Rattle.router_cli.specs.declared.refusal.Refusal.{Refusal}
-use Rattle.router_cli.specs.declared.refusal.Refusal.TheVariants.{NoCommand, Unbuilt, Input, Unreachable, Unread, NoMemory}
+use Rattle.router_cli.specs.declared.refusal.Refusal.TheVariants.{NoCommand, Input, Unreachable, Unread, NoMemory}
 use Rattle.router_cli.specs.Lines.{status_of}
 use Rattle.router_cli.specs.Runs.{IsRouteCommand}
 
@@ -14,9 +14,8 @@ one_name words a b (is, named) (also, other) = cc
 -- no refusal has the status of a report, whole or not
 pub status-no_report : (r : Refusal) → (status_of r ≢ 0) × (status_of r ≢ 7)
 status-no_report NoCommand = ((λ h. cc), (λ h. cc))
-status-no_report Unbuilt = ((λ h. cc), (λ h. cc))
 status-no_report (Input fault) = ((λ h. cc), (λ h. cc))
-status-no_report (Unreachable id terminal) = ((λ h. cc), (λ h. cc))
+status-no_report (Unreachable net) = ((λ h. cc), (λ h. cc))
 status-no_report Unread = ((λ h. cc), (λ h. cc))
 status-no_report NoMemory = ((λ h. cc), (λ h. cc))
 
@@ -24,7 +23,3 @@ status-no_report NoMemory = ((λ h. cc), (λ h. cc))
 pub same_refusal : {T : Type 0} (r : Result T Refusal) (e x : Refusal) → IsErrAnd r (λ y. y ≡ e) → IsErrOf r x → e ≡ x
 same_refusal (Ok v) e x made is = cc
 same_refusal (Err y) e x made is = cc
-
--- an answer that fails with a refusal fails with no other
-pub its_refusal : {T : Type 0} (e x : Refusal) → IsErrOf {T = T} (Err e) x → e ≡ x
-its_refusal e x is = cc

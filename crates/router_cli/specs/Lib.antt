@@ -1,5 +1,6 @@
 pub use Rattle.gr_desk.specs.Causes
 pub use Rattle.gr_desk.specs.Told
+pub use Rattle.grid_graph.specs.GroundErrors
 pub use Rattle.grid_graph.specs.Grounds
 pub use Rattle.grid_base.specs.Lists
 pub use Rattle.gr_desk.specs.Pens
@@ -21,4 +22,3 @@ pub mod Lines
 pub mod Traces
 pub mod Measured
 pub mod Steps
-pub mod LeastSets

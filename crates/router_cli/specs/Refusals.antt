@@ -1,5 +1,5 @@
 -- Why a run is refused.
-use Rattle.std.specs.Prelude.{◌≡◌, ◌≤◌, ℕ, List, length, Some, Err}
+use Rattle.std.specs.Prelude.{◌≡◌, ℕ, List, Some, Err}
 use Rattle.gr_desk.specs.Told.{Told}
 use Rattle.grid_graph.specs.declared.design.Design.{Design}
 use Rattle.grid_graph.specs.declared.grid.Grid.{Grid}
@@ -9,35 +9,23 @@ use Rattle.grid_graph.specs.Grounds.{JoinsTerminals, IsFirstCutOff}
 use Rattle.grid_base.specs.Lists.{At}
 use Rattle.ispd_reader.specs.Designs.{contents_of, IsDesignOfText}
 use Rattle.router_cli.specs.declared.refusal.Refusal.{Refusal}
-use Rattle.router_cli.specs.declared.refusal.Refusal.TheVariants.{NoCommand, Unbuilt, Input, Unreachable, Unread, NoMemory}
+use Rattle.router_cli.specs.declared.refusal.Refusal.TheVariants.{NoCommand, Input, Unreachable, Unread, NoMemory}
 use Rattle.router_cli.specs.Traces.{InputFailed}
-
--- no net has more than two terminals: nets with more are not routed yet
-abbrev pub HaveAtMostTwoTerminals : List NetSpec → Type 0
-HaveAtMostTwoTerminals nets = (k : ℕ) (n : NetSpec) → At nets k n → length n.terminals ≤ 2
 
 -- open and choked edges with vias join every net's terminals
 abbrev pub AreReachable : Grid → List NetSpec → Type 0
 AreReachable g nets = (k : ℕ) (n : NetSpec) → At nets k n → JoinsTerminals g WithChoked n.terminals
 
--- the text names a design with a net of more than two terminals
-pub record IsUnbuiltText (text : List ℕ) : Type 0 where
-  pub design : Design
-  pub named : IsDesignOfText text design
-  pub large : ¬ HaveAtMostTwoTerminals design.nets
-
 -- the text names a design of which this net is the first that is cut off, and this its first terminal
 pub record IsCutOffText (text : List ℕ) (id terminal : ℕ) : Type 0 where
   pub design : Design
   pub named : IsDesignOfText text design
-  pub small : HaveAtMostTwoTerminals design.nets
   pub first : IsFirstCutOff design.grid design.nets id terminal
 
 -- the text is refused for this; the other refusals are not for what a text says
 abbrev pub IsRefusedFor : List ℕ → Refusal → Type 0
 IsRefusedFor text (Input fault) = contents_of text ≡ Err fault
-IsRefusedFor text Unbuilt = IsUnbuiltText text
-IsRefusedFor text (Unreachable id terminal) = IsCutOffText text id terminal
+IsRefusedFor text (Unreachable net) = IsCutOffText text net.id net.terminal
 IsRefusedFor text NoCommand = ⊥
 IsRefusedFor text Unread = ⊥
 IsRefusedFor text NoMemory = ⊥

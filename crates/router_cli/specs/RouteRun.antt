@@ -17,7 +17,7 @@ use Rattle.sharing_runs.specs.SharingRuns.{IsSharingRun}
 use Rattle.route_text.specs.RouteText.{routes_text}
 use Rattle.router_cli.specs.declared.refusal.Refusal.{Refusal}
 use Rattle.router_cli.specs.Lines.{measure_lines, status_of}
-use Rattle.router_cli.specs.Refusals.{HaveAtMostTwoTerminals, AreReachable, IsRefusedFor, IsCause}
+use Rattle.router_cli.specs.Refusals.{AreReachable, IsRefusedFor, IsCause}
 use Rattle.router_cli.specs.Traces.{ReportGains, ReportsRefusal, TouchesOnly, InputFailed, OutputFailed}
 
 -- ---- the report of a routing
@@ -95,12 +95,11 @@ pub record IsRouteRun (name : List ℕ) (before after : Told) (status : ℕ) : T
       → IsRefusedFor bytes r
       → ¬ InputFailed before after
       → ((status ≡ status_of r) × ReportsRefusal before after r) ⊎ (status ≡ 8)
-  -- where the text is a design whose nets have at most two terminals and are reachable, and no call of the desk failed,
-  -- only want of memory keeps the run from its report
+  -- where the text is a design whose nets are reachable, and no call of the desk failed, only want of memory keeps the run
+  -- from its report
   pub complete : (bytes : List ℕ) (d : Design)
       → before.files name ≡ Some bytes
       → IsDesignOfText bytes d
-      → HaveAtMostTwoTerminals d.nets
       → AreReachable d.grid d.nets
       → ¬ InputFailed before after
       → ¬ OutputFailed before after

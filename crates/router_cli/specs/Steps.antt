@@ -34,5 +34,5 @@ of_input_error input_errors.NoMemory = NoMemory
 
 -- what an error of the grounds is
 abbrev pub of_ground_error : GroundError → Refusal
-of_ground_error (ground_errors.Unreachable id terminal) = Unreachable id terminal
+of_ground_error (ground_errors.Unreachable net) = Unreachable net
 of_ground_error ground_errors.NoMemory = NoMemory

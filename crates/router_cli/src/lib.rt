@@ -21,7 +21,6 @@
 #![tactic(auto)]
 
 mod laws;
-mod least_set;
 mod lines;
 mod prepared;
 mod refusal;

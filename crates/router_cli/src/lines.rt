@@ -2,17 +2,17 @@
 
 ghost use Rattle.std.specs.Prelude.{◌≡◌};
 ghost use Rattle.gr_desk.specs.declared.port.Port.TheVariants.{Report};
-ghost use Rattle.gr_desk.specs.Pens.{Puts, Ends, pen_told};
-ghost use Rattle.router_cli.specs.Lines.{fields, line, wanted_part, fault_line, lines_of};
+ghost use Rattle.gr_desk.specs.Pens.{Puts, Ends, pen_told, HasSameDesk};
+ghost use Rattle.router_cli.specs.Lines.{fields, line, wanted_part, numbers_of, ending_of, lines_of};
 
 use crate::refusal::Refusal;
 use gr_desk::{Desk, Failed, Pen, Port};
-use ispd_reader::{InputFault, Wanted};
+use ispd_reader::Wanted;
 use itoa::Buffer;
 
 /// Puts numbers, each behind a space.
 fn put_fields<D: Desk>(pen: &mut Pen<'_, D>, numbers: &[u64])
-    ensures same_desk { pen.new.desk.ghost_name ≡ pen.old.desk.ghost_name }
+    ensures same_desk { HasSameDesk pen.old pen.new }
     ensures puts { Puts (pen_told D.told pen.old) (pen_told D.told pen.new) (fields numbers.now) }
 {
     for number in numbers {
@@ -23,7 +23,7 @@ fn put_fields<D: Desk>(pen: &mut Pen<'_, D>, numbers: &[u64])
 
 /// Puts a line: a word, and numbers behind it.
 pub(crate) fn put_line<D: Desk>(pen: &mut Pen<'_, D>, word: &[u8], numbers: &[u64])
-    ensures same_desk { pen.new.desk.ghost_name ≡ pen.old.desk.ghost_name }
+    ensures same_desk { HasSameDesk pen.old pen.new }
     ensures puts { Puts (pen_told D.told pen.old) (pen_told D.told pen.new) (line word.now numbers.now) }
 {
     pen.put(word);
@@ -33,7 +33,7 @@ pub(crate) fn put_line<D: Desk>(pen: &mut Pen<'_, D>, word: &[u8], numbers: &[u6
 
 /// Puts the word that was wanted, where one was.
 fn put_wanted<D: Desk>(pen: &mut Pen<'_, D>, wanted: Option<Wanted>)
-    ensures same_desk { pen.new.desk.ghost_name ≡ pen.old.desk.ghost_name }
+    ensures same_desk { HasSameDesk pen.old pen.new }
     ensures puts { Puts (pen_told D.told pen.old) (pen_told D.told pen.new) (wanted_part wanted) }
 {
     match wanted {
@@ -45,35 +45,54 @@ fn put_wanted<D: Desk>(pen: &mut Pen<'_, D>, wanted: Option<Wanted>)
     }
 }
 
-/// Puts what is said of a text that is no design.
-fn put_fault<D: Desk>(pen: &mut Pen<'_, D>, fault: InputFault)
-    ensures same_desk { pen.new.desk.ghost_name ≡ pen.old.desk.ghost_name }
-    ensures puts { Puts (pen_told D.told pen.old) (pen_told D.told pen.new) (fault_line fault) }
+/// Puts the numbers that stand behind the status of a refusal.
+fn put_numbers<D: Desk>(pen: &mut Pen<'_, D>, refusal: Refusal)
+    ensures same_desk { HasSameDesk pen.old pen.new }
+    ensures puts { Puts (pen_told D.told pen.old) (pen_told D.told pen.new) (fields (numbers_of refusal)) }
 {
-    pen.put(b"refused 3");
-    put_fields(pen, &[u64::from(fault.number())]);
-    put_fields(pen, fault.fields().as_slice());
-    put_wanted(pen, fault.wanted());
-    pen.put(b"\n");
+    match refusal {
+        Refusal::Input(fault) => {
+            put_fields(pen, &[u64::from(fault.number())]);
+            put_fields(pen, fault.fields().as_slice());
+        }
+        Refusal::Unreachable(net) => put_fields(
+            pen,
+            &[
+                u64::from(net.number()),
+                u64::from(net.id),
+                u64::from(net.terminal),
+            ],
+        ),
+        Refusal::NoCommand | Refusal::Unread | Refusal::NoMemory => {}
+    }
+}
+
+/// Puts what stands behind the numbers of a refusal.
+fn put_ending<D: Desk>(pen: &mut Pen<'_, D>, refusal: Refusal)
+    ensures same_desk { HasSameDesk pen.old pen.new }
+    ensures puts { Puts (pen_told D.told pen.old) (pen_told D.told pen.new) (ending_of refusal) }
+{
+    match refusal {
+        Refusal::NoCommand => pen.put(b"\nusage: grouter route\n"),
+        Refusal::Input(fault) => {
+            put_wanted(pen, fault.wanted());
+            pen.put(b"\n");
+        }
+        Refusal::Unreachable(_) | Refusal::Unread | Refusal::NoMemory => {
+            pen.put(b"\n");
+        }
+    }
 }
 
 /// Puts what a refusal says.
 fn put_refusal<D: Desk>(pen: &mut Pen<'_, D>, refusal: Refusal)
-    ensures same_desk { pen.new.desk.ghost_name ≡ pen.old.desk.ghost_name }
+    ensures same_desk { HasSameDesk pen.old pen.new }
     ensures puts { Puts (pen_told D.told pen.old) (pen_told D.told pen.new) (lines_of refusal) }
 {
-    match refusal {
-        Refusal::NoCommand => pen.put(b"refused 2\nusage: grouter route\n"),
-        Refusal::Unbuilt => put_line(pen, b"refused 3 10", &[]),
-        Refusal::Input(fault) => put_fault(pen, fault),
-        Refusal::Unreachable { id, terminal } => put_line(
-            pen,
-            b"refused 5 4",
-            &[u64::from(id), u64::from(terminal)],
-        ),
-        Refusal::Unread => put_line(pen, b"refused 6", &[]),
-        Refusal::NoMemory => put_line(pen, b"refused 8", &[]),
-    }
+    pen.put(b"refused");
+    put_fields(pen, &[u64::from(refusal.status())]);
+    put_numbers(pen, refusal);
+    put_ending(pen, refusal);
 }
 
 /// Writes what a refusal says on the report.

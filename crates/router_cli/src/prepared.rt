@@ -1,14 +1,12 @@
 //! From the words to a routed design.
 
-ghost use Rattle.std.specs.Prelude.{◌≡◌, ◌≢◌, ◌⊎◌, ◌≤◌, ◌↔◌, ℕ, List, length, Some, IfOk, IsErrOf, Err, IsTrue};
+ghost use Rattle.std.specs.Prelude.{◌≡◌, ◌≢◌, ◌⊎◌, ℕ, List, Some, IfOk, IsErrOf, Err};
 ghost use Rattle.gr_desk.specs.declared.port.Port.TheVariants.{In};
 ghost use Rattle.gr_desk.specs.Calls.{IsOrderlyOpen};
-ghost use Rattle.grid_graph.specs.declared.net_spec.NetSpec.{NetSpec};
-ghost use Rattle.grid_base.specs.Lists.{At};
 ghost use Rattle.ispd_reader.specs.Designs.{IsDesignOfText};
 ghost use Rattle.router_cli.specs.declared.refusal.Refusal.{Refusal};
 ghost use Rattle.router_cli.specs.Measured.{IsRouted};
-ghost use Rattle.router_cli.specs.Refusals.{HaveAtMostTwoTerminals, IsRefusedFor, IsCause};
+ghost use Rattle.router_cli.specs.Refusals.{IsRefusedFor, IsCause};
 ghost use Rattle.router_cli.specs.RouteRun.{ExpectsName};
 ghost use Rattle.router_cli.specs.Steps.{OnlyReads};
 
@@ -16,7 +14,6 @@ use crate::refusal::Refusal;
 use crate::routed_design::RoutedDesign;
 use crate::routes::route_nets;
 use gr_desk::{Desk, Port, read_port};
-use grid_graph::{Design, NetSpec};
 use ispd_reader::{MAX_BYTES, read_design};
 use std::alloc::Global;
 use tree_set::measure_of;
@@ -26,7 +23,6 @@ pub fn prepare<D: Desk>(alloc: Global, name: &str, desk: &mut D) -> Result<Route
     ensures routed { IfOk result IsRouted }
     ensures named { IfOk result (λ r. (bytes : List ℕ)
         → (D.told desk.old).files name.now ≡ Some bytes → IsDesignOfText bytes r.design) }
-    ensures small { IfOk result (λ r. HaveAtMostTwoTerminals r.design.nets) }
     ensures refused { (r : Refusal) → IsErrOf result r → IsCause name.now (D.told desk.old) (D.told desk.new) r }
     ensures reads { OnlyReads (ExpectsName name.now (D.told desk.old)) (D.told desk.old) (D.told desk.new) }
     ensures quiet { result ≢ Err Refusal.Unread → (D.told desk.new).in_faults ≡ (D.told desk.old).in_faults }
@@ -52,13 +48,9 @@ fn read_input<D: Desk>(alloc: Global, desk: &mut D, name: &str) -> Result<Vec<u8
 fn route_bytes(alloc: Global, bytes: &[u8]) -> Result<RoutedDesign, Refusal>
     ensures routed { IfOk result IsRouted }
     ensures named { IfOk result (λ r. IsDesignOfText bytes.now r.design) }
-    ensures small { IfOk result (λ r. HaveAtMostTwoTerminals r.design.nets) }
     ensures refused { (r : Refusal) → IsErrOf result r → IsRefusedFor bytes.now r ⊎ (r ≡ Refusal.NoMemory) }
 {
     let design = read_design(alloc, bytes)?;
-    if !have_at_most_two_terminals(design.nets.list()) {
-        return Err(Refusal::Unbuilt);
-    }
     let grounds = design.grounds()?;
     let trees = route_nets(alloc, &design, grounds.as_slice())?;
     let measure = measure_of(alloc, &design, trees.as_slice())?;
@@ -67,16 +59,4 @@ fn route_bytes(alloc: Global, bytes: &[u8]) -> Result<RoutedDesign, Refusal>
         trees,
         measure,
     })
-}
-
-/// Whether no net has more than two terminals.
-fn have_at_most_two_terminals(nets: &[NetSpec]) -> bool
-    ensures { IsTrue result ↔ HaveAtMostTwoTerminals nets.now }
-{
-    for net in nets {
-        if net.terminals.list().len() > 2 {
-            return false;
-        }
-    }
-    true
 }

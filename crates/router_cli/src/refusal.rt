@@ -6,7 +6,7 @@ ghost use Rattle.router_cli.specs.Lines.{status_of};
 ghost use Rattle.router_cli.specs.Steps.{of_port_fault, of_input_error, of_ground_error};
 
 use gr_desk::PortFault;
-use grid_graph::GroundError;
+use grid_graph::{GroundError, UnreachableNet};
 use ispd_reader::{InputError, InputFault};
 use thiserror::Error;
 
@@ -17,16 +17,12 @@ pub enum Refusal {
     /// The words are no command.
     #[error("the words are no command")]
     NoCommand,
-    /// The design has a net with more terminals than can be routed yet.
-    #[error("the design has a net of more than two terminals")]
-    Unbuilt,
     /// The input is no design.
     #[error("{0}")]
     Input(InputFault),
-    /// Neither open nor choked edges join a net's terminals: its id, and the place among its terminals, from 0, of the
-    /// first one that isn't joined to the first.
-    #[error("net {id} is unreachable: its terminal {terminal} is not joined to its first one")]
-    Unreachable { id: u32, terminal: u32 },
+    /// Neither open nor choked edges join a net's terminals.
+    #[error("{0}")]
+    Unreachable(UnreachableNet),
     /// The input could not be opened or read.
     #[error("the input can't be read")]
     Unread,
@@ -42,8 +38,8 @@ impl Refusal {
     {
         match self {
             Refusal::NoCommand => 2,
-            Refusal::Unbuilt | Refusal::Input(_) => 3,
-            Refusal::Unreachable { .. } => 5,
+            Refusal::Input(_) => 3,
+            Refusal::Unreachable(_) => 5,
             Refusal::Unread => 6,
             Refusal::NoMemory => 8,
         }
@@ -78,7 +74,7 @@ impl From<GroundError> for Refusal {
 
     fn from(error: GroundError) -> Refusal {
         match error {
-            GroundError::Unreachable { id, terminal } => Refusal::Unreachable { id, terminal },
+            GroundError::Unreachable(net) => Refusal::Unreachable(net),
             GroundError::NoMemory => Refusal::NoMemory,
         }
     }

@@ -6,24 +6,25 @@ ghost use Rattle.grid_graph.specs.Grounds.{IsGround, AreGrounds};
 ghost use Rattle.grid_graph.specs.Grids.{size_of, IsNetWidth};
 ghost use Rattle.sharing_runs.specs.SharingRuns.{IsSharingRun};
 ghost use Rattle.sharing_runs.specs.NetSteps.{IsStep};
-ghost use Rattle.shortest_paths.specs.LabelWords as words;
+ghost use Rattle.steiner_exact.specs.TreeLabelWords.{AreTreeLabels};
 ghost use Rattle.tree_set.specs.Order.{IsRising};
 ghost use Rattle.tree_set.specs.Routings.{ArePieces, IsRouting};
-ghost use Rattle.router_cli.specs.Refusals.{HaveAtMostTwoTerminals};
 ghost use Rattle.router_cli.specs.RouteRun.{LeavesUnwired};
 
-use crate::least_set::least_set;
 use edge_prices::KeptPrices;
 use grid_base::NoMemory;
 use grid_graph::{Design, Grid, Ground, NetSpec};
 use sharing_runs::add_tree;
-use shortest_paths::Labels;
 use std::alloc::Global;
+use steiner_exact::{TreeLabels, least_tree};
+use steiner_span::spanning_tree;
 use tree_set::Tree;
 
-/// A tree for each net, in file order: of least weight at the prices of the loads of the nets before.
+/// Up to so many terminals a net gets a tree of least weight.
+const FEW_TERMINALS: usize = 5;
+
+/// A tree for each net, in file order, each a step from the loads of the nets before.
 pub fn route_nets(alloc: Global, design: &Design, grounds: &[Ground]) -> Result<Vec<Tree>, NoMemory>
-    requires small { HaveAtMostTwoTerminals design.now.nets }
     requires grounds { AreGrounds design.now.grid design.now.nets grounds.now }
     ensures sets { IfOk result (λ trees. All IsRising trees.items) }
     ensures pieces { IfOk result (λ trees. All (ArePieces (size_of design.now.grid)) trees.items) }
@@ -31,7 +32,7 @@ pub fn route_nets(alloc: Global, design: &Design, grounds: &[Ground]) -> Result<
     ensures unwired { IfOk result (λ trees. LeavesUnwired design.now.nets trees.items) }
     ensures run { IfOk result (λ trees. IsSharingRun design.now 1 None (trees.items ∷ [])) }
 {
-    let mut labels = Labels::new(alloc, design.grid.size(), 1)?;
+    let mut labels = TreeLabels::new(alloc, design.grid.size())?;
     let mut kept = without_loads(alloc, &design.grid)?;
     let mut trees = Vec::new(alloc);
     let nets = design.nets.list();
@@ -50,39 +51,42 @@ fn without_loads<'a>(alloc: Global, grid: &'a Grid) -> Result<KeptPrices<'a>, No
     ensures budget { IfOk result (λ k. budget_of k ≡ None) }
     ensures loads { IfOk result (λ k. (r : ℕ) → slice_index (loads_of k) r ≡ 0) }
 {
-    let entries = 2 * grid.size().vertices() as usize + 1;
+    let size = grid.size();
+    let entries = 2 * size.vertices() as usize + 1;
+    let tile_edges = 2 * (size.cols() * size.rows()) as usize;
     let loads = vec![in alloc; 0; entries]?;
     let prices = vec![in alloc; 0; entries]?;
-    Ok(KeptPrices::new(grid, loads, 1, None, prices))
+    let tile_prices = vec![in alloc; 0; tile_edges]?;
+    Ok(KeptPrices::new(grid, loads, 1, None, prices, tile_prices))
 }
 
-/// A step for a net: a tree of least weight at the prices of the loads so far.
+/// A step for a net at the prices of the loads so far: a tree of least weight, or for many terminals one that is no heavier
+/// than any spanning tree of them by distances.
 fn route_net(
     alloc: Global,
     kept: &mut KeptPrices<'_>,
     net: &NetSpec,
     over: Ground,
-    labels: &mut Labels,
+    labels: &mut TreeLabels,
 ) -> Result<Tree, NoMemory>
     requires scale { scale_of kept.old ≡ 1 }
     requires budget { budget_of kept.old ≡ None }
-    requires labels { words.size_of labels.old ≡ size_of (grid_of kept.old) }
-    requires few { length net.now.terminals ≤ 2 }
+    requires labels { AreTreeLabels (size_of (grid_of kept.old)) labels.old }
     requires width { IsNetWidth (grid_of kept.old) net.now.width }
     requires ground { IsGround (grid_of kept.old) net.now.terminals over }
     ensures step { IfOk result (λ tree. IsStep (grid_of kept.old) net.now (loads_of kept.old) 1 None tree) }
     ensures none { length net.now.terminals < 2 → IfOk result (λ tree. tree ≡ []) }
     ensures loads { loads_of kept.new ≡ loads_of kept.old }
     ensures setting { KeepsSetting kept.old kept.new }
-    ensures labels { words.size_of labels.new ≡ words.size_of labels.old }
+    ensures labels { AreTreeLabels (size_of (grid_of kept.old)) labels.new }
 {
     kept.renew();
     let weighing = kept.weighing(net.width, over);
-    least_set(
-        alloc,
-        &weighing,
-        weighing.floors(),
-        net.terminals.list(),
-        labels,
-    )
+    let terminals = net.terminals.list();
+    if terminals.len() > FEW_TERMINALS {
+        let found = spanning_tree(&weighing, terminals, &mut labels.grid)?;
+        return Ok(found.0);
+    }
+    let found = least_tree(alloc, &weighing, terminals, labels)?;
+    Ok(found.0)
 }

@@ -1,10 +1,10 @@
-use Rattle.std.proofs.Common.{◌≡◌, take}
-use Rattle.gr_desk.specs.Pens.{Puts, pen_told}
+use Rattle.std.proofs.Common.{take}
+use Rattle.gr_desk.specs.Pens.{Puts, pen_told, HasSameDesk}
 use Rattle.router_cli.specs.Lines.{fields}
 use Rattle.router_cli.proofs.lines.put_fields.Given as goal
 
 abbrev pub invariant-loop-number : goal.invariant-loop-number
 invariant-loop-number g l = record {
-  same_desk : l.pen.desk.ghost_name ≡ l.fn.pen.desk.ghost_name;
+  same_desk : HasSameDesk l.fn.pen l.pen;
   puts : Puts (pen_told g.D.Desk.told l.fn.pen) (pen_told g.D.Desk.told l.pen) (fields (take l.number-index l.numbers));
 }

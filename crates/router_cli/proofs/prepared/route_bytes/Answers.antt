@@ -8,36 +8,28 @@ use Rattle.grid_graph.specs.Grounds.{IsFirstGroundError}
 use Rattle.ispd_reader.specs.Designs.{IsDesignOfText}
 use Rattle.tree_set.specs.Routings.{IsRoute}
 use Rattle.router_cli.specs.declared.refusal.Refusal.{Refusal}
-use Rattle.router_cli.specs.declared.refusal.Refusal.TheVariants.{Unbuilt, NoMemory}
-use Rattle.router_cli.specs.Refusals.{HaveAtMostTwoTerminals, IsRefusedFor}
+use Rattle.router_cli.specs.declared.refusal.Refusal.TheVariants.{NoMemory}
+use Rattle.router_cli.specs.Refusals.{IsRefusedFor}
 use Rattle.router_cli.specs.Steps.{of_ground_error}
-use Rattle.router_cli.proofs.Outcomes.{its_refusal, same_refusal}
+use Rattle.router_cli.proofs.Outcomes.{same_refusal}
 use Rattle.router_cli.proofs.prepared.route_bytes.Goals as goal
 
 -- a design without grounds is refused for its first net that is cut off, or for want of memory
-refused_for_grounds : (text : List ℕ) (d : Design) (e : GroundError) → IsDesignOfText text d → HaveAtMostTwoTerminals d.nets → IsFirstGroundError d.grid d.nets e → IsRefusedFor text (of_ground_error e) ⊎ (of_ground_error e ≡ NoMemory)
-refused_for_grounds text d (ground_errors.Unreachable id terminal) named small cause = inl (record { design = d; named = named; small = small; first = cause })
-refused_for_grounds text d ground_errors.NoMemory named small cause = inr refl
+refused_for_grounds : (text : List ℕ) (d : Design) (e : GroundError) → IsDesignOfText text d → IsFirstGroundError d.grid d.nets e → IsRefusedFor text (of_ground_error e) ⊎ (of_ground_error e ≡ NoMemory)
+refused_for_grounds text d (ground_errors.Unreachable net) named cause = inl (record { design = d; named = named; first = cause })
+refused_for_grounds text d ground_errors.NoMemory named cause = inr refl
 
 -- what holds of the refusal that was made holds of the one that was answered
 abbrev IsTextRefusal : List ℕ → Refusal → Type 0
 IsTextRefusal text r = IsRefusedFor text r ⊎ (r ≡ NoMemory)
-
-pub returns-then-not-have_at_most_two_terminals-clause-refused : goal.returns-then-not-have_at_most_two_terminals-clause-refused
-returns-then-not-have_at_most_two_terminals-clause-refused c = λ r is.
-    let d = c.in_ok-design.design in
-    let named : IsDesignOfText c.args.bytes.now d = c.in_ok-design.ensures.design in
-    subst (IsTextRefusal c.args.bytes.now) (its_refusal Unbuilt r is)
-    (inl (record { design = d; named = named; large = λ small. let yes = c.have_at_most_two_terminals.ensures.1 (subst HaveAtMostTwoTerminals (sym c.list.ensures.nets) small) in cc }))
 
 pub returns-in_err-grounds-clause-refused : goal.returns-in_err-grounds-clause-refused
 returns-in_err-grounds-clause-refused c = λ r is.
     let d = c.in_ok-design.design in
     let named : IsDesignOfText c.args.bytes.now d = c.in_ok-design.ensures.design in
     let made : of_ground_error c.in_err-grounds.field-0.0 ≡ r = same_refusal c.from_residual-in_err-grounds.result _ r c.from_residual-in_err-grounds.ensures.1 is in
-    let small : HaveAtMostTwoTerminals d.nets = subst HaveAtMostTwoTerminals c.list.ensures.nets (c.have_at_most_two_terminals.ensures.0 (search rules)) in
     subst (IsTextRefusal c.args.bytes.now) made
-    (refused_for_grounds c.args.bytes.now d c.in_err-grounds.field-0.0 named small c.in_err-grounds.ensures.cause)
+    (refused_for_grounds c.args.bytes.now d c.in_err-grounds.field-0.0 named c.in_err-grounds.ensures.cause)
 
 pub measure_of-requires-clause-one_each : goal.measure_of-requires-clause-one_each
 measure_of-requires-clause-one_each c =

@@ -46,8 +46,8 @@ returns-in-Ok g c =
         | inl zero ↦ absurd {A = IsRefused name before after c.report.result} (not_zero zero)
         | inr seven ↦ absurd {A = IsRefused name before after c.report.result} (not_seven seven)
       ];
-      tested = λ bytes refusal under refused in_ok. inr (absurd (not_refused bytes d refusal (c.in-Ok.ensures.named bytes under) c.in-Ok.ensures.small (routed_reachable d.grid d.nets r.trees.items done.routing) refused));
-      complete = λ bytes design under named small reachable in_ok out_ok. elim c.report.ensures.statuses [
+      tested = λ bytes refusal under refused in_ok. inr (absurd (not_refused bytes d refusal (c.in-Ok.ensures.named bytes under) (routed_reachable d.grid d.nets r.trees.items done.routing) refused));
+      complete = λ bytes design under named reachable in_ok out_ok. elim c.report.ensures.statuses [
         | inl zero ↦ inl zero
         | inr seven ↦ absurd (out_ok (failed-after_reads _ before between after reads (c.report.ensures.cause seven)))
       ];
@@ -82,8 +82,8 @@ returns-in-Err g c =
             inl (status ∙ ap status_of same, subst (ReportsRefusal before after) same says)
         | inr memory ↦ inr (status ∙ ap status_of memory)
       ];
-      complete = λ bytes d under named small reachable in_ok out_ok. elim (text_or_memory name bytes before after r cause under in_ok) [
-        | inl for_this ↦ absurd (not_refused bytes d r named small reachable for_this)
+      complete = λ bytes d under named reachable in_ok out_ok. elim (text_or_memory name bytes before after r cause under in_ok) [
+        | inl for_this ↦ absurd (not_refused bytes d r named reachable for_this)
         | inr memory ↦ inr (status ∙ ap status_of memory)
       ];
       touches = touches-in _ before between after (take part.0 (lines_of r)) reads part.1;

@@ -23,6 +23,8 @@ use Rattle.sharing_runs.proofs.Between.{load_list-none, load_list-push}
 use Rattle.sharing_runs.proofs.Turns.{AreStepsInTurn-none, AreStepsInTurn-push, run_of_steps}
 use Rattle.router_cli.specs.RouteRun.{IsEmptyIfAlone}
 use Rattle.router_cli.proofs.Routings.{HoldsSoFar-push}
+use Rattle.grid_base.specs.declared.size.Size.{Size}
+use Rattle.steiner_exact.specs.TreeLabelWords.{AreTreeLabels}
 use Rattle.router_cli.proofs.routes.route_nets.Goals as goal
 
 -- a net that is read from the list stands among the nets
@@ -46,7 +48,7 @@ loop-k-init c =
     subst (λ (l : List ℕ). IsLoadList d.grid l) loads (subst (λ (g : Grid). IsLoadList g (loads_of kept)) c.in_ok-kept.ensures.grid kept.kept.loaded) in
     rw c.new-trees.ensures.items (record {
       long = refl;
-      labelled = c.in_ok-labels.ensures.size ∙ c.size.ensures;
+      labelled = subst (λ (s : Size). AreTreeLabels s c.in_ok-labels.labels) c.size.ensures c.in_ok-labels.ensures;
       grid = c.in_ok-kept.ensures.grid;
       scale = c.in_ok-kept.ensures.scale;
       budget = c.in_ok-kept.ensures.budget;
@@ -62,12 +64,6 @@ pub bounds-grounds-k : goal.bounds-grounds-k
 bounds-grounds-k c =
     let d = c.args.design.now in
     omega (arith, ap length c.list-nets.ensures.nets, AllZip-long (λ m found. IsGround d.grid m.terminals found) d.nets c.args.grounds.now c.requires.grounds)
-
-pub route_net-requires-clause-few : goal.route_net-requires-clause-few
-route_net-requires-clause-few c =
-    let d = c.args.design.now in
-    let net = read_net d.nets c.list-nets.result.now c.loop-k.k c.index-nets-k.result c.list-nets.ensures.nets c.loop-k-test.true in
-    c.requires.small c.loop-k.k c.index-nets-k.result (subst (λ (n : NetSpec). At d.nets c.loop-k.k n) (sym c.index-nets-k.is) net.1)
 
 pub route_net-requires-clause-width : goal.route_net-requires-clause-width
 route_net-requires-clause-width c =
@@ -89,6 +85,12 @@ add_tree-requires-clause-width c =
     let d = c.args.design.now in
     let net = read_net d.nets c.list-nets.result.now c.loop-k.k c.index-nets-k-in-loop-k.result c.list-nets.ensures.nets c.loop-k-test.true in
     (d.limits.net c.loop-k.k _ net.1).width
+
+pub add_tree-requires-clause-room : goal.add_tree-requires-clause-room
+add_tree-requires-clause-room c = λ r.
+    let d = c.args.design.now in
+    let nets = ap (λ (ns : List NetSpec). length ns) c.list-nets.ensures.nets in
+    omega (arith, c.loop-k-test.true, nets, d.limits.count, c.loop-k.invariant.small r, ap (λ (l : List ℕ). slice_index l r) c.in_ok-tree.ensures.loads)
 
 -- a step from the loads of a keeper is one of the grid from the load of the nets so far
 step_here : (g h : Grid) (n : NetSpec) (loads others : List ℕ) (tree : List Piece) → g ≡ h → loads ≡ others → IsStep g n loads 1 None tree → IsStep h n others 1 None tree
@@ -132,7 +134,7 @@ loop-k-preserved c =
     let bare : IsEmptyIfAlone n tree = c.in_ok-tree.ensures.none in
     rw c.in_ok-push.ensures.items (record {
       long = omega (arith, length-append trees (tree ∷ []), inv.long);
-      labelled = c.in_ok-tree.ensures.labels ∙ inv.labelled;
+      labelled = subst (λ (g : Grid). AreTreeLabels (size_of g) c.route_net.new.labels) inv.grid c.in_ok-tree.ensures.labels;
       grid = grid;
       scale = c.add_tree.ensures.setting.scale ∙ c.in_ok-tree.ensures.setting.scale ∙ inv.scale;
       budget = c.add_tree.ensures.setting.budget ∙ c.in_ok-tree.ensures.setting.budget ∙ inv.budget;

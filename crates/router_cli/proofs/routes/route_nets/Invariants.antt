@@ -1,7 +1,7 @@
 use Rattle.std.proofs.Common.{◌≡◌, ◌≤◌, ◌*◌, ◌^◌, ℕ, None, length, slice_index, All}
 use Rattle.grid_graph.specs.Grids.{size_of}
 use Rattle.edge_prices.specs.KeptLists.{grid_of, scale_of, budget_of, loads_of}
-use Rattle.shortest_paths.specs.LabelWords as labels
+use Rattle.steiner_exact.specs.TreeLabelWords.{AreTreeLabels}
 use Rattle.tree_set.specs.Order.{IsRising}
 use Rattle.tree_set.specs.Routings.{ArePieces}
 use Rattle.sharing_runs.specs.Loads.{load_list}
@@ -14,7 +14,7 @@ use Rattle.router_cli.proofs.routes.route_nets.Given as goal
 abbrev pub invariant-loop-k : goal.invariant-loop-k
 invariant-loop-k l = record {
   long : length l.trees.items ≡ l.k;
-  labelled : labels.size_of l.labels ≡ size_of l.design.grid;
+  labelled : AreTreeLabels (size_of l.design.grid) l.labels;
   grid : grid_of l.kept ≡ l.design.grid;
   scale : scale_of l.kept ≡ 1;
   budget : budget_of l.kept ≡ None;
