@@ -63,6 +63,10 @@ pub const SHARED_ROW: &[u8] =
 pub const STAR: &[u8] =
     b"grid 5 5 2\nvertical capacity 8 8\nhorizontal capacity 8 8\nminimum width 1 1\nminimum spacing 1 1\nvia spacing 1 1\n0 0 10 10\nnum net 1\na 0 5 1\n25 5 1\n25 45 1\n5 25 1\n45 25 1\n25 25 2\n0\n";
 
+/// Six tiles in a row, and a net with a pin in each.
+pub const SIX_IN_A_ROW: &[u8] =
+    b"grid 6 1 1\nvertical capacity 0\nhorizontal capacity 4\nminimum width 1\nminimum spacing 1\nvia spacing 1\n0 0 10 10\nnum net 1\na 0 6 1\n5 5 1\n15 5 1\n25 5 1\n35 5 1\n45 5 1\n55 5 1\n0\n";
+
 /// Two rows, columns and layers without nets, of 131 bytes, up to the adjustments.
 pub const BLOCK: &[u8] =
     b"grid 2 2 2 vertical capacity 1 2 horizontal capacity 3 4 minimum width 1 1 minimum spacing 1 1 via spacing 1 1 0 0 10 10 num net 0 ";
@@ -101,6 +105,17 @@ pub fn vast(alloc: Global, nets: u32) -> Result<Vec<u8>, AllocError> {
     for k in 0..nets {
         let (x, y) = (k % 100 * 10 + 5, k / 100 % 100 * 10 + 5);
         text.extend_from_slice(format!(in alloc; "\nn {k} 2 1 5 5 1 {x} {y} 2")?.as_bytes())?;
+    }
+    Ok(text)
+}
+
+/// The vast grid with one net of this many pins, tile by tile on the upper layer.
+pub fn crowd(alloc: Global, pins: u32) -> Result<Vec<u8>, AllocError> {
+    let mut text = Vec::from_slice(alloc, VAST)?;
+    text.extend_from_slice(format!(in alloc; "1\nn 0 {pins} 1")?.as_bytes())?;
+    for k in 0..pins {
+        let (x, y) = (k % 100 * 10 + 5, k / 100 % 100 * 10 + 5);
+        text.extend_from_slice(format!(in alloc; "\n{x} {y} 2")?.as_bytes())?;
     }
     Ok(text)
 }

@@ -4,7 +4,7 @@ ghost use Rattle.std.specs.Prelude.{◌≡◌};
 
 use crate::designs::{BLOCK, BRIDGE, CRLF, LAYERED, STAR, WIDE_WIRES, design, edited};
 use grid_base::{Edge, Piece, Size, Vertex, Via};
-use grid_graph::{Design, Grid, Ground, GroundError, Kind};
+use grid_graph::{Design, Grid, Ground, GroundError, Kind, UnreachableNet};
 use ispd_reader::read_design;
 use std::test::Fail;
 
@@ -186,7 +186,7 @@ fn ground_of(design: &Design) -> Option<Result<Ground, GroundError>> {
 /// A way over the next layer keeps a net open.
 #[test]
 fn a_net_is_open_or_forced_or_unreachable(rt: HostRuntime) -> Result<(), Fail> {
-    let unreachable = GroundError::Unreachable { id: 0, terminal: 1 };
+    let unreachable = GroundError::Unreachable(UnreachableNet { id: 0, terminal: 1 });
     let cases: [(usize, usize, &[u8], Result<Ground, GroundError>); 5] = [
         (0, 0, b"", Ok(Ground::Open)),
         (142, 144, b"1\n0 0 1 1 0 1 0\n", Ok(Ground::WithChoked)),

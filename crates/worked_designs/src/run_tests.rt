@@ -1,8 +1,8 @@
 //! Whole runs: the worked examples, and that memory suffices for them.
 
 use crate::designs::{
-    CHOKED_SQUARE, CRLF, FORCED, LAYERED, ROUND, ROW, SHARED_LAYERS, SHARED_ROW, STACK, WALLED,
-    WIDE_WIRES, edited, vast,
+    CHOKED_SQUARE, CRLF, FORCED, LAYERED, ROUND, ROW, SHARED_LAYERS, SHARED_ROW, SIX_IN_A_ROW,
+    STACK, STAR, WALLED, WIDE_WIRES, crowd, edited, vast,
 };
 use gr_desk::{CallKind, Desk, Fail as FailedCall, MemDesk, Port};
 use router_cli::run;
@@ -56,7 +56,7 @@ type Routed = (&'static [u8], usize, usize, &'static [u8], u8, &'static str);
 /// eighth and one step of the price, from 12446 to 12758. That is more than two vias, and so the second net goes up, and
 /// the third, which finds both layers alike, does not. In the shared row they have a load of 8 of 2, which is 32 steps: two
 /// edges at 12758 weigh more than four at 5777, and so the second net goes round, and the third does not.
-const ROUTED: [Routed; 39] = [
+const ROUTED: [Routed; 41] = [
     (ROW, 0, 0, b"", 0, ROW_REPORT),
     (ROW, 29, 30, b"4", 0, ROW_REPORT),
     (ROW, 29, 52, b"4\nhorizontal capacity 1", 0, OVER_TWO),
@@ -178,8 +178,24 @@ const ROUTED: [Routed; 39] = [
         125,
         144,
         b"3 1\n5 5 1\n15 5 1\n25 5 1\n0\n",
-        3,
-        "refused 3 10\n",
+        0,
+        ROW_REPORT,
+    ),
+    (
+        ROW,
+        0,
+        144,
+        STAR,
+        0,
+        "a 0\n(5,25,1)-(45,25,1)\n(25,5,1)-(25,45,1)\n(25,25,1)-(25,25,2)\n!\noverflow 0\nwirelength 9\n",
+    ),
+    (
+        ROW,
+        0,
+        144,
+        SIX_IN_A_ROW,
+        0,
+        "a 0\n(5,5,1)-(55,5,1)\n!\noverflow 0\nwirelength 5\n",
     ),
     (
         ROW,
@@ -218,8 +234,8 @@ const ROUTED: [Routed; 39] = [
         119,
         119,
         b"1\na 0 3 1\n5 5 1\n15 5 1\n25 5 1\n",
-        3,
-        "refused 3 10\n",
+        5,
+        "refused 5 4 0 1\n",
     ),
     (ROW, 0, 144, b"", 3, "refused 3 11 0 grid\n"),
 ];
@@ -314,7 +330,7 @@ const LAYERED_REPORTS: [&str; 3] = [
 ];
 
 /// No edge leads along y on the first layer of the layered grid, so the net takes two edges along x there, two along y on
-/// the second layer, and a via up and one down. A thousand nets are routed too.
+/// the second layer, and a via up and one down. A thousand nets are routed too, and a net of two thousand pins.
 #[test]
 fn a_net_takes_the_layers_that_it_needs(rt: HostRuntime) -> Result<(), Fail> {
     let alloc = rt.alloc();
@@ -333,6 +349,9 @@ fn a_net_takes_the_layers_that_it_needs(rt: HostRuntime) -> Result<(), Fail> {
         desk.written(Port::Report)
             .starts_with(b"n 0\n(5,5,1)-(5,5,2)\n!\nn 1\n")
     );
+    let (status, desk) = after_run(alloc, ROUTE, crowd(alloc, 2000)?, Vec::new(alloc))?;
+    assert_eq!(rt; status, 0);
+    assert!(rt; desk.written(Port::Report).starts_with(b"n 0\n("));
     Ok(())
 }
 

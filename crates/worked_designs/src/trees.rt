@@ -1,11 +1,10 @@
 //! Sets of pieces for the nets of a design.
 
 ghost use Rattle.std.specs.Prelude.{◌↔◌, All, IsTrue};
-ghost use Rattle.grid_base.specs.Numbers.{IsVertex};
 ghost use Rattle.tree_set.specs.Routings.{ArePieces};
 
 use gr_desk::{Fail as FailedCall, MemDesk, Port};
-use grid_base::{Piece, Size, Vertex};
+use grid_base::{Piece, Size};
 use grid_graph::Design;
 use route_text::write_routes;
 use std::alloc::{AllocError, Global};
@@ -33,12 +32,6 @@ pub fn are_pieces(size: Size, tree: &Tree) -> bool
     ensures { IsTrue result ↔ ArePieces size tree.now }
 {
     tree.pieces().iter().all(|p| size.is_piece(*p))
-}
-
-pub fn are_vertices(size: Size, terminals: &[Vertex]) -> bool
-    ensures { IsTrue result ↔ All (λ t. IsVertex size t.0) terminals.now }
-{
-    terminals.iter().all(|t| t.0 < size.vertices())
 }
 
 fn all_are_pieces(size: Size, trees: &[Tree]) -> bool

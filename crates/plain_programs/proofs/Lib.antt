@@ -1,0 +1,11 @@
+pub mod Automaton
+pub mod LeastOver
+pub mod LeastSets
+pub mod ListedPieces
+pub mod Lowering
+pub mod Marks
+pub mod Repeats
+pub mod RootLabels
+pub mod Steps
+pub mod WordNumbers
+pub mod Words

@@ -1,0 +1,141 @@
+//! Least trees on small grids, beside a full table and, where pieces are few, all sets of them.
+
+ghost use Rattle.std.specs.Prelude.{◌≡◌, ◌≤◌, All, IfOk, IsSome, length};
+ghost use Rattle.grid_base.specs.Numbers.{IsVertex};
+ghost use Rattle.grid_base.specs.Walks.{Joins, InVertices};
+ghost use Rattle.grid_graph.specs.Weighed.{IsAllowed};
+ghost use Rattle.steiner_exact.specs.TreeLabelWords.{AreTreeLabels};
+
+use crate::distance_tests::{drawn, mixed};
+use crate::known::{are_pieces, are_vertices};
+use crate::listed::Listed;
+use crate::plain_least_weight;
+use grid_base::{NoMemory, Size, Vertex};
+use grid_graph::Weights;
+use shortest_paths::Labels;
+use std::alloc::Global;
+use std::test::Fail;
+use steiner_exact::{TreeLabels, least_tree};
+use tree_set::{Tree, joins};
+
+/// All sets of the pieces are tried where they are no more than these.
+const FEW: usize = 14;
+
+/// Drawn terminals, of which two may be the same vertex.
+pub(crate) fn drawn_terminals(
+    alloc: Global,
+    size: Size,
+    seed: u32,
+    count: u32,
+) -> Result<Vec<Vertex>, NoMemory> {
+    let mut terminals = Vec::new(alloc);
+    for i in 0..count {
+        terminals.push(Vertex(mixed(seed, i) % size.vertices()))?;
+    }
+    Ok(terminals)
+}
+
+/// The number of the full table for all terminals but the last, at the last.
+fn least_by_table(
+    alloc: Global,
+    weights: &Listed,
+    size: Size,
+    terminals: &[Vertex],
+) -> Result<Option<u64>, NoMemory>
+    requires size { weights.now.size ≡ size }
+    requires terminals { All (λ v. IsVertex size v.0) terminals.now }
+    requires two { 2 ≤ length terminals.now }
+    requires few { length terminals.now ≤ 5 }
+    ensures { IfOk result (λ least. IsSome least → Joins size (IsAllowed weights.now.pieces.items) (InVertices terminals.now)) }
+{
+    let mut labels = Labels::new(alloc, size, 15)?;
+    labels.subsets(weights, terminals);
+    let others = terminals.len() - 1;
+    Ok(labels.label((1 << others as u32) - 1, terminals[others]))
+}
+
+/// Whether the tree is a set of allowed pieces of this weight that joins the terminals.
+pub(crate) fn is_tree(
+    alloc: Global,
+    weights: &Listed,
+    size: Size,
+    terminals: &[Vertex],
+    tree: &Tree,
+    weight: u64,
+) -> Result<bool, Fail>
+    requires terminals { All (λ v. IsVertex size v.0) terminals.now }
+{
+    if !are_pieces(size, tree.pieces()) {
+        return Ok(false);
+    }
+    let mut total: u64 = 0;
+    for p in tree.pieces() {
+        if !weights.allows(*p) {
+            return Ok(false);
+        }
+        total = total.wrapping_add(weights.weight(*p));
+    }
+    Ok(total == weight && joins(alloc, size, tree, terminals)?)
+}
+
+/// Whether a least tree weighs what the table says, and what the lightest of all sets weighs.
+fn agree(
+    alloc: Global,
+    weights: &Listed,
+    size: Size,
+    terminals: &[Vertex],
+    labels: &mut TreeLabels,
+) -> Result<bool, Fail>
+    requires size { weights.now.size ≡ size }
+    requires labels { AreTreeLabels size labels.old }
+    ensures labels { AreTreeLabels size labels.new }
+{
+    if terminals.len() < 2 || terminals.len() > 5 || !are_vertices(size, terminals) {
+        return Err(Fail::new("no terminals"));
+    }
+    if !weights.is_positive() {
+        return Err(Fail::new("a piece weighs nothing"));
+    }
+    let expected = least_by_table(alloc, weights, size, terminals)?;
+    let pieces = weights.pieces();
+    if pieces.len() <= FEW && plain_least_weight(alloc, size, pieces, terminals)? != expected {
+        return Ok(false);
+    }
+    if expected.is_none() {
+        return Ok(true);
+    }
+    let (tree, weight) = least_tree(alloc, weights, terminals, labels)?;
+    Ok(expected == Some(weight) && is_tree(alloc, weights, size, terminals, &tree, weight)?)
+}
+
+/// Columns, rows and layers. All sets of the pieces of the first five are tried.
+const SIZES: [(u32, u32, u32); 10] = [
+    (3, 2, 1),
+    (3, 3, 1),
+    (2, 2, 2),
+    (2, 1, 3),
+    (1, 1, 5),
+    (3, 2, 2),
+    (6, 5, 1),
+    (4, 3, 3),
+    (5, 4, 2),
+    (9, 1, 2),
+];
+
+#[test]
+fn least_trees_weigh_what_plain_programs_find(rt: HostRuntime) -> Result<(), Fail> {
+    for (cols, rows, layers) in SIZES {
+        let size = Size::new(cols, rows, layers).ok_or("size")?;
+        let mut labels = TreeLabels::new(rt.alloc(), size)?;
+        for seed in 0..16 {
+            let weights = drawn(rt.alloc(), size, seed, 1)?.ok_or("pieces")?;
+            let terminals = drawn_terminals(rt.alloc(), size, seed + 99, 2 + seed % 4)?;
+            let at = terminals.as_slice();
+            assert!(rt;
+                agree(rt.alloc(), &weights, size, at, &mut labels)?,
+                "seed {seed} of {cols} {rows} {layers}"
+            );
+        }
+    }
+    Ok(())
+}
