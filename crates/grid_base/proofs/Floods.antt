@@ -1,5 +1,5 @@
 -- How a flood goes on.
-use Rattle.std.proofs.Common.{◌≡◌, ℕ, suc, ◌+◌, ◌<◌, ◌≤◌, ◌⊎◌, Bool, true, false, List, [], ◌∷◌, ◌++◌, length, map, eqb, Option, None, Some, IsSome, refl, sym, ◌∙◌, ap, subst, inl, inr, ⊎_elim, arith}
+use Rattle.std.proofs.Common.{◌≡◌, ℕ, suc, ◌+◌, ◌<◌, ◌≤◌, ◌⊎◌, Bool, true, false, List, [], ◌∷◌, ◌++◌, length, eqb, Option, None, Some, IsSome, refl, sym, ◌∙◌, ap, subst, inl, inr, ⊎_elim, arith}
 use Rattle.std.specs.List.{list_any, IsDistinct}
 use Rattle.std.proofs.lemmas.Bool.{cases_eq, ne_eqb}
 use Rattle.std.proofs.lemmas.List.{length-map, length_push, map-append}
@@ -18,18 +18,9 @@ use Rattle.grid_base.specs.Numbers.{vertices, IsVertex}
 use Rattle.grid_base.specs.Walks.{AreLinked, InVertices}
 use Rattle.grid_base.proofs.Lists.{At-push_cases, At-from_member, member_from_place}
 use Rattle.grid_base.proofs.Neighbours.{connects_step}
+use Rattle.grid_base.proofs.Options.{some_is, none_or_some, some_value}
+use Rattle.grid_base.proofs.SameNumbers.{numbers}
 use Rattle.grid_base.proofs.Walks.{WalkBetween-refl, WalkBetween-trans, WalkBetween-link, walk_vertices, closed_under_walks}
-
-pub some_is : (o : Option ℕ) (m : ℕ) → o ≡ Some m → IsSome o
-some_is o m is = rw is refl
-
-pub none_or_some : (o : Option ℕ) → (o ≡ None) ⊎ ((m : ℕ) × (o ≡ Some m))
-none_or_some None = inl refl
-none_or_some (Some m) = inr (m, refl)
-
-pub some_value : (o : Option ℕ) → IsSome o → (m : ℕ) × (o ≡ Some m)
-some_value None is = cc
-some_value (Some m) is = (m, refl)
 
 -- what had a mark keeps it when a vertex is marked
 pub kept_by_mark : (before after : ℕ → Option ℕ) (mark v : ℕ) (new : Bool) → IsMarked before after mark v new → (w m : ℕ) → before w ≡ Some m → after w ≡ Some m
@@ -59,9 +50,6 @@ same_by_mark before after mark v marked w =
 member_cases : (met : List Vertex) (to : Vertex) (v : ℕ) → InVertices (met ++ to ∷ []) v → InVertices met v ⊎ (v ≡ to.0)
 member_cases met to v member =
     ⊎_elim (λ old. inl old) (λ last. inr (sym (ap (λ (x : Vertex). x.0) last))) (Contains-push_cases met to (record { 0 = v }) member)
-
-abbrev numbers : List Vertex → List ℕ
-numbers met = map (λ v. v.0) met
 
 -- a flood begins with its start
 pub IsFlooding-first : (s : Size) (F : Piece → Type 0) (before now : ℕ → Option ℕ) (mark : ℕ) (start : Vertex) → IsVertex s start.0 → IsMarked before now mark start.0 true → IsFlooding s F before now mark start.0 (start ∷ []) 0

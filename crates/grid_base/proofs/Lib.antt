@@ -3,9 +3,12 @@ pub mod Floods
 pub mod Joined
 pub mod Lists
 pub mod Neighbours
+pub mod NoRepeats
+pub mod Options
 pub mod Pieces
 pub mod Places
 pub mod Runs
+pub mod SameNumbers
 pub mod Walks
 pub mod Lines
 pub mod Chosen

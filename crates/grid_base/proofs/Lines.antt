@@ -1,32 +1,26 @@
 -- Edges along an axis one behind the other, and the pieces between two places in line.
-use Rattle.std.proofs.Common.{◌≡◌, ℕ, zero, suc, ◌+◌, ◌-◌, ◌*◌, ◌%◌, ◌<◌, ◌≤◌, ◌==◌, true, false, refl, sym, ◌∙◌, ap, subst, inl, inr, arith, eq-eqb}
+use Rattle.std.proofs.Common.{◌≡◌, ℕ, zero, suc, ◌+◌, ◌-◌, ◌*◌, ◌<◌, ◌≤◌, true, refl, sym, ◌∙◌, ap, subst, inl, inr, arith}
 use Rattle.grid_base.specs.declared.axis.Axis.{Axis}
 use Rattle.grid_base.specs.declared.axis.Axis.TheVariants.{X, Y}
 use Rattle.grid_base.specs.declared.piece.Piece.{Piece}
 use Rattle.grid_base.specs.declared.place.Place.{Place}
 use Rattle.grid_base.specs.declared.size.Size.{Size}
-use Rattle.grid_base.specs.Lines.{is_along, edge_from, step, AreInLine, IsBetween}
+use Rattle.grid_base.specs.Lines.{is_along, edge_from, stride, AreInLine, IsBetween}
 use Rattle.grid_base.specs.Numbers.{IsPiece, IsVertex, vertex_number, cols, place_at, col_of, row_of, layer_of, start_of, end_of, end_place, to_next_col, to_next_row, to_next_layer}
 use Rattle.grid_base.proofs.Places.{vertex_number-place}
-use Rattle.grid_base.proofs.Pieces.{by_kind, place_at-end_of, end_of-vertex, end_of-to_next_col, end_of-to_next_row, end_place-to_next_col, end_place-to_next_row, start_of-to_next_col, start_of-to_next_row}
+use Rattle.grid_base.proofs.Pieces.{is_even, is_odd, by_kind, place_at-end_of, end_of-vertex, end_of-to_next_col, end_of-to_next_row, end_place-to_next_col, end_place-to_next_row, start_of-to_next_col, start_of-to_next_row}
 
-pub step-positive : (s : Size) (axis : Axis) → 1 ≤ step axis s
-step-positive s X = omega arith
-step-positive s Y = s.within.has_col
+pub stride-positive : (s : Size) (axis : Axis) → 1 ≤ stride axis s
+stride-positive s X = omega arith
+stride-positive s Y = s.within.has_col
 
 pub start_of-edge_from : (axis : Axis) (v : ℕ) → start_of (edge_from axis v) ≡ v
 start_of-edge_from X v = start_of-to_next_col v
 start_of-edge_from Y v = start_of-to_next_row v
 
-pub end_of-edge_from : (s : Size) (axis : Axis) (v : ℕ) → end_of s (edge_from axis v) ≡ v + step axis s
+pub end_of-edge_from : (s : Size) (axis : Axis) (v : ℕ) → end_of s (edge_from axis v) ≡ v + stride axis s
 end_of-edge_from s X v = end_of-to_next_col s v
 end_of-edge_from s Y v = end_of-to_next_row s v
-
-is_even : (v : ℕ) → (2 * v % 2 == 0) ≡ true
-is_even v = eq-eqb _ _ (omega arith)
-
-is_odd : (v : ℕ) → ((2 * v + 1) % 2 == 0) ≡ false
-is_odd v = grind arith
 
 pub is_along-edge_from : (axis : Axis) (v : ℕ) → is_along axis (edge_from axis v) ≡ true
 is_along-edge_from X v = rw (is_even v) refl
@@ -45,7 +39,7 @@ edge_from-start_of Y =
     (λ v along. sym (ap to_next_row (start_of-to_next_row v)))
     (λ v along. cc)
 
-pub end_of-along : (s : Size) (axis : Axis) (p : Piece) → is_along axis p ≡ true → end_of s p ≡ start_of p + step axis s
+pub end_of-along : (s : Size) (axis : Axis) (p : Piece) → is_along axis p ≡ true → end_of s p ≡ start_of p + stride axis s
 end_of-along s axis p along = ap (end_of s) (edge_from-start_of axis p along) ∙ end_of-edge_from s axis (start_of p)
 
 -- the place this many steps further along an axis
@@ -88,23 +82,23 @@ one_step_on v i k = omega arith
 
 -- this many edges along an axis, one behind the other from a vertex on, are pieces of the grid
 pub record IsLine (s : Size) (axis : Axis) (v long : ℕ) : Type 0 where
-  pub each : (i : ℕ) → i < long → IsPiece s (edge_from axis (v + i * step axis s))
+  pub each : (i : ℕ) → i < long → IsPiece s (edge_from axis (v + i * stride axis s))
 
 -- where a line ends
-pub place_on_line : (s : Size) (axis : Axis) (v k : ℕ) → IsLine s axis v k → place_at s (v + k * step axis s) ≡ moved axis k (place_at s v)
-place_on_line s axis v zero line = ap (place_at s) (no_steps v (step axis s)) ∙ sym (moved-none axis (place_at s v))
+pub place_on_line : (s : Size) (axis : Axis) (v k : ℕ) → IsLine s axis v k → place_at s (v + k * stride axis s) ≡ moved axis k (place_at s v)
+place_on_line s axis v zero line = ap (place_at s) (no_steps v (stride axis s)) ∙ sym (moved-none axis (place_at s v))
 place_on_line s axis v (suc k) line =
-    let u = v + k * step axis s in
+    let u = v + k * stride axis s in
     let before : place_at s u ≡ moved axis k (place_at s v) = place_on_line s axis v k (record { each = λ i below. line.each i (omega arith) }) in
-    ap (place_at s) (sym (one_step_on v k (step axis s)) ∙ sym (end_of-edge_from s axis u))
+    ap (place_at s) (sym (one_step_on v k (stride axis s)) ∙ sym (end_of-edge_from s axis u))
     ∙ place_at-end_of s (edge_from axis u) (line.each k (omega arith)) ∙ end_place-edge_from s axis u ∙ ap (moved axis 1) before ∙ moved-more axis k (place_at s v)
 
 -- it is a vertex
-pub vertex_on_line : (s : Size) (axis : Axis) (v k : ℕ) → IsVertex s v → IsLine s axis v k → IsVertex s (v + k * step axis s)
-vertex_on_line s axis v zero vertex line = subst (IsVertex s) (sym (no_steps v (step axis s))) vertex
+pub vertex_on_line : (s : Size) (axis : Axis) (v k : ℕ) → IsVertex s v → IsLine s axis v k → IsVertex s (v + k * stride axis s)
+vertex_on_line s axis v zero vertex line = subst (IsVertex s) (sym (no_steps v (stride axis s))) vertex
 vertex_on_line s axis v (suc k) vertex line =
-    let u = v + k * step axis s in
-    subst (IsVertex s) (end_of-edge_from s axis u ∙ one_step_on v k (step axis s)) (end_of-vertex s (edge_from axis u) (line.each k (omega arith)))
+    let u = v + k * stride axis s in
+    subst (IsVertex s) (end_of-edge_from s axis u ∙ one_step_on v k (stride axis s)) (end_of-vertex s (edge_from axis u) (line.each k (omega arith)))
 
 -- the piece goes from a place between two others to a place between them
 pub record GoesBetween (s : Size) (from to : Place) (piece : Piece) : Type 0 where
@@ -113,9 +107,9 @@ pub record GoesBetween (s : Size) (from to : Place) (piece : Piece) : Type 0 whe
   pub ends : IsBetween from to (end_place s piece)
 
 -- each edge of a line goes between its ends
-pub edge_on_line : (s : Size) (axis : Axis) (v long i : ℕ) → IsLine s axis v long → i < long → GoesBetween s (place_at s v) (moved axis long (place_at s v)) (edge_from axis (v + i * step axis s))
+pub edge_on_line : (s : Size) (axis : Axis) (v long i : ℕ) → IsLine s axis v long → i < long → GoesBetween s (place_at s v) (moved axis long (place_at s v)) (edge_from axis (v + i * stride axis s))
 edge_on_line s axis v long i line below =
-    let u = v + i * step axis s in
+    let u = v + i * stride axis s in
     let p = place_at s v in
     let at : place_at s u ≡ moved axis i p = place_on_line s axis v i (record { each = λ j earlier. line.each j (omega (arith, earlier, below)) }) in
     let near : place_at s (start_of (edge_from axis u)) ≡ moved axis i p = ap (place_at s) (start_of-edge_from axis u) ∙ at in
@@ -145,7 +139,7 @@ number_up s col row layer i = omega arith
 
 -- the edge along an axis this many steps from a vertex
 abbrev pub IsOnLine : Size → Axis → ℕ → ℕ → Piece → Type 0
-IsOnLine s axis v long q = (i : ℕ) × (i < long) × (q ≡ edge_from axis (v + i * step axis s))
+IsOnLine s axis v long q = (i : ℕ) × (i < long) × (q ≡ edge_from axis (v + i * stride axis s))
 
 -- no other piece goes between two places in line along an axis
 pub only_on_line : (s : Size) (axis : Axis) (v long : ℕ) (q : Piece) → GoesBetween s (place_at s v) (moved axis long (place_at s v)) q → IsOnLine s axis v long q
@@ -173,6 +167,10 @@ only_on_line s Y v long =
     ∙ number_up s (col_of s v) (row_of s v) (layer_of s v) i ∙ ap (λ n. n + i * cols s) (vertex_number-place s v) in
     (i, omega (arith, two.1.row.1), ap to_next_row is))
     (λ u goes. absurd (omega (arith, goes.starts.layer.0, goes.ends.layer.1)))
+
+-- a via goes to the place above its start
+pub via_place : (s : Size) (v : ℕ) → IsPiece s (to_next_layer v) → place_at s (end_of s (to_next_layer v)) ≡ above (place_at s v)
+via_place s v piece = place_at-end_of s (to_next_layer v) piece
 
 -- nor any other than the via between a place and the one above it
 pub only_via : (s : Size) (v : ℕ) (q : Piece) → GoesBetween s (place_at s v) (above (place_at s v)) q → q ≡ to_next_layer v

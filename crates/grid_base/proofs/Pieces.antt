@@ -8,6 +8,7 @@ use Rattle.grid_base.specs.declared.piece.Piece.{Piece}
 use Rattle.grid_base.specs.declared.piece.Piece.TheVariants.{Edge, Via}
 use Rattle.grid_base.specs.declared.place.Place.{Place}
 use Rattle.grid_base.specs.declared.size.Size.{Size}
+use Rattle.grid_base.specs.declared.via.Via.{Via as ViaNumber}
 use Rattle.grid_base.specs.Numbers.{vertex_number, place_at, col_of, row_of, layer_of, start_of, end_place, end_of, cols, rows, edge_start, edge_axis, to_next_col, to_next_row, to_next_layer, distance, IsVertex, IsInside, IsPiece, Goes, Connects, AreNeighbours}
 use Rattle.grid_base.proofs.Places.{vertex_number-place, vertex_number-next_col, vertex_number-next_row, vertex_number-next_layer, place_at-number, place_at-inside, vertex_number-inside}
 
@@ -17,10 +18,10 @@ half_of_even v = omega arith
 half_of_odd : (v : ℕ) → (2 * v + 1) / 2 ≡ v
 half_of_odd v = omega arith
 
-is_even : (v : ℕ) → (2 * v % 2 == 0) ≡ true
+pub is_even : (v : ℕ) → (2 * v % 2 == 0) ≡ true
 is_even v = eq-eqb _ _ (omega arith)
 
-is_odd : (v : ℕ) → ((2 * v + 1) % 2 == 0) ≡ false
+pub is_odd : (v : ℕ) → ((2 * v + 1) % 2 == 0) ≡ false
 is_odd v = grind arith
 
 pub start_of-to_next_col : (v : ℕ) → start_of (to_next_col v) ≡ v
@@ -63,6 +64,17 @@ edge_cases e =
 pub one_from_start : (p : Piece) → IsOneFrom (start_of p) p
 one_from_start (Edge e) = edge_cases e
 one_from_start (Via v) = inr refl
+
+-- an edge tells its number, and a via its vertex
+pub edge-tells : (j k : ℕ) → Edge (record { 0 = j }) ≡ Edge (record { 0 = k }) → j ≡ k
+edge-tells j k same =
+    let numbers : EdgeNumber → EdgeNumber → Type 0 = λ a b. a ≡ b in
+    let equal : numbers (record { 0 = j }) (record { 0 = k }) = cc in ap (λ (e : EdgeNumber). e.0) equal
+
+pub via-tells : (j k : ℕ) → to_next_layer j ≡ to_next_layer k → j ≡ k
+via-tells j k same =
+    let numbers : ViaNumber → ViaNumber → Type 0 = λ a b. a ≡ b in
+    let equal : numbers (record { 0 = j }) (record { 0 = k }) = cc in ap (λ (v : ViaNumber). v.0) equal
 
 -- what holds of the three pieces that go from a vertex holds of each piece
 pub by_kind : (P : Piece → Type 0) → ((v : ℕ) → P (to_next_col v)) → ((v : ℕ) → P (to_next_row v)) → ((v : ℕ) → P (to_next_layer v)) → (p : Piece) → P p
@@ -117,6 +129,14 @@ neighbours_from_connects s p a b connects =
     (neighbours_from_goes s p a b)
     (λ goes. AreNeighbours-sym s b a (neighbours_from_goes s p b a goes))
     connects
+
+-- it connects its ends in either order
+pub connects_back : (s : Size) (p : Piece) (a b : ℕ) → Connects s p a b → Connects s p b a
+connects_back s p a b connects = ⊎_elim (λ there. inr there) (λ back. inl back) connects
+
+-- the far end of a piece is a vertex
+pub end_vertex : (s : Size) (p : Piece) (a b : ℕ) → Connects s p a b → IsVertex s b
+end_vertex s p a b connects = (neighbours_from_connects s p a b connects).1
 
 -- the piece that goes from a vertex to a place beside it
 piece_to : Size → ℕ → Place → Piece

@@ -25,9 +25,9 @@ abbrev pub edge_from : Axis → ℕ → Piece
 edge_from axis v = Edge (edge_along axis v)
 
 -- by how much an edge along an axis raises the number of a vertex
-abbrev pub step : Axis → Size → ℕ
-step X s = 1
-step Y s = cols s
+abbrev pub stride : Axis → Size → ℕ
+stride X s = 1
+stride Y s = cols s
 
 -- two places that differ in at most one of column, row and layer
 abbrev pub AreInLine : Place → Place → Type 0

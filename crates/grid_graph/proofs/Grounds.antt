@@ -14,7 +14,7 @@ use Rattle.grid_graph.specs.declared.ground.Ground.TheVariants.{Open, WithChoked
 use Rattle.grid_graph.specs.declared.ground_error.GroundError.{GroundError}
 use Rattle.grid_graph.specs.declared.ground_error.GroundError.TheVariants.{Unreachable, NoMemory}
 use Rattle.grid_graph.specs.declared.net_spec.NetSpec.{NetSpec}
-use Rattle.grid_graph.specs.Apart.{HaveOneLabel, IsApart}
+use Rattle.grid_graph.specs.Apart.{HaveOneLabel, IsFirstApart}
 use Rattle.grid_graph.specs.Grids.{size_of, Allows}
 use Rattle.grid_graph.specs.Grounds.{JoinsTerminals, IsGround, IsCutOff, IsGroundError, AreGrounds, IsFirstGroundError}
 use Rattle.grid_graph.specs.Labels.{AreLabels}
@@ -33,7 +33,7 @@ joins_alike s F labels terminals right vertex alike a b a_in b_in =
     (alike at_a.0 first (record { 0 = a }) at_a.1 at_first at_a.2 ∙ sym (alike at_b.0 first (record { 0 = b }) at_b.1 at_first at_b.2))
 
 -- terminals of two labels are not
-pub apart_not_joined : (s : Size) (F : Piece → Type 0) (labels : List ℕ) (terminals : List Vertex) (place : ℕ) → AreLabels s F labels → IsApart labels terminals place → ¬ Joins s F (InVertices terminals)
+pub apart_not_joined : (s : Size) (F : Piece → Type 0) (labels : List ℕ) (terminals : List Vertex) (place : ℕ) → AreLabels s F labels → IsFirstApart labels terminals place → ¬ Joins s F (InVertices terminals)
 apart_not_joined s F labels terminals place right apart joins =
     let any : Vertex = record { 0 = 0 } in
     let some : 0 < length terminals = omega (arith, apart.exists) in
@@ -44,7 +44,7 @@ apart_not_joined s F labels terminals place right apart joins =
     apart.differs first last at_first at_last
     (right.apart last.0 first.0 (joins last.0 first.0 (member_from_place terminals place last at_last) (member_from_place terminals 0 first at_first)))
 
-pub cut_off_apart : (g : Grid) (n : NetSpec) (labels : List ℕ) (place : ℕ) → AreLabels (size_of g) (Allows g WithChoked) labels → ((i : ℕ) (v : Vertex) → At n.terminals i v → IsVertex (size_of g) v.0) → IsApart labels n.terminals place → IsCutOff g n n.id place
+pub cut_off_apart : (g : Grid) (n : NetSpec) (labels : List ℕ) (place : ℕ) → AreLabels (size_of g) (Allows g WithChoked) labels → ((i : ℕ) (v : Vertex) → At n.terminals i v → IsVertex (size_of g) v.0) → IsFirstApart labels n.terminals place → IsCutOff g n n.id place
 cut_off_apart g n labels place right vertex apart = record {
   named = refl;
   apart = apart_not_joined (size_of g) (Allows g WithChoked) labels n.terminals place right apart;

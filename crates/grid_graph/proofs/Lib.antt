@@ -1,7 +1,14 @@
+pub mod Alike
 pub mod Allowed
 pub mod Borders
 pub mod CutOff
+pub mod Designs
 pub mod Grounds
 pub mod Members
 pub mod Positions
 pub mod SpreadLabels
+pub mod TileLayers
+pub mod TileLists
+pub mod TileSteps
+pub mod TileWalks
+pub mod Weighed

@@ -7,9 +7,9 @@ use Rattle.grid_base.specs.declared.size.Size.{Size}
 use Rattle.grid_base.specs.Flood.{IsClosed, IsFlooded}
 use Rattle.grid_base.specs.Numbers.{vertices, IsVertex}
 use Rattle.grid_base.specs.Walks.{AreLinked, WalkBetween}
-use Rattle.grid_base.proofs.Floods.{some_is, none_or_some, some_value}
 use Rattle.grid_base.proofs.Walks.{WalkBetween-sym, WalkBetween-trans, WalkBetween-link, AreLinked-sym, linked_vertex, walk_vertices, closed_under_walks}
-use Rattle.grid_graph.specs.Labels.{AreLabels, label_of, no_label}
+use Rattle.grid_base.proofs.Options.{some_is, none_or_some, some_value}
+use Rattle.grid_graph.specs.Labels.{AreLabels, component_label, no_label}
 
 -- each label is a vertex that a walk joins to its bearer, and all that is linked to a bearer has its label too
 pub record AreSpread (s : Size) (F : Piece → Type 0) (labels : ℕ → Option ℕ) : Type 0 where
@@ -55,24 +55,24 @@ value_if true n l is = cc
 value_if false n l is = same_Some n l is
 
 -- the label is the one that stands in the list
-pub label_value : (labels : List ℕ) (v l : ℕ) → label_of labels v ≡ Some l → slice_index labels v ≡ l
+pub label_value : (labels : List ℕ) (v l : ℕ) → component_label labels v ≡ Some l → slice_index labels v ≡ l
 label_value labels v l is = value_if (slice_index labels v == no_label) (slice_index labels v) l is
 
 -- where no vertex has a label, the labels are spread
-pub AreSpread-blank : (s : Size) (F : Piece → Type 0) → AreSpread s F (label_of (replicate (vertices s) no_label))
+pub AreSpread-blank : (s : Size) (F : Piece → Type 0) → AreSpread s F (component_label (replicate (vertices s) no_label))
 AreSpread-blank s F =
     let labels = replicate (vertices s) no_label in
-    let none : (v : ℕ) → IsVertex s v → label_of labels v ≡ None = λ v vertex. unlabelled (slice_index labels v) (get_or-replicate (vertices s) v no_label 0 vertex) in
+    let none : (v : ℕ) → IsVertex s v → component_label labels v ≡ None = λ v vertex. unlabelled (slice_index labels v) (get_or-replicate (vertices s) v no_label 0 vertex) in
     record {
       rooted = λ v l vertex has. absurd (not_both l (sym (none v vertex) ∙ has));
       level = λ v w l has link. let no : None ≡ Some l = sym (none v (linked_vertex s F v w link)) ∙ has in cc;
     }
 
 -- where all vertices have labels that are spread, the labels tell what F joins
-pub AreLabels-from_spread : (s : Size) (F : Piece → Type 0) (labels : List ℕ) → length labels ≡ vertices s → AreSpread s F (label_of labels) → ((v : ℕ) → IsVertex s v → IsSome (label_of labels v)) → AreLabels s F labels
+pub AreLabels-from_spread : (s : Size) (F : Piece → Type 0) (labels : List ℕ) → length labels ≡ vertices s → AreSpread s F (component_label labels) → ((v : ℕ) → IsVertex s v → IsSome (component_label labels v)) → AreLabels s F labels
 AreLabels-from_spread s F labels long spread all =
-    let label : (v : ℕ) → IsVertex s v → label_of labels v ≡ Some (slice_index labels v) = λ v vertex.
-    let value = some_value (label_of labels v) (all v vertex) in
+    let label : (v : ℕ) → IsVertex s v → component_label labels v ≡ Some (slice_index labels v) = λ v vertex.
+    let value = some_value (component_label labels v) (all v vertex) in
     value.1 ∙ ap (λ (x : ℕ). Some x) (sym (label_value labels v value.0 value.1)) in
     record {
       long = long;
@@ -83,5 +83,5 @@ AreLabels-from_spread s F labels long spread all =
       apart = λ a b walk.
           let at_a = label a (walk_vertices s F a b walk).0 in
           sym (label_value labels b (slice_index labels a)
-          (closed_under_walks s F (λ v. label_of labels v ≡ Some (slice_index labels a)) (λ u w has link. spread.level u w (slice_index labels a) has link) a b at_a walk));
+          (closed_under_walks s F (λ v. component_label labels v ≡ Some (slice_index labels a)) (λ u w has link. spread.level u w (slice_index labels a) has link) a b at_a walk));
     }

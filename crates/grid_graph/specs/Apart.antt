@@ -9,7 +9,7 @@ HaveOneLabel labels terminals n =
     (i : ℕ) (first v : Vertex) → i < n → At terminals 0 first → At terminals i v → slice_index labels v.0 ≡ slice_index labels first.0
 
 -- the terminal at this place is the first one of another label than the first one's
-pub record IsApart (labels : List ℕ) (terminals : List Vertex) (place : ℕ) : Type 0 where
+pub record IsFirstApart (labels : List ℕ) (terminals : List Vertex) (place : ℕ) : Type 0 where
   pub exists : place < length terminals
   pub alike : HaveOneLabel labels terminals place
   pub differs : (first v : Vertex) → At terminals 0 first → At terminals place v → slice_index labels v.0 ≢ slice_index labels first.0

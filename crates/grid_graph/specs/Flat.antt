@@ -31,3 +31,8 @@ pub record IsFlatOf (flat s : Size) : Type 0 where
 pub record AreLeastOver (s : Size) (pieces : List (Piece × ℕ)) (over : ℕ → ℕ) : Type 0 where
   pub below : (e : EdgeNumber) (weight : ℕ) → Weighs pieces (Edge e) weight → over (tile_edge_of s e.0) ≤ weight
   pub within : (e : ℕ) → over e ≤ max_weight
+
+-- two grids have the same tiles: as many columns and as many rows
+pub record HaveSameTiles (one other : Size) : Type 0 where
+  pub cols_of : cols one ≡ cols other
+  pub rows_of : rows one ≡ rows other

@@ -27,6 +27,14 @@ size_of g = g.parts.size
 abbrev pub IsEdgeNumber : Grid → ℕ → Type 0
 IsEdgeNumber g e = e < 2 * vertices (size_of g)
 
+-- how many edge numbers there are, and the place of the wirelength's entry in a list of loads or of prices
+abbrev pub edge_numbers : Grid → ℕ
+edge_numbers g = 2 * vertices (size_of g)
+
+-- how many entries a list of loads or of prices has: one per edge number, and then one for the wirelength
+abbrev pub entries : Grid → ℕ
+entries g = edge_numbers g + 1
+
 -- the final capacity of an edge number
 abbrev pub capacity : Grid → ℕ → ℕ
 capacity g e = slice_index g.capacities.items e
@@ -56,8 +64,8 @@ abbrev pub demand_on : Grid → ℕ → ℕ → ℕ
 demand_on g width e = let layer = layer_of (size_of g) (edge_start e) in demand width (width_of_layer g layer) (spacing_of_layer g layer)
 
 -- the column and the row of the tile of a position, upper borders included
-abbrev pub tile_of : Grid → ℤ → ℤ → Option (ℕ × ℕ)
-tile_of g x y =
+abbrev pub tile_of_position : Grid → ℤ → ℤ → Option (ℕ × ℕ)
+tile_of_position g x y =
     let of = layout_of g in
     option_zip (tile_index of.origin.0 of.tile.0 (cols of.size) x) (tile_index of.origin.1 of.tile.1 (rows of.size) y)
 

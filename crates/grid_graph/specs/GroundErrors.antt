@@ -8,6 +8,6 @@ abbrev pub unreachable_number : ℕ
 unreachable_number = 4
 
 -- an unreachable net has that number; want of memory has none
-abbrev pub number_of : GroundError → Option ℕ
-number_of (Unreachable net) = Some unreachable_number
-number_of NoMemory = None
+abbrev pub ground_error_number : GroundError → Option ℕ
+ground_error_number (Unreachable net) = Some unreachable_number
+ground_error_number NoMemory = None

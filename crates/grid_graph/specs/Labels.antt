@@ -16,5 +16,5 @@ abbrev pub no_label : ℕ
 no_label = 2 ^ 32 - 1
 
 -- the label of a vertex, if it has one yet
-abbrev pub label_of : List ℕ → ℕ → Option ℕ
-label_of labels v = cond (slice_index labels v == no_label) None (Some (slice_index labels v))
+abbrev pub component_label : List ℕ → ℕ → Option ℕ
+component_label labels v = cond (slice_index labels v == no_label) None (Some (slice_index labels v))

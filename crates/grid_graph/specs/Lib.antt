@@ -2,6 +2,7 @@ pub use Rattle.grid_base.specs.Lists
 pub use Rattle.grid_base.specs.Neighbours
 pub use Rattle.grid_base.specs.Numbers
 pub use Rattle.grid_base.specs.Walks
+pub mod Alike
 pub mod Apart
 pub mod Borders
 pub mod Capacities
@@ -14,5 +15,6 @@ pub mod Labels
 pub mod Layouts
 pub mod Limits
 pub mod Nets
+pub mod TilePieces
 pub mod Tiles
 pub mod Weighed

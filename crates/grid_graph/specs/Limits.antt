@@ -28,3 +28,11 @@ max_pins = 2 ^ 24
 -- the greatest weight of a piece in a search
 abbrev pub max_weight : ℕ
 max_weight = 2 ^ 38
+
+-- the greatest load of an edge, or of the wirelength
+abbrev pub max_load : ℕ
+max_load = 2 ^ 62
+
+-- the greatest budget of the wirelength
+abbrev pub max_budget : ℕ
+max_budget = 2 ^ 42

@@ -1,7 +1,7 @@
 //! The first terminal that labels tell apart from the first one.
 
 ghost use Rattle.std.specs.Prelude.{ℕ, ◌<◌, length, IfNone, IfSome};
-ghost use Rattle.grid_graph.specs.Apart.{HaveOneLabel, IsApart};
+ghost use Rattle.grid_graph.specs.Apart.{HaveOneLabel, IsFirstApart};
 ghost use Rattle.grid_base.specs.Lists.{At};
 
 use grid_base::Vertex;
@@ -10,7 +10,7 @@ use grid_base::Vertex;
 pub fn first_apart(labels: &[u32], terminals: &[Vertex]) -> Option<usize>
     requires { (i : ℕ) (v : Vertex) → At terminals.now i v → v.0 < length labels.now }
     ensures alike { IfNone result (HaveOneLabel labels.now terminals.now (length terminals.now)) }
-    ensures apart { IfSome result (λ i. IsApart labels.now terminals.now i) }
+    ensures apart { IfSome result (λ i. IsFirstApart labels.now terminals.now i) }
 {
     let first = *terminals.first()?;
     for (i, v) in terminals.iter().enumerate() {

@@ -96,7 +96,7 @@ impl Grid {
     pub fn tile_of(&self, x: i64, y: i64) -> Option<(u32, u32)>
         requires x { IsPosition x }
         requires y { IsPosition y }
-        ensures { result ≡ grids.tile_of self.now x y }
+        ensures { result ≡ grids.tile_of_position self.now x y }
     {
         let parts = &self.parts;
         let col = tile_index(parts.origin.0, parts.tile.0, parts.size.cols(), x)?;

@@ -2,7 +2,7 @@
 
 ghost use Rattle.std.specs.Prelude.{◌≡◌};
 ghost use Rattle.grid_graph.specs.declared.ground_error.GroundError.TheVariants.{NoMemory};
-ghost use Rattle.grid_graph.specs.GroundErrors.{number_of};
+ghost use Rattle.grid_graph.specs.GroundErrors.{ground_error_number};
 
 use crate::unreachable_net::UnreachableNet;
 use std::alloc::AllocFailed;
@@ -22,7 +22,7 @@ pub enum GroundError {
 impl GroundError {
     /// Its number among the faults that a report names. Want of memory has none.
     pub fn number(self) -> Option<u32>
-        ensures { result ≡ number_of self }
+        ensures { result ≡ ground_error_number self }
     {
         match self {
             GroundError::Unreachable(net) => Some(net.number()),

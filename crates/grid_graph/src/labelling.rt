@@ -1,6 +1,7 @@
 //! Labels that are given on the way.
 
-ghost use Rattle.std.specs.Prelude.{◌<◌, ◌-◌, ◌^◌};
+ghost use Rattle.std.specs.Prelude.{◌<◌};
+ghost use Rattle.grid_graph.specs.Labels.{no_label};
 
 use grid_base::{Marks, NoMemory, Size, Vertex};
 use std::alloc::Global;
@@ -13,7 +14,7 @@ pub const NO_LABEL: u32 = u32::MAX;
 pub struct Labelling {
     labels: Vec<u32>,
     label: u32,
-    pub ghost is_label: { label < 2 ^ 32 - 1 },
+    pub ghost is_label: { label < no_label },
 }
 
 impl Labelling {
@@ -48,9 +49,9 @@ impl Labelling {
 
 impl Marks for Labelling {
     ghost use Rattle.std.specs.Prelude.{length};
-    ghost use Rattle.grid_graph.specs.Labels.{label_of};
+    ghost use Rattle.grid_graph.specs.Labels.{component_label};
 
-    ghost mark_of = { λ s v. label_of s.labels.items v };
+    ghost mark_of = { λ s v. component_label s.labels.items v };
 
     ghost next_mark = { λ s. s.label };
 

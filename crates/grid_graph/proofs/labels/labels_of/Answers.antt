@@ -4,10 +4,10 @@ use Rattle.std.proofs.lemmas.List.{length-replicate}
 use Rattle.grid_base.specs.declared.size.Size.{Size}
 use Rattle.grid_base.specs.Flood.{IsFlooded}
 use Rattle.grid_base.specs.Numbers.{vertices, IsVertex}
-use Rattle.grid_base.proofs.Floods.{some_is, some_value}
 use Rattle.grid_base.proofs.Walks.{WalkBetween-refl}
+use Rattle.grid_base.proofs.Options.{some_is, some_value}
 use Rattle.grid_graph.specs.Grids.{Allows}
-use Rattle.grid_graph.specs.Labels.{AreLabels, label_of, no_label}
+use Rattle.grid_graph.specs.Labels.{AreLabels, component_label, no_label}
 use Rattle.grid_graph.proofs.SpreadLabels.{AreSpread-blank, AreSpread-flooded, IsClosed-spread, AreLabels-from_spread}
 use Rattle.grid_graph.proofs.labels.labels_of.Goals as goal
 
@@ -28,7 +28,7 @@ flood-requires-clause-limit c = omega (arith, ap (length {A = ℕ}) c.give.ensur
 pub flood-requires-clause-closed : goal.flood-requires-clause-closed
 flood-requires-clause-closed c =
     rw c.give.ensures.labels
-    (IsClosed-spread c.size-size.result (Allows c.args.grid.now c.args.over) (label_of c.loop-v.labelling.labels.items) c.loop-v.invariant.spread)
+    (IsClosed-spread c.size-size.result (Allows c.args.grid.now c.args.over) (component_label c.loop-v.labelling.labels.items) c.loop-v.invariant.spread)
 
 pub loop-v-preserved : goal.loop-v-preserved
 loop-v-preserved c =
@@ -38,16 +38,16 @@ loop-v-preserved c =
     let new = c.flood.new.marks.labels.items in
     let root = c.loop-v.v in
     let vertex : IsVertex s root = omega (arith, c.loop-v-test.true, c.vertices-v-end.ensures) in
-    let flooded : IsFlooded s F (label_of old) (label_of new) root root =
-    rw (sym c.give.ensures.labels) (subst (λ (m : ℕ). IsFlooded s F (label_of c.give.new.self.labels.items) (label_of new) m root) c.give.ensures.label c.in_ok-flood.ensures.flooded) in
+    let flooded : IsFlooded s F (component_label old) (component_label new) root root =
+    rw (sym c.give.ensures.labels) (subst (λ (m : ℕ). IsFlooded s F (component_label c.give.new.self.labels.items) (component_label new) m root) c.give.ensures.label c.in_ok-flood.ensures.flooded) in
     record {
       long = c.in_ok-flood.ensures.limit ∙ ap (length {A = ℕ}) c.give.ensures.labels ∙ c.loop-v.invariant.long;
-      spread = AreSpread-flooded s F (label_of old) (label_of new) root c.loop-v.invariant.spread flooded;
+      spread = AreSpread-flooded s F (component_label old) (component_label new) root c.loop-v.invariant.spread flooded;
       labelled = λ k below. ⊎_elim
           (λ (is : k ≡ root). rw is (flooded.reached root (WalkBetween-refl s F root vertex)))
           (λ other.
-          let value = some_value (label_of old k) (c.loop-v.invariant.labelled k (omega arith)) in
-          some_is (label_of new k) value.0 (flooded.kept k value.0 value.1))
+          let value = some_value (component_label old k) (c.loop-v.invariant.labelled k (omega arith)) in
+          some_is (component_label new k) value.0 (flooded.kept k value.0 value.1))
           (cases_eq k root);
     }
 

@@ -2,7 +2,7 @@ use Rattle.std.proofs.Common.{◌≡◌, List, length, ◌∙◌, ap, subst}
 use Rattle.grid_base.specs.declared.vertex.Vertex.{Vertex}
 use Rattle.grid_graph.specs.declared.ground.Ground.TheVariants.{Open, WithChoked}
 use Rattle.grid_graph.specs.declared.net_spec.NetSpec.{NetSpec}
-use Rattle.grid_graph.specs.Apart.{HaveOneLabel, IsApart}
+use Rattle.grid_graph.specs.Apart.{HaveOneLabel, IsFirstApart}
 use Rattle.grid_graph.specs.Grids.{size_of, Allows}
 use Rattle.grid_graph.specs.Grounds.{IsCutOff}
 use Rattle.grid_base.specs.Lists.{At}
@@ -32,7 +32,7 @@ returns-in-None-clause-found c n at =
     let spec_is = net_read d.nets c.list.result.now c.args.net c.index-list-net.result n c.list.ensures.nets c.requires.net c.index-list-net.is at in
     let same : c.list-terminals.result.now ≡ n.terminals = c.list-terminals.ensures.vertices ∙ ap (λ (m : NetSpec). m.terminals) spec_is in (
       apart_not_joined (size_of d.grid) (Allows d.grid Open) c.args.by_open.now n.terminals c.in-Some.field-0 c.requires.by_open
-          (subst (λ (ts : List Vertex). IsApart c.args.by_open.now ts c.in-Some.field-0) same c.in-Some.ensures.apart),
+          (subst (λ (ts : List Vertex). IsFirstApart c.args.by_open.now ts c.in-Some.field-0) same c.in-Some.ensures.apart),
       joins_alike (size_of d.grid) (Allows d.grid WithChoked) c.args.by_choked.now n.terminals c.requires.by_choked
           ((d.limits.net c.args.net n at).vertices)
           (subst (λ (ts : List Vertex). HaveOneLabel c.args.by_choked.now ts (length ts)) same c.in-None.ensures.alike),
@@ -47,4 +47,4 @@ returns-in-Some-first_apart-clause-cause c n at =
     subst (λ (m : NetSpec). IsCutOff d.grid m spec.id c.in-Some-first_apart.terminal) spec_is
     (cut_off_apart d.grid spec c.args.by_choked.now c.in-Some-first_apart.terminal c.requires.by_choked
     ((d.limits.net c.args.net spec stands).vertices)
-    (subst (λ (ts : List Vertex). IsApart c.args.by_choked.now ts c.in-Some-first_apart.terminal) c.list-terminals.ensures.vertices c.in-Some-first_apart.ensures.apart))
+    (subst (λ (ts : List Vertex). IsFirstApart c.args.by_choked.now ts c.in-Some-first_apart.terminal) c.list-terminals.ensures.vertices c.in-Some-first_apart.ensures.apart))
