@@ -12,7 +12,7 @@ use Rattle.gr_desk.specs.declared.memory.MemDesk.{MemDesk}
 use Rattle.gr_desk.specs.declared.fault_counts.FaultCounts.{FaultCounts}
 use Rattle.gr_desk.specs.Ports.{number}
 use Rattle.gr_desk.specs.Causes.{Rose}
-use Rattle.gr_desk.specs.Files.{left_of, position_of}
+use Rattle.gr_desk.specs.Files.{left_of, file_number}
 use Rattle.gr_desk.specs.Slot.{opened_slot, IsCreated}
 use Rattle.gr_desk.specs.Memory.{told_of}
 use Rattle.gr_desk.specs.Calls.{KeepsOthers, Strays, Opens, Creates, Reads, Writes, IsOrderlyOpen, IsOrderlyCreate, IsOrderlyRead, IsOrderlyWrite}
@@ -77,7 +77,7 @@ module _ {s t : MemDesk} {port : Port} {n : ℕ} {orderly : Bool} (call : Begins
 
   -- an open that was done, at the file with this number
   pub opens-done : {E : Type 0} {name : List ℕ} (i : ℕ) → (IsTrue orderly ↔ IsOrderlyOpen (told_of s) port name)
-      → new ≡ opened_slot slot (Some i) → position_of t.files.items name ≡ Some i → faults ≡ t.faults
+      → new ≡ opened_slot slot (Some i) → file_number t.files.items name ≡ Some i → faults ≡ t.faults
       → Opens {T = Unit {0}} {E = E} (told_of s) (told_of done) port name (Ok tt)
   opens-done i order made found same = record {
     ok = rw (slot-now, slot-was, made, files-stay, names-stay, rw files-stay at found) refl;

@@ -6,7 +6,7 @@ use Rattle.gr_desk.specs.declared.port.Port.{Port}
 use Rattle.gr_desk.specs.declared.reading.Reading.{Reading}
 use Rattle.gr_desk.specs.declared.never_fails.NeverFails.{NeverFails}
 use Rattle.gr_desk.specs.Ports.{number}
-use Rattle.gr_desk.specs.Files.{left_of, position_of}
+use Rattle.gr_desk.specs.Files.{left_of, file_number}
 use Rattle.gr_desk.specs.NeverFails.{told_by}
 use Rattle.gr_desk.specs.Calls.{KeepsOthers, Strays, Opens, Reads}
 use Rattle.gr_desk.proofs.Faults.{stood}
@@ -35,7 +35,7 @@ module _ (s : NeverFails) (port : Port) (k : ℕ) (at : k ≡ number port) (old 
   }
 
   -- an open
-  pub opens-quiet : {E : Type 0} {name : List ℕ} (file : Option ℕ) → new ≡ record { file = file; at = 0 } → file ≡ position_of s.files.items name
+  pub opens-quiet : {E : Type 0} {name : List ℕ} (file : Option ℕ) → new ≡ record { file = file; at = 0 } → file ≡ file_number s.files.items name
       → Opens {T = Unit {0}} {E = E} (told_by s) (told_by done) port name (Ok tt)
   opens-quiet file made found = record {
     ok = rw (reading-now, made, found) refl;

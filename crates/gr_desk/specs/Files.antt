@@ -13,12 +13,12 @@ abbrev pub bytes_at : List File → ℕ → List ℕ
 bytes_at files i = unwrap_or (option_map (λ (f : File). f.1.items) (slice_get files i)) []
 
 -- the number of the first file of that name
-abbrev pub position_of : List File → List ℕ → Option ℕ
-position_of files name = position (λ f. bytes_eq (string_bytes f.0) name) files
+abbrev pub file_number : List File → List ℕ → Option ℕ
+file_number files name = position (λ f. bytes_eq (string_bytes f.0) name) files
 
 -- the bytes under a name
 abbrev pub bytes_under : List File → List ℕ → Option (List ℕ)
-bytes_under files name = option_map (bytes_at files) (position_of files name)
+bytes_under files name = option_map (bytes_at files) (file_number files name)
 
 -- what is left to be read of a file
 abbrev pub left_of : List File → Reading → List ℕ

@@ -4,7 +4,7 @@ ghost use Rattle.std.specs.Prelude.{◌≡◌, ◌≢◌, ◌<◌, ◌+◌, ◌-
 ghost use Rattle.gr_desk.specs.Ports.{number};
 ghost use Rattle.std.specs.Io.{ReadsAtMost, WritesAtMost};
 ghost use Rattle.gr_desk.specs.Calls.{Opens, Creates, Reads, Writes, IsOrderlyOpen, IsOrderlyCreate, IsOrderlyRead, IsOrderlyWrite};
-ghost use Rattle.gr_desk.specs.Files.{position_of, bytes_under};
+ghost use Rattle.gr_desk.specs.Files.{file_number, bytes_under};
 ghost use Rattle.gr_desk.specs.Memory.{told_of, is_listed, expected_of, IsNewDesk, Counts, starved_after};
 
 use crate::desk::Desk;
@@ -167,7 +167,7 @@ impl MemDesk {
 
     // The file of that name, where the call is not listed as failing.
     fn file_unless(&self, listed: bool, name: &str) -> Option<usize>
-        ensures { result ≡ (if listed then None else position_of self.now.files.items name.now) }
+        ensures { result ≡ (if listed then None else file_number self.now.files.items name.now) }
     {
         if listed {
             return None;

@@ -1,11 +1,11 @@
 //! Named bytes in memory, and how far one of them was read.
 
 ghost use Rattle.std.specs.Prelude.{◌≡◌, ◌<◌, ◌≤◌, ◌+◌, ◌^◌, ◌++◌, [], length, take};
-ghost use Rattle.gr_desk.specs.Files.{bytes_at, position_of, left_of};
+ghost use Rattle.gr_desk.specs.Files.{bytes_at, file_number, left_of};
 
 /// The number of the first file of that name.
 pub(crate) fn find_file(files: &[(String, Vec<u8>)], name: &str) -> Option<usize>
-    ensures { result ≡ position_of files.now name.now }
+    ensures { result ≡ file_number files.now name.now }
 {
     files.iter().position(|f| f.0.as_str() == name)
 }

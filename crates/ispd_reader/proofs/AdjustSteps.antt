@@ -1,13 +1,15 @@
 -- Adjusting a grid step by step.
-use Rattle.std.proofs.Common.{◌≡◌, ◌≢◌, ℕ, ◌+◌, ◌-◌, ◌<◌, ◌≤◌, true, false, ◌==◌, List, [], ◌∷◌, ◌++◌, length, arith, Option, Some, None, Ok, refl, sym, ap, ◌∙◌, ⊎_elim, eq-eqb, ne_eqb}
-use Rattle.std.specs.Option.{unwrap_or, option_or}
+use Rattle.std.proofs.Common.{◌≡◌, ◌≢◌, ℕ, ◌+◌, ◌-◌, ◌<◌, ◌≤◌, true, false, ◌==◌, List, [], ◌∷◌, ◌++◌, length, Some, Ok, refl, sym, ap, ◌∙◌, ⊎_elim, eq-eqb, ne_eqb}
+use Rattle.std.specs.Option.{unwrap_or}
 use Rattle.std.proofs.lemmas.Bool.{cases_eq}
+use Rattle.grid_base.proofs.Lists.{length-some}
+use Rattle.grid_base.proofs.Options.{unwrap_or-option_or}
 use Rattle.text_scan.specs.Tokens.{Token}
 use Rattle.text_scan.specs.Reading.{tokens_left, past_blanks}
 use Rattle.grid_graph.specs.declared.grid.Grid.{Grid}
 use Rattle.grid_graph.specs.Grids.{capacity}
 use Rattle.ispd_reader.specs.declared.input_error.InputError.{InputError}
-use Rattle.ispd_reader.specs.Parsing.{Reading, Read, ◌>>=◌, Refuses, refusal_in, parts_at}
+use Rattle.ispd_reader.specs.Parsing.{Reading, InputRead, ◌>>=◌, Refuses, refusal_in, parts_at}
 use Rattle.ispd_reader.specs.Limits.{max_adjustments}
 use Rattle.ispd_reader.specs.Numbers.{count_at}
 use Rattle.ispd_reader.specs.Header.{Extent}
@@ -21,30 +23,18 @@ pub no_adjustments : (e : Extent) (r : Reading) → tokens_left r ≡ [] → adj
 unfolding adjustments_at
 no_adjustments e r h = let none : (length (tokens_left r) == 0) ≡ true = ap (λ (ts : List Token). length ts == 0) h in rw none refl
 
-some_left : (ts : List Token) → (ts ≡ [] → ⊥) → (length ts == 0) ≡ false
-some_left [] h = absurd (h refl)
-some_left (t ∷ ts) h = ne_eqb (length (t ∷ ts)) 0 (λ e. omega (arith, e))
-
 -- a token is left
 pub some_adjustments : (e : Extent) (r : Reading) → (tokens_left r ≡ [] → ⊥) → adjustments_at e r ≡ (count_at max_adjustments (past_blanks r) >>= λ count. parts_at (adjustment_at e) 0 count.0 count.1)
 unfolding adjustments_at
-some_adjustments e r h = let some : (length (tokens_left r) == 0) ≡ false = some_left (tokens_left r) h in rw some refl
+some_adjustments e r h = let some : (length (tokens_left r) == 0) ≡ false = length-some (tokens_left r) h in rw some refl
 
-option_or_none : (x : Option ℕ) → option_or None x ≡ option_or x None
-option_or_none None = refl
-option_or_none (Some x) = refl
-
-option_or_assoc : (x y z : Option ℕ) → option_or (option_or x y) z ≡ option_or x (option_or y z)
-option_or_assoc None y z = refl
-option_or_assoc (Some x) y z = refl
-
-unwrap_or-option_or : (x y : Option ℕ) (d : ℕ) → unwrap_or (option_or x y) d ≡ unwrap_or x (unwrap_or y d)
-unwrap_or-option_or None y d = refl
-unwrap_or-option_or (Some x) y d = refl
-
-last_level-push : (e : ℕ) (done : List Adjustment) (a : Adjustment) → last_level e (done ++ a ∷ []) ≡ option_or (level_where e a.edge a.level) (last_level e done)
-last_level-push e [] a = option_or_none (level_where e a.edge a.level)
-last_level-push e (b ∷ bs) a = ap (λ x. option_or x (level_where e b.edge b.level)) (last_level-push e bs a) ∙ option_or_assoc (level_where e a.edge a.level) (last_level e bs) (level_where e b.edge b.level)
+-- one more adjustment decides for its edge, and leaves the others as they were
+last_level-push : (e : ℕ) (done : List Adjustment) (a : Adjustment) (before : ℕ) → unwrap_or (last_level e (done ++ a ∷ [])) before ≡ unwrap_or (level_where e a.edge a.level) (unwrap_or (last_level e done) before)
+last_level-push e [] a before = refl
+last_level-push e (b ∷ bs) a before =
+    let own = level_where e b.edge b.level in
+    unwrap_or-option_or (last_level e (bs ++ a ∷ [])) own before ∙ last_level-push e bs a (unwrap_or own before)
+    ∙ sym (ap (unwrap_or (level_where e a.edge a.level)) (unwrap_or-option_or (last_level e bs) own before))
 
 -- before any adjustment
 pub IsAdjusted-none : (g : Grid) → IsAdjusted g g []
@@ -54,7 +44,7 @@ IsAdjusted-none g = record { levels = λ e. refl; kept = refl }
 IsAdjusted-push : (old now new : Grid) (done : List Adjustment) (a : Adjustment) → IsAdjusted old now done → IsAdjustedBy now new a → IsAdjusted old new (done ++ a ∷ [])
 IsAdjusted-push old now new done a so_far step = record {
   levels = λ e. step.levels e ∙ ap (λ d. unwrap_or (level_where e a.edge a.level) d) (so_far.levels e)
-      ∙ sym (ap (λ x. unwrap_or x (capacity old e)) (last_level-push e done a) ∙ unwrap_or-option_or (level_where e a.edge a.level) (last_level e done) (capacity old e));
+      ∙ sym (last_level-push e done a (capacity old e));
   kept = step.kept ∙ so_far.kept;
 }
 
@@ -69,7 +59,7 @@ pub no_adjustment_yet : (g : Grid) (e : Extent) (first r : Reading) (count : ℕ
 no_adjustment_yet g e first r count some read =
     record {
       done = [];
-      reading = begins (adjustment_at e) count r ∙ sym (some_adjustments e first some ∙ ap (λ (r : Read ℕ). r >>= λ count. parts_at (adjustment_at e) 0 count.0 count.1) read);
+      reading = begins (adjustment_at e) count r ∙ sym (some_adjustments e first some ∙ ap (λ (r : InputRead ℕ). r >>= λ count. parts_at (adjustment_at e) 0 count.0 count.1) read);
       adjusted = IsAdjusted-none g;
     }
 
@@ -104,4 +94,4 @@ one_edge old new x level here others e = ⊎_elim
 pub count_refused : (e : Extent) (first : Reading) (error : InputError) → (tokens_left first ≡ [] → ⊥) → Refuses refusal_in error (count_at max_adjustments (past_blanks first)) → Refuses refusal_in error (adjustments_at e first)
 count_refused e first error some refused =
     Refuses-with refusal_in error (count_at max_adjustments (past_blanks first)) (adjustments_at e first)
-    (λ fault is. some_adjustments e first some ∙ ap (λ (r : Read ℕ). r >>= λ count. parts_at (adjustment_at e) 0 count.0 count.1) is) refused
+    (λ fault is. some_adjustments e first some ∙ ap (λ (r : InputRead ℕ). r >>= λ count. parts_at (adjustment_at e) 0 count.0 count.1) is) refused

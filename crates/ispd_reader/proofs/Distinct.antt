@@ -1,17 +1,18 @@
 -- Lists without repeats.
-use Rattle.std.proofs.Common.{◌≡◌, ◌≢◌, ℕ, zero, suc, ◌+◌, ◌<◌, Bool, true, false, cond, not, ◌||◌, ◌==◌, List, [], ◌∷◌, ◌++◌, length, Some, refl, sym, ap, ◌∙◌, ⊎_elim, eq-eqb, ne_eqb, take, get_or}
-use Rattle.std.specs.List.{list_any, filter}
+use Rattle.std.proofs.Common.{◌≡◌, ◌≢◌, ℕ, ◌+◌, ◌<◌, Bool, true, false, cond, not, ◌||◌, ◌==◌, List, [], ◌∷◌, ◌++◌, length, Some, refl, sym, ap, ◌∙◌, ⊎_elim, eq-eqb, ne_eqb, eqb-true, take, get_or}
+use Rattle.std.specs.List.{list_any}
 use Rattle.std.proofs.lemmas.Bool.{cases_Bool, cases_eq, false≢true}
-use Rattle.std.proofs.lemmas.List.{append-nil, map_push, take_more}
+use Rattle.std.proofs.lemmas.List.{append-nil, map_more, map_push}
 use Rattle.std.proofs.lemmas.List.Elements.{filter-append}
-use Rattle.std.proofs.lemmas.List.Folds.{list_any-append}
+use Rattle.std.proofs.lemmas.Map.Views.{any-filter_same}
 use Rattle.std.specs.Cmp.{unsigned_tied}
 use Rattle.std.specs.Option.{option_map}
 use Rattle.std.specs.Ordering.{nat_cmp, eq_by_cmp}
 use Rattle.grid_base.specs.declared.vertex.Vertex.{Vertex}
 use Rattle.ispd_reader.specs.Views.{numbers}
-use Rattle.std.proofs.lemmas.Option.{same_Some, slice_get-map}
-use Rattle.grid_base.proofs.Lists.{At-push_cases}
+use Rattle.std.proofs.lemmas.Option.{slice_get-map}
+use Rattle.grid_base.proofs.Lists.{list_any-pushed, not_at}
+use Rattle.grid_base.proofs.NoRepeats.{HasNoRepeats-push}
 use Rattle.grid_graph.specs.Lists.{At, HasNoRepeats}
 use Rattle.ispd_reader.specs.Nets.{without_repeats}
 
@@ -37,19 +38,6 @@ without_repeats-push (x ∷ xs) v = ⊎_elim
     (cases_eq x v))
     (cases_Bool (list_any (λ w. w == v) xs))
 
--- to leave out other vertices doesn't change whether one is there
-any_filter : (q x : ℕ) (ys : List ℕ) → x ≢ q → list_any (λ w. w == q) (filter (λ w. not (w == x)) ys) ≡ list_any (λ w. w == q) ys
-any_filter q x [] ne = refl
-any_filter q x (y ∷ ys) ne = ⊎_elim
-    (λ (h : y ≡ x).
-    let here : (y == x) ≡ true = eq-eqb y x h in
-    let other : (y == q) ≡ false = ne_eqb y q (λ e. ne (sym h ∙ e)) in
-    rw (here, other) (any_filter q x ys ne))
-    (λ (h : y ≢ x).
-    let here : (y == x) ≡ false = ne_eqb y x h in
-    rw here (ap (λ b. y == q || b) (any_filter q x ys ne)))
-    (cases_eq y x)
-
 -- a list has the vertices that it has with repeats
 pub any_without_repeats : (q : ℕ) (xs : List ℕ) → list_any (λ w. w == q) (without_repeats xs) ≡ list_any (λ w. w == q) xs
 any_without_repeats q [] = refl
@@ -57,43 +45,9 @@ any_without_repeats q (x ∷ xs) = ⊎_elim
     (λ (h : x ≡ q). let here : (x == q) ≡ true = eq-eqb x q h in rw here refl)
     (λ (h : x ≢ q).
     let here : (x == q) ≡ false = ne_eqb x q h in
-    rw here (any_filter q x (without_repeats xs) h ∙ any_without_repeats q xs))
+    let others : (w : ℕ) → (w == q) ≡ true → not (w == x) ≡ true = λ w is. ap not (ne_eqb w x (λ e. h (sym e ∙ eqb-true w q is))) in
+    rw here (any-filter_same (λ w. w == q) (λ w. not (w == x)) true others (without_repeats xs) ∙ any_without_repeats q xs))
     (cases_eq x q)
-
--- one more element, which is not there yet
-pub HasNoRepeats-push : {X : Type 0} (xs : List X) (y : X) → HasNoRepeats xs → ((i : ℕ) (x : X) → At xs i x → x ≢ y) → HasNoRepeats (xs ++ y ∷ [])
-HasNoRepeats-push xs y distinct other i j x at_i at_j = ⊎_elim
-    (λ (p : At xs i x). ⊎_elim
-    (λ (q : At xs j x). distinct i j x p q)
-    (λ (q : (j ≡ length xs) × (x ≡ y)). absurd (other i x p q.1))
-    (At-push_cases xs y x j at_j))
-    (λ (p : (i ≡ length xs) × (x ≡ y)). ⊎_elim
-    (λ (q : At xs j x). absurd (other j x q p.1))
-    (λ (q : (j ≡ length xs) × (x ≡ y)). p.0 ∙ sym q.0)
-    (At-push_cases xs y x j at_j))
-    (At-push_cases xs y x i at_i)
-
--- what a test finds nowhere stands nowhere
-pub not_at : {X : Type 0} (test : X → Bool) (xs : List X) → list_any test xs ≡ false → (i : ℕ) (x : X) → At xs i x → test x ≡ false
-not_at test [] none i x h = absurd (cc)
-not_at test (y ∷ ys) none zero x h = ap test (sym (same_Some _ _ h)) ∙ (⊎_elim
-    (λ (e : test y ≡ true). absurd (let bad = rw e at none in cc))
-    (λ (e : test y ≡ false). e)
-    (cases_Bool (test y)))
-not_at test (y ∷ ys) none (suc i) x h = not_at test ys (⊎_elim
-    (λ (e : test y ≡ true). absurd (let bad = rw e at none in cc))
-    (λ (e : test y ≡ false). rw e at none)
-    (cases_Bool (test y))) i x h
-
-or_last : (a b : Bool) → cond b true a ≡ (a || (b || false))
-or_last true true = refl
-or_last true false = refl
-or_last false true = refl
-or_last false false = refl
-
--- the numbers of one more pin
-numbers_more : (pins : List Vertex) (i : ℕ) → i < length pins → numbers (take (i + 1) pins) ≡ numbers (take i pins) ++ (get_or pins i (record { 0 = 0 })).0 ∷ []
-numbers_more pins i lt = ap numbers (take_more pins i (record { 0 = 0 }) lt) ∙ map_push (λ (v : Vertex). v.0) (take i pins) (get_or pins i (record { 0 = 0 }))
 
 -- a set of vertices, as a test, is what a list has
 abbrev pub Has : (ℕ → Bool) → List Vertex → Type 0
@@ -114,11 +68,11 @@ pub terminal_added : (pins : List Vertex) (i : ℕ) (old new : ℕ → Bool) (ve
 terminal_added pins i old new vertices v lt is so_far absent more =
     let next : numbers (vertices ++ v ∷ []) ≡ numbers vertices ++ v.0 ∷ [] = map_push (λ (w : Vertex). w.0) vertices v in
     let none : list_any (λ w. w == v.0) (numbers (take i pins)) ≡ false = seen_before pins i old vertices v.0 so_far ∙ absent in
-    let pinned : numbers (take (i + 1) pins) ≡ numbers (take i pins) ++ v.0 ∷ [] = rw is (numbers_more pins i lt) in
+    let pinned : numbers (take (i + 1) pins) ≡ numbers (take i pins) ++ v.0 ∷ [] = rw is (map_more (λ (w : Vertex). w.0) pins i (record { 0 = 0 }) lt) in
     record {
       numbered = next ∙ sym (ap without_repeats pinned ∙ without_repeats-push (numbers (take i pins)) v.0 ∙ rw none (ap (λ ns. ns ++ v.0 ∷ []) (sym so_far.numbered)));
-      has = λ q. more q ∙ ap (λ b. cond b true (old q)) (unsigned_tied v.0 q) ∙ or_last (old q) (v.0 == q) ∙ ap (λ b. b || (v.0 == q || false)) (so_far.has q)
-          ∙ sym (ap (list_any (λ w. w == q)) next ∙ list_any-append (λ w. w == q) (numbers vertices) (v.0 ∷ []));
+      has = λ q. more q ∙ ap (λ b. cond b true (old q)) (unsigned_tied v.0 q) ∙ elim (v.0 == q) as (λ b. cond b true (old q) ≡ (b || old q)) [ true ↦ refl | false ↦ refl ] ∙ ap (λ b. v.0 == q || b) (so_far.has q)
+          ∙ sym (ap (list_any (λ w. w == q)) next ∙ list_any-pushed (λ w. w == q) (numbers vertices) v.0);
       distinct = HasNoRepeats-push vertices v so_far.distinct (λ j w at_j same.
           let found : At (numbers vertices) j v.0 = slice_get-map (λ (u : Vertex). u.0) vertices j ∙ ap (option_map (λ (u : Vertex). u.0)) at_j ∙ ap (λ (u : Vertex). Some u.0) same in
           let nowhere : list_any (λ u. u == v.0) (numbers vertices) ≡ false = sym (so_far.has v.0) ∙ absent in
@@ -130,7 +84,7 @@ pub terminal_known : (pins : List Vertex) (i : ℕ) (old new : ℕ → Bool) (ve
     ((q : ℕ) → new q ≡ cond (eq_by_cmp nat_cmp v.0 q) true (old q)) → AreTerminals pins (i + 1) new vertices
 terminal_known pins i old new vertices v lt is so_far known more =
     let some : list_any (λ w. w == v.0) (numbers (take i pins)) ≡ true = seen_before pins i old vertices v.0 so_far ∙ known in
-    let pinned : numbers (take (i + 1) pins) ≡ numbers (take i pins) ++ v.0 ∷ [] = rw is (numbers_more pins i lt) in
+    let pinned : numbers (take (i + 1) pins) ≡ numbers (take i pins) ++ v.0 ∷ [] = rw is (map_more (λ (w : Vertex). w.0) pins i (record { 0 = 0 }) lt) in
     record {
       numbered = so_far.numbered ∙ sym (ap without_repeats pinned ∙ without_repeats-push (numbers (take i pins)) v.0 ∙ rw some refl);
       has = λ q. more q ∙ ap (λ b. cond b true (old q)) (unsigned_tied v.0 q) ∙ (⊎_elim

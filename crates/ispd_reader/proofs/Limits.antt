@@ -1,9 +1,7 @@
 -- What is read keeps the limits.
-use Rattle.std.proofs.Common.{◌≡◌, ℕ, ◌+◌, ◌-◌, ◌<◌, ◌≤◌, List, length, get_or, slice_index, Ok, ⊎_elim, arith}
-use Rattle.std.proofs.lemmas.List.{get_or_past}
+use Rattle.std.proofs.Common.{◌≡◌, ℕ, ◌+◌, ◌-◌, ◌<◌, ◌≤◌, List, length, get_or, slice_index, Ok, arith}
 use Rattle.std.proofs.lemmas.Option.{slice_get-get_or}
-use Rattle.std.proofs.lemmas.Bool.{cases_lt}
-use Rattle.grid_graph.specs.Lists.{At}
+use Rattle.grid_base.proofs.Lists.{index_within}
 use Rattle.text_scan.proofs.Parts.{parts_of_ok, some_of_ok, same_value}
 use Rattle.text_scan.proofs.InTurn.{parts_keep}
 use Rattle.ispd_reader.specs.declared.input_fault.InputFault.{InputFault}
@@ -12,7 +10,7 @@ use Rattle.ispd_reader.specs.declared.wanted.Wanted.{Wanted}
 use Rattle.ispd_reader.specs.declared.wanted.Wanted.TheVariants as wanted
 use Rattle.text_scan.specs.declared.number.Number.{Number}
 use Rattle.grid_graph.specs.Limits.{max_capacity, max_demand}
-use Rattle.ispd_reader.specs.Parsing.{Reading, Read, ◌>>=◌, or_refuse, parts_at}
+use Rattle.ispd_reader.specs.Parsing.{Reading, InputRead, ◌>>=◌, or_refuse, parts_at}
 use Rattle.text_scan.specs.Within.{within}
 use Rattle.ispd_reader.specs.Numbers.{word_at, number_at, number_within, capacity_at, width_at, spacing_at}
 use Rattle.ispd_reader.specs.Header.{capacities_at, widths_at, spacings_at}
@@ -29,18 +27,11 @@ number_within_bounds lo hi refusal r v after h =
     (omega (arith, w.1, same), omega (arith, w.2, same))
 
 -- what stands behind two words
-after_words : (one two : Wanted) (r : Reading) (part : Reading → Read (List ℕ)) (y : List ℕ × Reading) → (word_at one r >>= λ a. word_at two a.1 >>= λ b. part b.1) ≡ Ok y → (after : Reading) × (part after ≡ Ok y)
+after_words : (one two : Wanted) (r : Reading) (part : Reading → InputRead (List ℕ)) (y : List ℕ × Reading) → (word_at one r >>= λ a. word_at two a.1 >>= λ b. part b.1) ≡ Ok y → (after : Reading) × (part after ≡ Ok y)
 after_words one two r part y h =
     let a = parts_of_ok {A = Unit {0} × Reading} {B = List ℕ × Reading} (word_at one r) (λ a. word_at two a.1 >>= λ b. part b.1) y h in
     let b = parts_of_ok {A = Unit {0} × Reading} {B = List ℕ × Reading} (word_at two a.0.1) (λ b. part b.1) y a.2 in
     (b.0.1, b.2)
-
--- a limit of each element is one at every index
-index_within : (xs : List ℕ) (limit : ℕ) → ((i x : ℕ) → At xs i x → x ≤ limit) → (l : ℕ) → slice_index xs l ≤ limit
-index_within xs limit each l = ⊎_elim
-    (λ (h : l < length xs). each l (get_or xs l 0) (slice_get-get_or xs l 0 h))
-    (λ (h : length xs ≤ l). rw (get_or_past xs l 0 h) (omega arith))
-    (cases_lt l (length xs))
 
 -- the capacities of the layers
 pub capacities_keep : (direction : Wanted) (layers : ℕ) (r : Reading) (xs : List ℕ) (after : Reading) → capacities_at direction layers r ≡ Ok (xs, after) → (length xs ≡ layers) × ((l : ℕ) → slice_index xs l ≤ max_capacity)

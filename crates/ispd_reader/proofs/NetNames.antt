@@ -1,10 +1,9 @@
 -- The name of each net that is read is a token.
-use Rattle.std.proofs.Common.{ℕ, zero, suc, ◌-◌, ◌≤◌, ◌==◌, ◌||◌, get_or, Bool, false, nat_lt, List, length, map, sym, subst, arith}
+use Rattle.std.proofs.Common.{ℕ, zero, suc, ◌-◌, ◌==◌, ◌||◌, Bool, false, nat_lt, List, length, map, sym, subst, arith}
 use Rattle.std.specs.Prelude.{IfOk, IsTrue}
 use Rattle.std.specs.List.{All}
 use Rattle.std.proofs.lemmas.List.{get_or-map, length-map}
 use Rattle.std.proofs.lemmas.List.Elements.{All-nil, All-cons}
-use Rattle.std.proofs.lemmas.Option.{slice_get-get_or}
 use Rattle.std.proofs.lemmas.Result.{IfOk-at_ok}
 use Rattle.text_scan.specs.Tokens.{Token, is_word}
 use Rattle.text_scan.specs.Reading.{whole, first_token}
@@ -13,10 +12,10 @@ use Rattle.text_scan.proofs.Parts.{IfOk-then, IfOk-behind, IfOk-where_false}
 use Rattle.grid_graph.specs.declared.design.Design.{Design}
 use Rattle.ispd_reader.specs.declared.input_fault.InputFault.TheVariants.{Syntax}
 use Rattle.ispd_reader.specs.declared.wanted.Wanted.TheVariants as wanted
-use Rattle.grid_graph.specs.Limits.{max_id, max_nets, max_pins}
+use Rattle.grid_graph.specs.Limits.{max_nets, max_pins}
 use Rattle.ispd_reader.specs.Limits.{max_bytes}
 use Rattle.ispd_reader.specs.Parsing.{Reading}
-use Rattle.ispd_reader.specs.Numbers.{token_at, word_at, name_at, count_at}
+use Rattle.ispd_reader.specs.Numbers.{wanted_token, word_at, name_at, count_at}
 use Rattle.ispd_reader.specs.Header.{Header, header_at}
 use Rattle.ispd_reader.specs.Nets.{Net, id_at, net_width_at, pins_at, net_at, more_nets_at, nets_at}
 use Rattle.ispd_reader.specs.Adjustments.{adjustments_at}
@@ -35,7 +34,7 @@ name_is_word : (r : Reading) → IfOk (name_at r) (λ name. IsTrue (is_word name
 unfolding name_at
 name_is_word r =
     let first = first_token (λ end. Syntax end wanted.Name) r in
-    IfOk-then (λ (token : Token × Reading). IsTrue (is_word token.0.bytes)) _ (token_at wanted.Name r) _
+    IfOk-then (λ (token : Token × Reading). IsTrue (is_word token.0.bytes)) _ (wanted_token wanted.Name r) _
     (IfOk-then _ (λ (token : Token × Reading). IsTrue (is_word token.0.bytes)) first _ (first_token_is_word (λ end. Syntax end wanted.Name) r) (λ token word. word)) (λ token word. word)
 
 net_named : (header : Header) (taken : ℕ → Bool) (pins : ℕ) (r : Reading) → IfOk (net_at header taken pins r) (λ net. IsNamed net.0.0)
@@ -81,7 +80,3 @@ design_named text d named = λ k e below.
     let all : All IsNamed named.contents.nets = IfOk-at_ok HasNamedNets named.read (contents_named text) in
     let mapped : All IsNamed (map net_of d.nets) = subst (All IsNamed) (sym named.says.nets) all in
     subst IsNamed (get_or-map net_of d.nets k e (net_of e) below) (mapped k (net_of e) (omega (arith, length-map d.nets net_of, below)))
-
--- and its id is within the limit of every design
-pub design_numbered : (d : Design) → All (λ n. n.id ≤ max_id) d.nets
-design_numbered d = λ k e below. (d.limits.net k (get_or d.nets k e) (slice_get-get_or d.nets k e below)).id

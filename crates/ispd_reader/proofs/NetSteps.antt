@@ -1,16 +1,14 @@
 -- Reading nets one after another, and what the nets so far keep.
-use Rattle.std.proofs.Common.{◌≡◌, ◌≢◌, ℕ, suc, ◌+◌, ◌-◌, ◌<◌, ◌≤◌, max, Bool, true, false, ◌||◌, ◌==◌, List, [], ◌∷◌, ◌++◌, length, get_or, fold, Some, Ok, Err, refl, sym, ap, ◌∙◌, ⊎_elim, le_refl, arith, eq-eqb, ne_eqb, not, subst, zero}
+use Rattle.std.proofs.Common.{◌≡◌, ℕ, suc, ◌+◌, ◌-◌, ◌<◌, ◌≤◌, Bool, false, ◌||◌, ◌==◌, List, [], ◌∷◌, ◌++◌, length, Ok, Err, refl, sym, ap, ◌∙◌, ⊎_elim, le_refl, arith, eq-eqb, not, subst}
 use mathlib.Core.Path.{fun_ext}
-use Rattle.std.specs.List.{list_any, sum_by, All, filter, slice_get}
+use Rattle.std.specs.List.{list_any, sum_by, All}
 use Rattle.std.specs.Option.{option_map}
-use Rattle.std.proofs.lemmas.Bool.{cases_Bool, cases_eq, false≢true}
+use Rattle.std.proofs.lemmas.Bool.{false≢true}
 use Rattle.std.proofs.lemmas.List.{map_push, length_push, append-nil}
-use Rattle.std.proofs.lemmas.List.Elements.{All-nil, All-cons, All-head, All-tail, All-filter, All-get_or}
-use Rattle.std.proofs.lemmas.List.Folds.{list_any-append}
-use Rattle.std.proofs.lemmas.List.Sums.{sum_by_push}
-use Rattle.std.proofs.lemmas.Option.{slice_get-map, slice_get_within, get_or_from_slice_get}
-use Rattle.grid_base.proofs.Lists.{At-push_cases}
-use Rattle.grid_base.specs.declared.vertex.Vertex.{Vertex}
+use Rattle.std.proofs.lemmas.List.Elements.{All-nil, All-cons, All-head, All-tail, All-filter}
+use Rattle.std.proofs.lemmas.List.Sums.{sum_by_push, length-filter, count_by-le-length}
+use Rattle.std.proofs.lemmas.Option.{slice_get-map}
+use Rattle.grid_base.proofs.Lists.{At-push_cases, list_any-pushed, not_at}
 use Rattle.grid_graph.specs.declared.grid.Grid.{Grid}
 use Rattle.grid_graph.specs.declared.net_spec.NetSpec.{NetSpec}
 use Rattle.grid_graph.specs.declared.limits.TheConstants.{MAX_PINS}
@@ -18,14 +16,13 @@ use Rattle.grid_graph.specs.Lists.{At}
 use Rattle.grid_graph.specs.Nets.{IdsDiffer, IsNet}
 use Rattle.ispd_reader.specs.declared.input_error.InputError.{InputError}
 use Rattle.text_scan.proofs.Parts.{with_parts, with_parts-one, Refuses-with}
-use Rattle.ispd_reader.specs.Parsing.{Reading, Read, ◌>>=◌, Refuses, refusal_in}
+use Rattle.ispd_reader.specs.Parsing.{Reading, InputRead, ◌>>=◌, Refuses, refusal_in}
 use Rattle.ispd_reader.specs.Header.{Header}
-use Rattle.ispd_reader.specs.Nets.{Net, greatest, without_repeats, net_at, more_nets_at}
-use Rattle.ispd_reader.specs.Views.{numbers, net_of, nets_of}
-use Rattle.ispd_reader.proofs.Distinct.{not_at}
+use Rattle.ispd_reader.specs.Nets.{Net, without_repeats, net_at, more_nets_at}
+use Rattle.ispd_reader.specs.Views.{net_of, nets_of}
 
 -- one more net was read
-pub net_goes_on : (header : Header) (before : List Net) (pins : ℕ) (taken new : ℕ → Bool) (count i : ℕ) (r : Reading) (net : Net) (more : ℕ) (after : Reading) (total : Read (List Net)) →
+pub net_goes_on : (header : Header) (before : List Net) (pins : ℕ) (taken new : ℕ → Bool) (count i : ℕ) (r : Reading) (net : Net) (more : ℕ) (after : Reading) (total : InputRead (List Net)) →
     i < count → ((q : ℕ) → new q ≡ (q == net.id || taken q)) → net_at header taken pins r ≡ Ok ((net, more), after) → with_parts before (more_nets_at header taken pins (count - i) r) ≡ total →
     with_parts (before ++ net ∷ []) (more_nets_at header new more (count - (i + 1)) after) ≡ total
 unfolding more_nets_at
@@ -37,7 +34,7 @@ net_goes_on header before pins taken new count i r net more after total lt same 
     sym (with_parts-one before net behind) ∙ sym (ap (with_parts before) one) ∙ so_far
 
 -- the next net was refused
-pub net_ends : (e : InputError) (header : Header) (before : List Net) (pins : ℕ) (taken : ℕ → Bool) (count i : ℕ) (r : Reading) (total : Read (List Net)) →
+pub net_ends : (e : InputError) (header : Header) (before : List Net) (pins : ℕ) (taken : ℕ → Bool) (count i : ℕ) (r : Reading) (total : InputRead (List Net)) →
     i < count → Refuses refusal_in e (net_at header taken pins r) → with_parts before (more_nets_at header taken pins (count - i) r) ≡ total → Refuses refusal_in e total
 unfolding more_nets_at
 net_ends e header before pins taken count i r total lt refused so_far =
@@ -47,7 +44,7 @@ net_ends e header before pins taken count i r total lt refused so_far =
     sym so_far ∙ ap (with_parts before) one) refused
 
 -- all nets were read
-pub nets_done : (header : Header) (before : List Net) (pins : ℕ) (taken : ℕ → Bool) (count i : ℕ) (r : Reading) (total : Read (List Net)) →
+pub nets_done : (header : Header) (before : List Net) (pins : ℕ) (taken : ℕ → Bool) (count i : ℕ) (r : Reading) (total : InputRead (List Net)) →
     count ≤ i → with_parts before (more_nets_at header taken pins (count - i) r) ≡ total → total ≡ Ok (before, r)
 unfolding more_nets_at
 nets_done header before pins taken count i r total le so_far =
@@ -55,46 +52,19 @@ nets_done header before pins taken count i r total le so_far =
     let none : more_nets_at header taken pins (count - i) r ≡ Ok ([], r) = rw k refl in
     sym so_far ∙ ap (with_parts before) none ∙ ap (λ (nets : List Net). Ok (nets, r)) (append-nil before)
 
-le_fold : (xs : List ℕ) (a : ℕ) → a ≤ fold max a xs
-le_fold [] a = le_refl a
-le_fold (x ∷ xs) a = omega (arith, le_fold xs (max a x))
-
-get_or_le_fold : (xs : List ℕ) (a i : ℕ) → get_or xs i 0 ≤ fold max a xs
-get_or_le_fold [] a i = omega arith
-get_or_le_fold (x ∷ xs) a zero = omega (arith, le_fold xs (max a x))
-get_or_le_fold (x ∷ xs) a (suc i) = get_or_le_fold xs (max a x) i
-
--- no spacing is above the greatest
-pub spacing_le_greatest : (spacings : List ℕ) (l : ℕ) → get_or spacings l 0 ≤ greatest spacings
-spacing_le_greatest spacings l = get_or_le_fold spacings 0 l
-
-length_filter_le : (p : ℕ → Bool) (xs : List ℕ) → length (filter p xs) ≤ length xs
-length_filter_le p [] = le_refl 0
-length_filter_le p (x ∷ xs) = ⊎_elim
-    (λ (e : p x ≡ true). rw e (omega (arith, length_filter_le p xs)))
-    (λ (e : p x ≡ false). rw e (omega (arith, length_filter_le p xs)))
-    (cases_Bool (p x))
-
 -- there are no more terminals than pins
 pub length-without_repeats : (xs : List ℕ) → length (without_repeats xs) ≤ length xs
 length-without_repeats [] = le_refl 0
-length-without_repeats (x ∷ xs) = omega (arith, length-without_repeats xs, length_filter_le (λ w. not (w == x)) (without_repeats xs))
+length-without_repeats (x ∷ xs) = omega (arith, length-without_repeats xs, length-filter (λ w. not (w == x)) (without_repeats xs), count_by-le-length (λ w. not (w == x)) (without_repeats xs))
 
 -- and each is at a pin
 pub All-without_repeats : (P : ℕ → Type 0) (xs : List ℕ) → All P xs → All P (without_repeats xs)
 All-without_repeats P [] h = All-nil P
 All-without_repeats P (x ∷ xs) h = All-cons P x _ (All-head P x xs h) (All-filter (λ w. not (w == x)) P (without_repeats xs) (All-without_repeats P xs (All-tail P x xs h)))
 
--- what holds of each number holds of the vertex at each place
-pub All-at : (P : ℕ → Type 0) (vertices : List Vertex) → All P (numbers vertices) → (i : ℕ) (v : Vertex) → At vertices i v → P v.0
-All-at P vertices h i v at_i =
-    let found : slice_get (numbers vertices) i ≡ Some v.0 = slice_get-map (λ (u : Vertex). u.0) vertices i ∙ ap (option_map (λ (u : Vertex). u.0)) at_i in
-    let here : get_or (numbers vertices) i v.0 ≡ v.0 = get_or_from_slice_get (numbers vertices) i v.0 v.0 found in
-    subst P here (All-get_or P (numbers vertices) i v.0 (slice_get_within (numbers vertices) i v.0 found) h)
-
 -- a net of these has the id
 abbrev has_id : List Net → ℕ → Bool
-has_id nets id = list_any (λ net. net.id == id) nets
+has_id nets id = list_any (λ net. id == net.id) nets
 
 -- the nets that were read so far
 pub record AreNets (g : Grid) (nets : List NetSpec) (taken : ℕ → Bool) (pins count : ℕ) : Type 0 where
@@ -105,18 +75,12 @@ pub record AreNets (g : Grid) (nets : List NetSpec) (taken : ℕ → Bool) (pins
   pub pins_limit : pins ≤ MAX_PINS
   pub long : length nets ≡ count
 
-taken_more : (q id : ℕ) (has : Bool) → (q == id || has) ≡ (has || (id == q || false))
-taken_more q id has = ⊎_elim
-    (λ (h : q ≡ id). let a : (q == id) ≡ true = eq-eqb q id h in let b : (id == q) ≡ true = eq-eqb id q (sym h) in rw (a, b) (elim has as (λ v. true ≡ (v || true)) [ true ↦ refl | false ↦ refl ]))
-    (λ (h : q ≢ id). let a : (q == id) ≡ false = ne_eqb q id h in let b : (id == q) ≡ false = ne_eqb id q (λ e. h (sym e)) in rw (a, b) (elim has as (λ v. v ≡ (v || false)) [ true ↦ refl | false ↦ refl ]))
-    (cases_eq q id)
-
 -- a net that is there has another id than one whose id is free
 other_id : (nets : List NetSpec) (taken : ℕ → Bool) (n : NetSpec) (i : ℕ) (m : NetSpec) → ((q : ℕ) → taken q ≡ has_id (nets_of nets) q) → taken n.id ≡ false → At nets i m → m.id ≡ n.id → ⊥
 other_id nets taken n i m ids free at_i same =
     let found : At (nets_of nets) i (net_of m) = slice_get-map net_of nets i ∙ ap (option_map net_of) at_i in
-    let nowhere : list_any (λ net. net.id == n.id) (nets_of nets) ≡ false = sym (ids n.id) ∙ free in
-    false≢true (sym (not_at (λ net. net.id == n.id) (nets_of nets) nowhere i (net_of m) found) ∙ eq-eqb m.id n.id same)
+    let nowhere : list_any (λ net. n.id == net.id) (nets_of nets) ≡ false = sym (ids n.id) ∙ free in
+    false≢true (sym (not_at (λ net. n.id == net.id) (nets_of nets) nowhere i (net_of m) found) ∙ eq-eqb n.id m.id (sym same))
 
 -- with one more net
 pub net_added : (g : Grid) (nets : List NetSpec) (old new : ℕ → Bool) (pins count : ℕ) (n : NetSpec) (more : ℕ) → AreNets g nets old pins count →
@@ -124,8 +88,8 @@ pub net_added : (g : Grid) (nets : List NetSpec) (old new : ℕ → Bool) (pins 
 net_added g nets old new pins count n more so_far free taken fits enough limit =
     let next : nets_of (nets ++ n ∷ []) ≡ nets_of nets ++ net_of n ∷ [] = map_push net_of nets n in
     record {
-      taken_ids = λ q. taken q ∙ taken_more q n.id (old q) ∙ ap (λ b. b || (n.id == q || false)) (so_far.taken_ids q)
-          ∙ sym (ap (list_any (λ net. net.id == q)) next ∙ list_any-append (λ net. net.id == q) (nets_of nets) (net_of n ∷ []));
+      taken_ids = λ q. taken q ∙ ap (λ b. q == n.id || b) (so_far.taken_ids q)
+          ∙ sym (ap (list_any (λ net. q == net.id)) next ∙ list_any-pushed (λ net. q == net.id) (nets_of nets) (net_of n));
       ids = λ i j m o at_i at_j same. ⊎_elim
           (λ (p : At nets i m). ⊎_elim
           (λ (q : At nets j o). so_far.ids i j m o p q same)

@@ -1,18 +1,13 @@
 -- The parts of a text together, and the design that they make.
-use Rattle.std.proofs.Common.{◌≡◌, ℕ, ◌+◌, ◌<◌, ◌≤◌, List, length, slice_index, false, nat_lt, arith, Ok, refl, sym, ap, subst, ◌∙◌}
+use Rattle.std.proofs.Common.{◌≡◌, ℕ, ◌≤◌, List, length, false, nat_lt, arith, Ok, refl, sym, ap, ◌∙◌}
 use Rattle.std.specs.Option.{unwrap_or}
 use Rattle.std.proofs.lemmas.Bool.Decides.{nat_tests}
 use Rattle.grid_graph.specs.declared.grid.Grid.{Grid}
-use Rattle.grid_graph.specs.declared.net_spec.NetSpec.{NetSpec}
 use Rattle.text_scan.specs.Reading.{whole}
 use Rattle.text_scan.proofs.Parts.{Refuses-with}
 use Rattle.grid_graph.specs.Capacities.{layer_capacity}
-use Rattle.grid_graph.specs.Grids.{size_of, layout_of, capacity, first_capacity}
+use Rattle.grid_graph.specs.Grids.{capacity, first_capacity}
 use Rattle.grid_graph.specs.Layouts.{Layout}
-use Rattle.grid_graph.specs.Limits.{max_demand}
-use Rattle.grid_graph.specs.Nets.{IsDesign}
-use Rattle.grid_base.specs.Numbers.{layers, IsVertex}
-use Rattle.grid_base.specs.declared.size.Size.{Size}
 use Rattle.ispd_reader.specs.declared.input_error.InputError.{InputError}
 use Rattle.ispd_reader.specs.Parsing.{Reading, Refuses, refusal_in}
 use Rattle.ispd_reader.specs.Header.{Header, header_at}
@@ -42,24 +37,6 @@ nets_refused e r header one a h = Refuses-with refusal_in e (nets_at header one)
 pub adjustments_refused : (e : InputError) (r : Reading) (header : Header) (one : Reading) (nets : List Net) (two : Reading) → header_at r ≡ Ok (header, one) → nets_at header one ≡ Ok (nets, two) → Refuses refusal_in e (adjustments_at header.extent two) → Refuses refusal_in e (contents_at r)
 unfolding contents_at
 adjustments_refused e r header one nets two a b h = Refuses-with refusal_in e (adjustments_at header.extent two) (contents_at r) (λ fault is. rw (a, b, is) refl) h
-
--- the nets fit a grid of the same layout
-pub design_kept : (g h : Grid) (nets : List NetSpec) → layout_of h ≡ layout_of g → IsDesign g nets → IsDesign h nets
-design_kept g h nets same d =
-    let size : size_of h ≡ size_of g = ap (λ (y : Layout). y.size) same in
-    record {
-      count = d.count;
-      pins = d.pins;
-      ids = d.ids;
-      net = λ k n at_k.
-          let fits = d.net k n at_k in
-          record {
-            id = fits.id;
-            width = subst (λ (y : Layout). (l : ℕ) → l < layers y.size → n.width + slice_index y.spacings l ≤ max_demand) (sym same) fits.width;
-            vertices = λ i v at_i. subst (λ (s : Size). IsVertex s v.0) (sym size) (fits.vertices i v at_i);
-            distinct = fits.distinct;
-          };
-    }
 
 -- the capacities are what the text says
 pub capacities_read : (g h : Grid) (adjustments : List Adjustment) → ((e : ℕ) → capacity g e ≡ first_capacity g e) → IsAdjusted g h adjustments → (e : ℕ) → capacity h e ≡ unwrap_or (last_level e adjustments) (first_capacity h e)

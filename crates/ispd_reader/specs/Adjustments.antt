@@ -1,12 +1,12 @@
 -- The adjustments of single edges.
-use Rattle.std.specs.Prelude.{ℕ, ◌-◌, ◌==◌, min, List, [], ◌∷◌, length, if◌then◌else◌, ℤ, Option, None, Some, Ok}
-use Rattle.std.specs.Option.{option_or}
+use Rattle.std.specs.Prelude.{ℕ, ◌-◌, ◌==◌, min, List, [], ◌∷◌, length, if◌then◌else◌, ℤ, Option, None, Some, Ok, option_map}
+use Rattle.std.specs.Option.{option_or, option_zip}
 use Rattle.grid_base.specs.declared.place.Place.{Place}
 use Rattle.grid_base.specs.declared.axis.Axis.TheVariants.{X, Y}
 use Rattle.grid_base.specs.Numbers.{distance, edge_along}
 use Rattle.ispd_reader.specs.declared.input_fault.InputFault.TheVariants.{AdjustmentPlace}
 use Rattle.ispd_reader.specs.Limits.{max_adjustments}
-use Rattle.ispd_reader.specs.Parsing.{Reading, Read, ◌>>=◌, or_refuse, parts_at}
+use Rattle.ispd_reader.specs.Parsing.{Reading, InputRead, ◌>>=◌, or_refuse, parts_at}
 use Rattle.ispd_reader.specs.Numbers.{number_at, capacity_at, count_at}
 use Rattle.text_scan.specs.Reading.{tokens_left, past_blanks}
 use Rattle.text_scan.specs.Within.{within}
@@ -18,16 +18,10 @@ pub record Adjustment : Type 0 where
   pub edge : Option ℕ
   pub level : ℕ
 
--- a column, a row and a layer, where all three are there; layers count from 1 in the text
-abbrev pub place_where : Option ℕ → Option ℕ → Option ℕ → Option Place
-place_where None row layer = None
-place_where (Some col) None layer = None
-place_where (Some col) (Some row) None = None
-place_where (Some col) (Some row) (Some layer) = Some (record { col = col; row = row; layer = layer - 1 })
-
--- the tile at these numbers, where it is inside the grid
+-- the tile at these numbers, where it is inside the grid; layers count from 1 in the text
 unfoldable pub place_in : Extent → ℤ → ℤ → ℤ → Option Place
-place_in e col row layer = place_where (within 0 (e.cols - 1) col) (within 0 (e.rows - 1) row) (within 1 e.layers layer)
+place_in e col row layer = option_map (λ x. record { col = x.0.0; row = x.0.1; layer = x.1 - 1 })
+    (option_zip (option_zip (within 0 (e.cols - 1) col) (within 0 (e.rows - 1) row)) (within 1 e.layers layer))
 
 -- the number of the edge between two neighbouring tiles, none between two layers
 unfoldable pub edge_between : Extent → Place → Place → Option ℕ
@@ -44,7 +38,7 @@ step_between e (Some a) None = None
 step_between e (Some a) (Some b) = if distance a b == 1 then Some (edge_between e a b) else None
 
 -- a tile of an adjustment: column, row, layer, and the place of the layer's token
-unfoldable pub tile_place_at : Extent → Reading → Read (Option Place × ℕ)
+unfoldable pub tile_place_at : Extent → Reading → InputRead (Option Place × ℕ)
 tile_place_at e r = do
   col ← number_at r
   row ← number_at col.1
@@ -52,7 +46,7 @@ tile_place_at e r = do
   Ok ((place_in e col.0.value row.0.value layer.0.value, layer.0.at), layer.1)
 
 -- an adjustment: two tiles and the level; adjustments count from 0
-unfoldable pub adjustment_at : Extent → ℕ → Reading → Read Adjustment
+unfoldable pub adjustment_at : Extent → ℕ → Reading → InputRead Adjustment
 adjustment_at e index r = do
   from ← tile_place_at e r
   to ← tile_place_at e from.1
@@ -61,7 +55,7 @@ adjustment_at e index r = do
   Ok (record { edge = edge; level = level.0 }, level.1)
 
 -- how many adjustments, and the adjustments; none where no token is left
-unfoldable pub adjustments_at : Extent → Reading → Read (List Adjustment)
+unfoldable pub adjustments_at : Extent → Reading → InputRead (List Adjustment)
 adjustments_at e r = if length (tokens_left r) == 0 then Ok ([], past_blanks r) else do
   count ← count_at max_adjustments (past_blanks r)
   parts_at (adjustment_at e) 0 count.0 count.1

@@ -5,19 +5,19 @@ use Rattle.ispd_reader.specs.declared.input_fault.InputFault.TheVariants.{Syntax
 use Rattle.ispd_reader.specs.declared.wanted.Wanted.{Wanted}
 
 -- its number
-abbrev pub number_of : InputFault → ℕ
-number_of (Syntax at wanted) = 11
-number_of (Range at) = 12
-number_of TooLong = 13
-number_of (GridSize at) = 14
-number_of (TileSize at) = 15
-number_of (CapacityLimit at) = 16
-number_of (WidthLimit at) = 17
-number_of (NetLimit at) = 18
-number_of (DuplicateId at id) = 19
-number_of (PinOutside at id pin) = 20
-number_of (PinLayer at id pin) = 21
-number_of (AdjustmentPlace at index) = 22
+abbrev pub input_fault_number : InputFault → ℕ
+input_fault_number (Syntax at wanted) = 11
+input_fault_number (Range at) = 12
+input_fault_number TooLong = 13
+input_fault_number (GridSize at) = 14
+input_fault_number (TileSize at) = 15
+input_fault_number (CapacityLimit at) = 16
+input_fault_number (WidthLimit at) = 17
+input_fault_number (NetLimit at) = 18
+input_fault_number (DuplicateId at id) = 19
+input_fault_number (PinOutside at id pin) = 20
+input_fault_number (PinLayer at id pin) = 21
+input_fault_number (AdjustmentPlace at index) = 22
 
 -- what it names by number: its place, and then what stands at fault there
 abbrev pub fields_of : InputFault → List ℕ

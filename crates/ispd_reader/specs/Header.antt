@@ -4,7 +4,7 @@ use Rattle.grid_base.specs.Limits.{max_layers, max_vertices}
 use Rattle.ispd_reader.specs.declared.input_fault.InputFault.TheVariants.{GridSize}
 use Rattle.ispd_reader.specs.declared.wanted.Wanted.{Wanted}
 use Rattle.ispd_reader.specs.declared.wanted.Wanted.TheVariants as wanted
-use Rattle.ispd_reader.specs.Parsing.{Reading, Read, ◌>>=◌, or_refuse, parts_at}
+use Rattle.ispd_reader.specs.Parsing.{Reading, InputRead, ◌>>=◌, or_refuse, parts_at}
 use Rattle.ispd_reader.specs.Numbers.{word_at, number_at, capacity_at, width_at, spacing_at, side_at}
 
 -- the size of a grid
@@ -39,7 +39,7 @@ extent_of cols rows layers =
     if is_size extent then Some extent else None
 
 -- `grid`, columns, rows, layers
-unfoldable pub extent_at : Reading → Read Extent
+unfoldable pub extent_at : Reading → InputRead Extent
 extent_at r = do
   word ← word_at wanted.Grid r
   cols ← number_at word.1
@@ -49,28 +49,28 @@ extent_at r = do
   Ok (extent, layers.1)
 
 -- `vertical` or `horizontal`, `capacity`, a capacity per layer
-unfoldable pub capacities_at : Wanted → ℕ → Reading → Read (List ℕ)
+unfoldable pub capacities_at : Wanted → ℕ → Reading → InputRead (List ℕ)
 capacities_at direction layers r = do
   word ← word_at direction r
   word ← word_at wanted.Capacity word.1
   parts_at (λ _. capacity_at) 0 layers word.1
 
 -- `minimum`, `width`, a width per layer
-unfoldable pub widths_at : ℕ → Reading → Read (List ℕ)
+unfoldable pub widths_at : ℕ → Reading → InputRead (List ℕ)
 widths_at layers r = do
   word ← word_at wanted.Minimum r
   word ← word_at wanted.Width word.1
   parts_at (λ _. width_at) 0 layers word.1
 
 -- `minimum`, `spacing`, a spacing per layer, for layers of these widths
-unfoldable pub spacings_at : List ℕ → Reading → Read (List ℕ)
+unfoldable pub spacings_at : List ℕ → Reading → InputRead (List ℕ)
 spacings_at widths r = do
   word ← word_at wanted.Minimum r
   word ← word_at wanted.Spacing word.1
   parts_at (λ layer. spacing_at (slice_index widths layer)) 0 (length widths) word.1
 
 -- `via`, `spacing`, a number per layer, which is not used
-unfoldable pub vias_at : ℕ → Reading → Read (Unit {0})
+unfoldable pub vias_at : ℕ → Reading → InputRead (Unit {0})
 vias_at layers r = do
   word ← word_at wanted.Via r
   word ← word_at wanted.Spacing word.1
@@ -78,21 +78,21 @@ vias_at layers r = do
   Ok (tt, unused.1)
 
 -- the lower left corner: x, y
-unfoldable pub origin_at : Reading → Read (ℤ × ℤ)
+unfoldable pub origin_at : Reading → InputRead (ℤ × ℤ)
 origin_at r = do
   x ← number_at r
   y ← number_at x.1
   Ok ((x.0.value, y.0.value), y.1)
 
 -- the size of a tile: width, height
-unfoldable pub tile_at : Reading → Read (ℤ × ℤ)
-tile_at r = do
+unfoldable pub tile_size_at : Reading → InputRead (ℤ × ℤ)
+tile_size_at r = do
   width ← side_at r
   height ← side_at width.1
   Ok ((width.0, height.0), height.1)
 
 -- all that stands before the nets
-unfoldable pub header_at : Reading → Read Header
+unfoldable pub header_at : Reading → InputRead Header
 header_at r = do
   extent ← extent_at r
   vertical ← capacities_at wanted.Vertical extent.0.layers extent.1
@@ -101,5 +101,5 @@ header_at r = do
   spacings ← spacings_at widths.0 widths.1
   vias ← vias_at extent.0.layers spacings.1
   origin ← origin_at vias.1
-  tile ← tile_at origin.1
+  tile ← tile_size_at origin.1
   Ok (record { extent = extent.0; vertical = vertical.0; horizontal = horizontal.0; widths = widths.0; spacings = spacings.0; origin = origin.0; tile = tile.0 }, tile.1)

@@ -1,3 +1,4 @@
+pub use Rattle.grid_graph.specs.Alike
 pub use Rattle.grid_graph.specs.Grids
 pub use Rattle.grid_graph.specs.Tiles
 pub use Rattle.text_scan.specs.Tokens
@@ -13,4 +14,3 @@ pub mod Adjustments
 pub mod Views
 pub mod Adjusted
 pub mod Designs
-pub mod Alike

@@ -4,7 +4,7 @@ use Rattle.grid_graph.specs.Limits.{max_demand, max_id, max_nets, max_pins}
 use Rattle.grid_graph.specs.Tiles.{tile_index}
 use Rattle.ispd_reader.specs.declared.input_fault.InputFault.TheVariants.{Range, WidthLimit, DuplicateId, PinOutside, PinLayer}
 use Rattle.ispd_reader.specs.declared.wanted.Wanted.TheVariants as wanted
-use Rattle.ispd_reader.specs.Parsing.{Reading, Read, ◌>>=◌, or_refuse, parts_at}
+use Rattle.ispd_reader.specs.Parsing.{Reading, InputRead, ◌>>=◌, or_refuse, parts_at}
 use Rattle.ispd_reader.specs.Numbers.{word_at, name_at, number_at, number_within, count_at}
 use Rattle.text_scan.specs.Within.{within}
 use Rattle.ispd_reader.specs.Header.{Extent, Header}
@@ -26,26 +26,26 @@ without_repeats [] = []
 without_repeats (v ∷ vs) = v ∷ filter (λ w. not (w == v)) (without_repeats vs)
 
 -- the greatest of the layers' spacings
-abbrev pub greatest : List ℕ → ℕ
-greatest spacings = fold max 0 spacings
+abbrev pub widest_spacing : List ℕ → ℕ
+widest_spacing spacings = fold max 0 spacings
 
 -- the id of a net: a number of 32 bits that is not taken
-unfoldable pub id_at : (ℕ → Bool) → Reading → Read ℕ
+unfoldable pub id_at : (ℕ → Bool) → Reading → InputRead ℕ
 id_at taken r = do
   number ← number_at r
   id ← or_refuse (within 0 max_id number.0.value) (Range number.0.at)
   if taken id then Err (DuplicateId number.0.at id) else Ok (id, number.1)
 
 -- the width of a net: with the greatest spacing it is at most the greatest demand
-abbrev pub net_width_at : Header → Reading → Read ℕ
-net_width_at header = number_within 0 (max_demand - greatest header.spacings) WidthLimit
+abbrev pub net_width_at : Header → Reading → InputRead ℕ
+net_width_at header = number_within 0 (max_demand - widest_spacing header.spacings) WidthLimit
 
 -- the tile of a position along one axis, where it is inside the grid: the upper border belongs to the last tile
 unfoldable pub tile_along : ℤ → ℤ → ℕ → ℤ → Option ℕ
 tile_along origin tile count position = tile_index origin tile count position
 
 -- a pin of a net, as the vertex of its tile: x, y, layer
-unfoldable pub pin_at : Header → ℕ → ℕ → Reading → Read ℕ
+unfoldable pub pin_at : Header → ℕ → ℕ → Reading → InputRead ℕ
 pin_at header id pin r = do
   x ← number_at r
   col ← or_refuse (tile_along header.origin.0 header.tile.0 header.extent.cols x.0.value) (PinOutside x.0.at id pin)
@@ -56,11 +56,11 @@ pin_at header id pin r = do
   Ok (vertex_at header.extent col row (level - 1), layer.1)
 
 -- so many pins, which count from 0 within their net
-unfoldable pub pins_at : Header → ℕ → ℕ → Reading → Read (List ℕ)
+unfoldable pub pins_at : Header → ℕ → ℕ → Reading → InputRead (List ℕ)
 pins_at header id count r = parts_at (pin_at header id) 0 count r
 
 -- a net, where these ids are taken and there are so many pins, and how many pins there are with it
-unfoldable pub net_at : Header → (ℕ → Bool) → ℕ → Reading → Read (Net × ℕ)
+unfoldable pub net_at : Header → (ℕ → Bool) → ℕ → Reading → InputRead (Net × ℕ)
 net_at header taken pins r = do
   name ← name_at r
   id ← id_at taken name.1
@@ -70,7 +70,7 @@ net_at header taken pins r = do
   Ok ((record { id = id.0; name = name.0; width = width.0; terminals = without_repeats places.0 }, pins + count.0), places.1)
 
 -- so many nets, where these ids are taken and there are so many pins
-unfoldable pub more_nets_at : Header → (ℕ → Bool) → ℕ → ℕ → Reading → Read (List Net)
+unfoldable pub more_nets_at : Header → (ℕ → Bool) → ℕ → ℕ → Reading → InputRead (List Net)
 more_nets_at header taken pins zero r = Ok ([], r)
 more_nets_at header taken pins (suc n) r = do
   net ← net_at header taken pins r
@@ -78,7 +78,7 @@ more_nets_at header taken pins (suc n) r = do
   Ok (net.0.0 ∷ more.0, more.1)
 
 -- `num`, `net`, how many nets, and the nets
-unfoldable pub nets_at : Header → Reading → Read (List Net)
+unfoldable pub nets_at : Header → Reading → InputRead (List Net)
 nets_at header r = do
   word ← word_at wanted.Num r
   word ← word_at wanted.Net word.1

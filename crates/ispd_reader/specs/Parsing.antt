@@ -8,8 +8,8 @@ use Rattle.ispd_reader.specs.declared.input_error.InputError.{InputError}
 use Rattle.ispd_reader.specs.declared.input_error.InputError.TheVariants.{Input, NoMemory}
 
 -- what reading a part answers: its value and how far the text is read then, or the first refusal
-abbrev pub Read : Type 0 → Type 0
-Read Value = parts.Read Reading InputFault Value
+abbrev pub InputRead : Type 0 → Type 0
+InputRead Value = parts.Read Reading InputFault Value
 
 -- the refusal that an error says; none for want of memory
 abbrev pub refusal_in : InputError → Option InputFault

@@ -3,7 +3,7 @@
 ghost use Rattle.std.specs.Prelude.{◌≡◌, IfOk, option_map};
 ghost use Rattle.grid_graph.specs.Layouts.{IsPosition, IsTileSize, IsGridParts, layout_of_parts};
 ghost use Rattle.ispd_reader.specs.Parsing.{IsReadAs, refusal_in};
-ghost use Rattle.ispd_reader.specs.Header.{extent_of, extent_at, origin_at, tile_at, header_at};
+ghost use Rattle.ispd_reader.specs.Header.{extent_of, extent_at, origin_at, tile_size_at, header_at};
 ghost use Rattle.ispd_reader.specs.Views.{extent_of_size, header_of};
 
 use crate::fields::side;
@@ -54,9 +54,9 @@ fn origin(scanner: &mut Scanner<'_>) -> Result<(i64, i64), InputError>
 }
 
 /// The size of a tile.
-#[tactic(auto, unfolding(crate::specs::Header::tile_at))]
+#[tactic(auto, unfolding(crate::specs::Header::tile_size_at))]
 fn tile(scanner: &mut Scanner<'_>) -> Result<(i64, i64), InputError>
-    ensures tile { IsReadAs refusal_in (λ x. x) result scanner.new (tile_at scanner.old) }
+    ensures tile { IsReadAs refusal_in (λ x. x) result scanner.new (tile_size_at scanner.old) }
     ensures width { IfOk result (λ x. IsTileSize x.0) }
     ensures height { IfOk result (λ x. IsTileSize x.1) }
 {

@@ -1,7 +1,7 @@
 //! Why a text is no design.
 
 ghost use Rattle.std.specs.Prelude.{◌≡◌};
-ghost use Rattle.ispd_reader.specs.Faults.{number_of, fields_of, wanted_of};
+ghost use Rattle.ispd_reader.specs.Faults.{input_fault_number, fields_of, wanted_of};
 
 use crate::fault_fields::FaultFields;
 use crate::wanted::Wanted;
@@ -53,7 +53,7 @@ pub enum InputFault {
 impl InputFault {
     /// Its number, 11 to 22 in the order above.
     pub fn number(self) -> u32
-        ensures { result ≡ number_of self }
+        ensures { result ≡ input_fault_number self }
     {
         match self {
             InputFault::Syntax { .. } => 11,

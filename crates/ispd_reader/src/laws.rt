@@ -5,7 +5,7 @@ ghost use Rattle.std.specs.Prelude.{◌≤◌, ℕ, List, All, IsTrue};
 ghost use Rattle.text_scan.specs.Tokens.{is_word};
 ghost use Rattle.grid_graph.specs.declared.design.Design.{Design};
 ghost use Rattle.grid_graph.specs.Limits.{max_id};
-ghost use Rattle.ispd_reader.specs.Alike.{AreAlikeDesigns};
+ghost use Rattle.grid_graph.specs.Alike.{AreAlikeDesigns};
 ghost use Rattle.ispd_reader.specs.Designs.{IsDesignOfText};
 
 /// The name of each net of a design that a text names is a token, and its id is a number of 32 bits.

@@ -7,7 +7,7 @@ ghost use Rattle.grid_graph.specs.Grids.{layout_of, IsNetWidth};
 ghost use Rattle.grid_graph.specs.Limits.{max_id};
 ghost use Rattle.grid_graph.specs.Nets.{IsNet, IsDesign};
 ghost use Rattle.ispd_reader.specs.Parsing.{IsReadAs, refusal_in};
-ghost use Rattle.ispd_reader.specs.Nets.{id_at, greatest, net_width_at, net_at, nets_at};
+ghost use Rattle.ispd_reader.specs.Nets.{id_at, widest_spacing, net_width_at, net_at, nets_at};
 ghost use Rattle.ispd_reader.specs.Views.{header_of, net_of, nets_of};
 
 use crate::fields::count;
@@ -54,7 +54,7 @@ fn net_width(scanner: &mut Scanner<'_>, grid: &Grid) -> Result<u32, InputError>
 
 /// The greatest spacing of a layer.
 fn greatest_spacing(grid: &Grid) -> u32
-    ensures value { result ≡ greatest (layout_of grid.now).spacings }
+    ensures value { result ≡ widest_spacing (layout_of grid.now).spacings }
     ensures limit { result ≤ MAX_DEMAND }
 {
     let mut spacing = 0;

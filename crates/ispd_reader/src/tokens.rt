@@ -4,7 +4,7 @@ ghost use Rattle.std.specs.Prelude.{◌≡◌, ◌≤◌, length, IfOk};
 ghost use Rattle.text_scan.specs.Tokens as text;
 ghost use Rattle.grid_graph.specs.Layouts.{IsPosition};
 ghost use Rattle.ispd_reader.specs.Parsing.{IsReadAs, refusal_in};
-ghost use Rattle.ispd_reader.specs.Numbers.{token_at, word_at, name_at, number_at};
+ghost use Rattle.ispd_reader.specs.Numbers.{wanted_token, word_at, name_at, number_at};
 
 use crate::input_error::InputError;
 use crate::input_fault::InputFault;
@@ -14,7 +14,7 @@ use text_scan::{Number, Scanner, Span};
 
 /// The next token, whatever it is; where there is none, this word is missing.
 fn token(scanner: &mut Scanner<'_>, wanted: Wanted) -> Result<Span, InputError>
-    ensures token { IsReadAs refusal_in (text.token_at scanner.old.text) result scanner.new (token_at wanted scanner.old) }
+    ensures token { IsReadAs refusal_in (text.token_at scanner.old.text) result scanner.new (wanted_token wanted scanner.old) }
     ensures bounds { IfOk result (λ span. (span.start ≤ span.end) × (span.end ≤ length scanner.old.text)) }
     ensures text { scanner.new.text ≡ scanner.old.text }
 {

@@ -1,50 +1,27 @@
 -- The segments that are written for a set name its pieces and no others.
-use Rattle.std.proofs.Common.{◌≡◌, ℕ, ◌+◌, ◌*◌, ◌<◌, true, List, ◌++◌, Contains, refl, sym, ◌∙◌, ap, subst, ⊎_elim}
+use Rattle.std.proofs.Common.{◌≡◌, ℕ, ◌+◌, ◌*◌, ◌<◌, List, ◌++◌, Contains, refl, sym, ◌∙◌, ap, subst, ⊎_elim}
 use Rattle.std.specs.Prelude.{filter, ◌↔◌}
 use Rattle.std.proofs.lemmas.List.Elements.{All-contains, Contains-append_left, Contains-append_right, Contains-append_cases}
 use Rattle.grid_base.specs.declared.axis.Axis.{Axis}
 use Rattle.grid_base.specs.declared.axis.Axis.TheVariants.{X, Y}
 use Rattle.grid_base.specs.declared.piece.Piece.{Piece}
-use Rattle.grid_base.specs.declared.piece.Piece.TheVariants.{Edge, Via}
 use Rattle.grid_base.specs.declared.size.Size.{Size}
-use Rattle.grid_base.specs.Lines.{AreInLine, is_along, edge_from, step}
-use Rattle.grid_base.specs.Numbers.{IsPiece, IsVertex, start_of, end_of, place_at, to_next_layer}
+use Rattle.grid_base.specs.Lines.{AreInLine, is_along, edge_from, stride}
+use Rattle.grid_base.specs.Numbers.{IsPiece, start_of, end_of, place_at, to_next_layer}
 use Rattle.grid_base.proofs.Chosen.{Contains-filter, left_by_filter, Contains-map, made_by_map}
-use Rattle.grid_base.proofs.Lines.{IsLine, GoesBetween, no_steps, moved, moved-in_line, above, above-in_line, place_on_line, vertex_on_line, edge_on_line, only_on_line, only_via, via_between}
-use Rattle.grid_base.proofs.Pieces.{one_from_start, place_at-end_of, end_of-vertex}
+use Rattle.grid_base.proofs.Lines.{GoesBetween, moved, moved-in_line, above-in_line, edge_on_line, only_on_line, only_via, via_between, via_place}
+use Rattle.grid_base.proofs.Pieces.{one_from_start, end_of-vertex}
 use Rattle.grid_graph.specs.declared.grid.Grid.{Grid}
 use Rattle.grid_graph.specs.declared.net_spec.NetSpec.{NetSpec}
 use Rattle.grid_graph.specs.Grids.{size_of}
 use Rattle.tree_set.specs.Order.{IsRising}
 use Rattle.tree_set.specs.Routings.{ArePieces}
 use Rattle.tree_set.specs.Runs.{IsLongestRun, is_via, runs, vias}
-use Rattle.tree_set.proofs.Runs.{runs_are_longest, edge_lies_on_run}
-use Rattle.tree_set.proofs.Ways.{held-vertex}
+use Rattle.tree_set.proofs.Runs.{run_line, run_ends, runs_are_longest, edge_lies_on_run, via_is}
 use Rattle.route_text.specs.BlockPieces.{LiesOn, IsPieceOf}
 use Rattle.route_text.specs.Segments.{segments}
 use Rattle.route_text.specs.Written.{written_segment, written_block}
 use Rattle.route_text.proofs.Places.{lies_between, lies_on}
-
--- the two ends of a run are vertices in line
-record RunEnds (s : Size) (axis : Axis) (ends : ℕ × ℕ) (long : ℕ) : Type 0 where
-  start : IsVertex s ends.0
-  end : IsVertex s ends.1
-  place : place_at s ends.1 ≡ moved axis long (place_at s ends.0)
-
-run_line : {s : Size} {axis : Axis} {tree : List Piece} {ends : ℕ × ℕ} (pieces : ArePieces s tree) (run : IsLongestRun s axis tree ends) → IsLine s axis ends.0 run.long
-run_line {s = s} {axis = axis} {tree = tree} {ends = ends} pieces run =
-    record { each = λ i below. All-contains (IsPiece s) tree (edge_from axis (ends.0 + i * step axis s)) pieces (run.held i below) }
-
-run_ends : (s : Size) (axis : Axis) (tree : List Piece) (ends : ℕ × ℕ) (pieces : ArePieces s tree) (run : IsLongestRun s axis tree ends) → RunEnds s axis ends run.long
-run_ends s axis tree ends pieces run =
-    let line : IsLine s axis ends.0 run.long = run_line pieces run in
-    let first : Contains tree (edge_from axis ends.0) = subst (λ u. Contains tree (edge_from axis u)) (no_steps ends.0 (step axis s)) (run.held 0 run.some) in
-    let start : IsVertex s ends.0 = held-vertex s axis tree ends.0 pieces first in
-    record {
-      start = start;
-      end = subst (IsVertex s) (sym run.end) (vertex_on_line s axis ends.0 run.long start line);
-      place = ap (place_at s) run.end ∙ place_on_line s axis ends.0 run.long line;
-    }
 
 -- a piece on the segment of a run is an edge of the set
 held_by_run : (g : Grid) (axis : Axis) (tree : List Piece) (ends : ℕ × ℕ) (p : Piece) → ArePieces (size_of g) tree → IsLongestRun (size_of g) axis tree ends → LiesOn g (written_segment g ends) p → Contains tree p
@@ -57,22 +34,14 @@ held_by_run g axis tree ends p pieces run lies =
     subst (Contains tree) (sym on.2) (run.held on.0 on.1)
 
 -- and each edge of a run lies on its segment
-lies_on_run : (g : Grid) (axis : Axis) (tree : List Piece) (ends : ℕ × ℕ) (pieces : ArePieces (size_of g) tree) (run : IsLongestRun (size_of g) axis tree ends) (i : ℕ) → i < run.long → LiesOn g (written_segment g ends) (edge_from axis (ends.0 + i * step axis (size_of g)))
+lies_on_run : (g : Grid) (axis : Axis) (tree : List Piece) (ends : ℕ × ℕ) (pieces : ArePieces (size_of g) tree) (run : IsLongestRun (size_of g) axis tree ends) (i : ℕ) → i < run.long → LiesOn g (written_segment g ends) (edge_from axis (ends.0 + i * stride axis (size_of g)))
 lies_on_run g axis tree ends pieces run i below =
     let s = (size_of g) in
     let at = run_ends s axis tree ends pieces run in
-    let edge = edge_from axis (ends.0 + i * step axis s) in
+    let edge = edge_from axis (ends.0 + i * stride axis s) in
     lies_on g ends.0 ends.1 edge at.start at.end
     (subst (AreInLine (place_at s ends.0)) (sym at.place) (moved-in_line axis run.long (place_at s ends.0)))
     (subst (λ q. GoesBetween s (place_at s ends.0) q edge) (sym at.place) (edge_on_line s axis ends.0 run.long i (run_line pieces run) below))
-
--- a via goes to the place above its start
-via_place : (s : Size) (v : ℕ) → IsPiece s (to_next_layer v) → place_at s (end_of s (to_next_layer v)) ≡ above (place_at s v)
-via_place s v piece = place_at-end_of s (to_next_layer v) piece
-
-via_is : (p : Piece) → is_via p ≡ true → p ≡ to_next_layer (start_of p)
-via_is (Edge e) is = cc
-via_is (Via v) is = refl
 
 -- a piece on the segment of a via is that via
 only_via_on : (g : Grid) (v : ℕ) (p : Piece) → IsPiece (size_of g) (to_next_layer v) → LiesOn g (written_segment g (v, end_of (size_of g) (to_next_layer v))) p → p ≡ to_next_layer v
@@ -127,19 +96,16 @@ edge_is_on_run g axis tree v up pieces held =
       subst (λ u. LiesOn g (written_segment g on.ends) (edge_from axis u)) on.there (lies_on_run g axis tree on.ends pieces on.longest on.steps on.below),
     )
 
+-- a run is one of the segments
+run_is_segment : (s : Size) (axis : Axis) (tree : List Piece) (ends : ℕ × ℕ) → Contains (runs s (filter (is_along axis) tree)) ends → Contains (segments s tree) ends
+run_is_segment s axis tree ends run =
+    let xs = runs s (filter (is_along X) tree) in
+    let ys = runs s (filter (is_along Y) tree) in
+    Contains-append_left (xs ++ ys) (vias s tree) ends (elim axis as (λ a. Contains (runs s (filter (is_along a) tree)) ends → Contains (xs ++ ys) ends) [ X ↦ Contains-append_left xs ys ends | Y ↦ Contains-append_right xs ys ends ] run)
+
 edge_is_named : (g : Grid) (axis : Axis) (tree : List Piece) (v : ℕ) → IsRising tree → ArePieces (size_of g) tree → Contains tree (edge_from axis v) → IsNamed g tree (edge_from axis v)
-edge_is_named g X tree v up pieces held =
-    let s = (size_of g) in
-    let xs = runs s (filter (is_along X) tree) in
-    let ys = runs s (filter (is_along Y) tree) in
-    let on = edge_is_on_run g X tree v up pieces held in
-    (on.0, Contains-append_left (xs ++ ys) (vias s tree) on.0 (Contains-append_left xs ys on.0 on.1), on.2)
-edge_is_named g Y tree v up pieces held =
-    let s = (size_of g) in
-    let xs = runs s (filter (is_along X) tree) in
-    let ys = runs s (filter (is_along Y) tree) in
-    let on = edge_is_on_run g Y tree v up pieces held in
-    (on.0, Contains-append_left (xs ++ ys) (vias s tree) on.0 (Contains-append_right xs ys on.0 on.1), on.2)
+edge_is_named g axis tree v up pieces held =
+    let on = edge_is_on_run g axis tree v up pieces held in (on.0, run_is_segment (size_of g) axis tree on.0 on.1, on.2)
 
 via_is_named : (g : Grid) (tree : List Piece) (v : ℕ) → ArePieces (size_of g) tree → Contains tree (to_next_layer v) → IsNamed g tree (to_next_layer v)
 via_is_named g tree v pieces held =

@@ -17,7 +17,7 @@ use Rattle.text_scan.specs.Reading.{Reading, whole, left, past_token, is_next, p
 use Rattle.text_scan.proofs.Texts.{Leads, leads-then, next_is_first, left_past_blanks, left_past_token, word_is_next, byte_is_next, other_is_next, word_is_left, gap_is_left, number_is_word, within_them, parts_lead}
 use Rattle.text_scan.proofs.Words.{printed_number}
 use Rattle.tree_set.specs.Routings.{ArePieces}
-use Rattle.route_text.specs.Blocks.{segment_at, segments_at, further_at, begins_number, name_at, block_at, blocks_of, is_over, token_number_at}
+use Rattle.route_text.specs.Blocks.{segment_at, segments_at, further_at, begins_number, block_name_at, block_at, blocks_of, is_at_end, token_number_at}
 use Rattle.route_text.specs.ReadBack.{IsNamed}
 use Rattle.route_text.specs.RouteText.{segment_text, net_text, routes_text}
 use Rattle.route_text.specs.Segments.{segments}
@@ -27,7 +27,7 @@ use Rattle.tree_set.proofs.Runs.{AreEnds}
 use Rattle.route_text.proofs.Takes.{next_segment_takes, next_block_takes}
 
 -- a name before a blank is read
-name_leads : (r : Reading) (name rest : List ℕ) → is_word name ≡ true → ends_word rest ≡ true → left r ≡ name ++ rest → Leads (name_at r) name rest
+name_leads : (r : Reading) (name rest : List ℕ) → is_word name ≡ true → ends_word rest ≡ true → left r ≡ name ++ rest → Leads (block_name_at r) name rest
 name_leads r name rest is ends here = record {
   after = past_token r;
   reads = rw (word_is_next r [] name rest refl is here ends) refl;
@@ -95,7 +95,7 @@ block_leads g x borders is r rest here =
     record { after = r4; reads = refl; leaves = here4 }))))
 
 block_reads_back : (g : Grid) → HasBordersInRange g → (x : NetSpec × List Piece) → IsWritten g x → (r : Reading) (gap rest : List ℕ) → is_gap gap ≡ true → left r ≡ gap ++ (net_text g x.0 x.1 ++ rest) →
-    (is_over r ≡ false) × Leads (block_at (past_blanks r)) (written_block g x.0 x.1) (10 ∷ rest)
+    (is_at_end r ≡ false) × Leads (block_at (past_blanks r)) (written_block g x.0 x.1) (10 ∷ rest)
 block_reads_back g borders x is r gap rest blank here =
     let parts = here ∙ ap (λ bytes. gap ++ bytes) (block_parts x.0.name (decimal x.0.id) (flat_map (segment_text g) (segments (size_of g) x.1)) rest) in (
       word_is_left r gap x.0.name _ blank is.named.name parts,
@@ -112,6 +112,6 @@ pairs_written g nets trees named pieces k d below =
 -- a written text is read back
 pub text_reads_back : (g : Grid) (nets : List NetSpec) (trees : List (List Piece)) → HasBordersInRange g → All IsNamed nets → All (ArePieces (size_of g)) trees → blocks_of (routes_text g nets trees) ≡ Ok (written_blocks g nets trees)
 text_reads_back g nets trees borders named pieces =
-    let blocks = parts_lead is_over past_blanks block_at next_block_takes (IsWritten g) (λ x. net_text g x.0 x.1) (λ x. written_block g x.0 x.1) (10 ∷ []) refl
+    let blocks = parts_lead is_at_end past_blanks block_at next_block_takes (IsWritten g) (λ x. net_text g x.0 x.1) (λ x. written_block g x.0 x.1) (10 ∷ []) refl
     (block_reads_back g borders) [] [] (λ q gap blank there. gap_is_left q gap blank there) (zip nets trees) (pairs_written g nets trees named pieces) (whole (routes_text g nets trees)) [] refl (sym (append-nil (routes_text g nets trees))) in
     rw blocks.reads refl

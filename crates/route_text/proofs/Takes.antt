@@ -1,15 +1,13 @@
 -- Each segment and each block takes a byte of the text at least.
-use Rattle.std.proofs.Common.{◌≡◌, ℕ, ◌≤◌, true, false, List, [], ◌∷◌, length, Result, Ok, Err, refl, ⊎_elim, arith, ℤ, pos, neg_ℤ}
+use Rattle.std.proofs.Common.{◌≡◌, ℕ, true, false, List, [], ◌∷◌, refl, ⊎_elim, arith, ℤ, pos, neg_ℤ}
 use Rattle.std.proofs.lemmas.Bool.{cases_Bool}
 use Rattle.grid_graph.specs.Limits.{max_id, max_number}
 use Rattle.text_scan.specs.Tokens.{Token}
-use Rattle.text_scan.specs.declared.number_fault.NumberFault.{NumberFault}
-use Rattle.text_scan.specs.Reading.{Reading, left, tokens_left, first_number, next_number, next_byte, is_next, past_blanks, past_token, past_number, past_byte}
-use Rattle.text_scan.proofs.Bounds.{Takes, takes-then, takes_some, parts_take}
+use Rattle.text_scan.specs.Reading.{Reading, tokens_left, first_number, next_number, next_byte, is_next, past_blanks, past_token, past_number, past_byte}
+use Rattle.text_scan.proofs.Bounds.{Takes, answer_takes, takes-then, takes_some, takes_behind, parts_take}
 use Rattle.text_scan.proofs.Blanks.{past_blanks-left, past_byte-left, past_byte-takes, past_number-left, past_token-left, past_token-takes}
 use Rattle.text_scan.specs.Faults.{fault_place}
-use Rattle.text_scan.specs.Parts.{◌>>=◌, refused_as}
-use Rattle.route_text.specs.Blocks.{mark_at, coordinate_at, token_number_at, point_at, segment_at, begins_number, further_at, name_at, block_at}
+use Rattle.route_text.specs.Blocks.{mark_at, coordinate_at, token_number_at, point_at, segment_at, begins_number, further_at, block_name_at, block_at}
 
 mark_takes : (b : ℕ) (r : Reading) → Takes 1 r (mark_at b r)
 mark_takes b r = ⊎_elim
@@ -17,15 +15,11 @@ mark_takes b r = ⊎_elim
     (λ (other : is_next b r ≡ false). rw other tt)
     (cases_Bool (is_next b r))
 
-number_takes : {A : Type 0} (answer : Result A NumberFault) (value : A → ℤ) (r after : Reading) → length (left after) ≤ length (left r) → Takes 0 r (refused_as fault_place answer >>= λ number. Ok (value number, after))
-number_takes (Ok number) value r after few = omega (arith, few)
-number_takes (Err fault) value r after few = tt
-
 coordinate_takes : (r : Reading) → Takes 0 r (coordinate_at r)
-coordinate_takes r = number_takes (next_number (neg_ℤ (pos max_number)) (pos max_number) r) (λ z. z) r (past_number r) (past_number-left r)
+coordinate_takes r = answer_takes fault_place (next_number (neg_ℤ (pos max_number)) (pos max_number) r) (λ z. z) r (past_number r) (past_number-left r)
 
 token_number_takes : (lo hi : ℤ) (r : Reading) → Takes 0 r (token_number_at lo hi r)
-token_number_takes lo hi r = number_takes (first_number lo hi r) (λ number. number.value) r (past_token r) (past_token-left r)
+token_number_takes lo hi r = answer_takes fault_place (first_number lo hi r) (λ number. number.value) r (past_token r) (past_token-left r)
 
 point_takes : (r : Reading) → Takes 1 r (point_at r)
 unfolding point_at
@@ -45,11 +39,6 @@ segment_takes r =
     takes-then 0 a.1 _ _ (takes_some a.1 _ (mark_takes 45 a.1)) (λ b.
     takes-then 0 b.1 _ _ (takes_some b.1 _ (point_takes b.1)) (λ c. omega arith)))
 
--- a part that is read behind what was passed over
-takes_behind : {A : Type 0} (r after : Reading) (read : Result (A × Reading) ℕ) → length (left after) ≤ length (left r) → Takes 1 after read → Takes 1 r read
-takes_behind r after (Ok x) few takes = omega (arith, few, takes)
-takes_behind r after (Err at) few takes = tt
-
 pub next_segment_takes : (r : Reading) → Takes 1 r (segment_at (past_byte 33 r))
 next_segment_takes r = takes_behind r (past_byte 33 r) _ (past_byte-left 33 r) (segment_takes (past_byte 33 r))
 
@@ -61,10 +50,10 @@ further_takes r = ⊎_elim
     (λ (other : begins_number (next_byte r) ≡ false). rw other (omega (arith, past_blanks-left r)))
     (cases_Bool (begins_number (next_byte r)))
 
-name_takes : (r : Reading) → Takes 1 r (name_at r)
+name_takes : (r : Reading) → Takes 1 r (block_name_at r)
 name_takes r = at (tokens_left r) refl
   where
-    at : (ts : List Token) → tokens_left r ≡ ts → Takes 1 r (name_at r)
+    at : (ts : List Token) → tokens_left r ≡ ts → Takes 1 r (block_name_at r)
     at [] none = rw none tt
     at (t ∷ ts) first = let takes = past_token-takes r t ts first in rw first (rw first at takes)
 

@@ -5,7 +5,7 @@ use Rattle.grid_base.specs.declared.place.Place.{Place}
 use Rattle.grid_base.specs.Lines.{AreInLine, IsBetween}
 use Rattle.grid_base.specs.Numbers.{IsPiece, layers, start_of, place_at, end_place}
 use Rattle.grid_graph.specs.declared.grid.Grid.{Grid}
-use Rattle.grid_graph.specs.Grids.{size_of, tile_of}
+use Rattle.grid_graph.specs.Grids.{size_of, tile_of_position}
 use Rattle.route_text.specs.declared.block.Block.{Block}
 use Rattle.route_text.specs.declared.point.Point.{Point}
 use Rattle.route_text.specs.declared.segment.Segment.{Segment}
@@ -15,14 +15,14 @@ abbrev pub layer_index : ℕ → ℤ → Option ℕ
 layer_index count number = cond (int_lt number (pos 1)) None (cond (int_lt (pos count) number) None (Some (nat_abs number - 1)))
 
 -- a tile and a layer, where there are both
-abbrev pub place_in : Option (ℕ × ℕ) → Option ℕ → Option Place
-place_in (Some tile) (Some layer) = Some (record { col = tile.0; row = tile.1; layer = layer })
-place_in (Some tile) None = None
-place_in None layer = None
+abbrev pub place_on_layer : Option (ℕ × ℕ) → Option ℕ → Option Place
+place_on_layer (Some tile) (Some layer) = Some (record { col = tile.0; row = tile.1; layer = layer })
+place_on_layer (Some tile) None = None
+place_on_layer None layer = None
 
 -- where a point lies: in the tile of its position, on its layer
 abbrev pub point_place : Grid → Point → Option Place
-point_place g point = place_in (tile_of g point.x point.y) (layer_index (layers (size_of g)) point.layer)
+point_place g point = place_on_layer (tile_of_position g point.x point.y) (layer_index (layers (size_of g)) point.layer)
 
 -- the ends of the segment are in line, and the piece goes from a place between them to a place between them
 pub record LiesOn (g : Grid) (segment : Segment) (piece : Piece) : Type 0 where

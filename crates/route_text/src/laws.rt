@@ -13,7 +13,7 @@ ghost use Rattle.tree_set.specs.Runs.{IsLongestRun, runs};
 ghost use Rattle.text_scan.specs.Reading.{Reading, left, past_blanks, is_next, past_byte};
 ghost use Rattle.text_scan.specs.Until.{parts_within};
 ghost use Rattle.route_text.specs.BlockPieces.{IsPieceOf};
-ghost use Rattle.route_text.specs.Blocks.{segment_at, segments_at, is_over, block_at, blocks_at, blocks_of};
+ghost use Rattle.route_text.specs.Blocks.{segment_at, segments_at, is_at_end, block_at, blocks_at, blocks_of};
 ghost use Rattle.grid_graph.specs.Borders.{HasBordersInRange};
 ghost use Rattle.grid_graph.specs.Grids.{size_of};
 ghost use Rattle.route_text.specs.ReadBack.{AreBlocksOf, IsNamed, IsSet};
@@ -30,7 +30,7 @@ pub fn written_routes_read_back()
 /// The bounds that the words for reading a text carry never decide what is read, since each segment and each block takes
 /// a byte at least: any bound above the number of bytes that are left reads the same.
 pub fn no_bound_decides()
-    ensures blocks { (r : Reading) (n : ℕ) → length (left r) < n → parts_within is_over past_blanks block_at n r ≡ blocks_at r }
+    ensures blocks { (r : Reading) (n : ℕ) → length (left r) < n → parts_within is_at_end past_blanks block_at n r ≡ blocks_at r }
     ensures segments { (r : Reading) (n : ℕ) → length (left r) < n → parts_within (is_next 33) (past_byte 33) segment_at n r ≡ segments_at r }
 {}
 

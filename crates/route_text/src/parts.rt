@@ -5,7 +5,7 @@ ghost use Rattle.grid_graph.specs.Layouts.{IsPosition};
 ghost use Rattle.text_scan.specs.Moves.{Moves};
 ghost use Rattle.route_text.specs.Blocks.{mark_at, coordinate_at, token_number_at, point_at, segment_at};
 ghost use Rattle.route_text.specs.ReadLimits.{IsPointInRange, IsSegmentInRange};
-ghost use Rattle.route_text.specs.Reads.{IsReadAs};
+ghost use Rattle.route_text.specs.Reads.{IsRouteReadAs};
 
 use crate::point::Point;
 use crate::route_error::RouteError;
@@ -15,7 +15,7 @@ use text_scan::Scanner;
 
 /// The byte `b`, after blanks.
 fn mark(scanner: &mut Scanner<'_>, b: u8) -> Result<(), RouteError>
-    ensures mark { IsReadAs (λ _. tt) result scanner.new (mark_at b scanner.old) }
+    ensures mark { IsRouteReadAs (λ _. tt) result scanner.new (mark_at b scanner.old) }
     ensures passed { IfOk result (λ _. Moves 1 scanner.old scanner.new) }
 {
     if scanner.mark(b) {
@@ -29,7 +29,7 @@ fn mark(scanner: &mut Scanner<'_>, b: u8) -> Result<(), RouteError>
 
 /// A number of a point, which may end without a blank.
 fn coordinate(scanner: &mut Scanner<'_>) -> Result<i64, RouteError>
-    ensures number { IsReadAs (λ x. x) result scanner.new (coordinate_at scanner.old) }
+    ensures number { IsRouteReadAs (λ x. x) result scanner.new (coordinate_at scanner.old) }
     ensures passed { IfOk result (λ _. Moves 1 scanner.old scanner.new) }
     ensures range { IfOk result (λ x. IsPosition x) }
 {
@@ -39,7 +39,7 @@ fn coordinate(scanner: &mut Scanner<'_>) -> Result<i64, RouteError>
 
 /// A number from `lo` to `hi` that is a whole token.
 pub(crate) fn token_number(scanner: &mut Scanner<'_>, lo: i64, hi: i64) -> Result<i64, RouteError>
-    ensures number { IsReadAs (λ x. x) result scanner.new (token_number_at lo hi scanner.old) }
+    ensures number { IsRouteReadAs (λ x. x) result scanner.new (token_number_at lo hi scanner.old) }
     ensures passed { IfOk result (λ _. Moves 1 scanner.old scanner.new) }
     ensures range { IfOk result (λ x. (lo ≤ℤ x) × (x ≤ℤ hi)) }
 {
@@ -49,7 +49,7 @@ pub(crate) fn token_number(scanner: &mut Scanner<'_>, lo: i64, hi: i64) -> Resul
 /// `(`, x, `,`, y, `,`, layer, `)`.
 #[tactic(auto, unfolding(crate::specs::Blocks::point_at))]
 fn point(scanner: &mut Scanner<'_>) -> Result<Point, RouteError>
-    ensures point { IsReadAs (λ p. p) result scanner.new (point_at scanner.old) }
+    ensures point { IsRouteReadAs (λ p. p) result scanner.new (point_at scanner.old) }
     ensures passed { IfOk result (λ _. Moves 1 scanner.old scanner.new) }
     ensures range { IfOk result IsPointInRange }
 {
@@ -66,7 +66,7 @@ fn point(scanner: &mut Scanner<'_>) -> Result<Point, RouteError>
 /// A point, `-`, a point.
 #[tactic(auto, unfolding(crate::specs::Blocks::segment_at))]
 pub(crate) fn segment(scanner: &mut Scanner<'_>) -> Result<Segment, RouteError>
-    ensures segment { IsReadAs (λ s. s) result scanner.new (segment_at scanner.old) }
+    ensures segment { IsRouteReadAs (λ s. s) result scanner.new (segment_at scanner.old) }
     ensures passed { IfOk result (λ _. Moves 1 scanner.old scanner.new) }
     ensures range { IfOk result IsSegmentInRange }
 {

@@ -3,9 +3,9 @@
 ghost use Rattle.std.specs.Prelude.{◌≡◌, ◌≤◌, ◌+◌, length, IfOk, IfErr};
 ghost use Rattle.std.specs.List.{All};
 ghost use Rattle.text_scan.specs.Moves.{Moves};
-ghost use Rattle.route_text.specs.Blocks.{begins_number, further_at, segments_at, name_at, block_at, blocks_of};
+ghost use Rattle.route_text.specs.Blocks.{begins_number, further_at, segments_at, block_name_at, block_at, blocks_of};
 ghost use Rattle.route_text.specs.ReadLimits.{IsSegmentInRange, IsBlockInRange, block_and_segment_count};
-ghost use Rattle.route_text.specs.Reads.{Refuses, IsReadAs};
+ghost use Rattle.route_text.specs.Reads.{RefusesRoute, IsRouteReadAs};
 
 use crate::block::Block;
 use crate::parts::{segment, token_number};
@@ -19,7 +19,7 @@ use text_scan::Scanner;
 /// The blocks of a route text.
 pub fn read_routes(alloc: Global, bytes: &[u8]) -> Result<Vec<Block>, RouteError>
     ensures blocks { IfOk result (λ blocks. blocks_of bytes.now ≡ Ok blocks.items) }
-    ensures refusal { IfErr result (λ e. Refuses e (blocks_of bytes.now)) }
+    ensures refusal { IfErr result (λ e. RefusesRoute e (blocks_of bytes.now)) }
     ensures range { IfOk result (λ blocks. All IsBlockInRange blocks.items) }
     ensures few { IfOk result (λ blocks. block_and_segment_count blocks.items ≤ length bytes.now) }
 {
@@ -34,7 +34,7 @@ pub fn read_routes(alloc: Global, bytes: &[u8]) -> Result<Vec<Block>, RouteError
 /// The next block.
 #[tactic(auto, unfolding(crate::specs::Blocks::block_at))]
 fn block(alloc: Global, scanner: &mut Scanner<'_>) -> Result<Block, RouteError>
-    ensures block { IsReadAs (λ b. b) result scanner.new (block_at scanner.old) }
+    ensures block { IsRouteReadAs (λ b. b) result scanner.new (block_at scanner.old) }
     ensures passed { IfOk result (λ b. Moves (1 + length b.segments) scanner.old scanner.new) }
     ensures range { IfOk result (λ b. IsBlockInRange b) }
 {
@@ -52,7 +52,7 @@ fn block(alloc: Global, scanner: &mut Scanner<'_>) -> Result<Block, RouteError>
 
 /// A name: any token.
 fn name<'a>(scanner: &mut Scanner<'a>) -> Result<&'a [u8], RouteError>
-    ensures name { IsReadAs (λ name. name.now) result scanner.new (name_at scanner.old) }
+    ensures name { IsRouteReadAs (λ name. name.now) result scanner.new (block_name_at scanner.old) }
     ensures passed { IfOk result (λ _. Moves 1 scanner.old scanner.new) }
 {
     match scanner.token() {
@@ -66,7 +66,7 @@ fn name<'a>(scanner: &mut Scanner<'a>) -> Result<&'a [u8], RouteError>
 /// The further number, where one follows: its value is ignored.
 #[tactic(auto, unfolding(crate::specs::Blocks::further_at))]
 fn further(scanner: &mut Scanner<'_>) -> Result<(), RouteError>
-    ensures further { IsReadAs (λ _. tt) result scanner.new (further_at scanner.old) }
+    ensures further { IsRouteReadAs (λ _. tt) result scanner.new (further_at scanner.old) }
     ensures passed { IfOk result (λ _. Moves 0 scanner.old scanner.new) }
 {
     if begins_number(scanner.peek()) {
@@ -86,7 +86,7 @@ fn begins_number(byte: Option<u8>) -> bool
 
 /// The segments up to the `!`, and the `!`.
 fn segments(alloc: Global, scanner: &mut Scanner<'_>) -> Result<Vec<Segment>, RouteError>
-    ensures segments { IsReadAs (λ s. s.items) result scanner.new (segments_at scanner.old) }
+    ensures segments { IsRouteReadAs (λ s. s.items) result scanner.new (segments_at scanner.old) }
     ensures passed { IfOk result (λ s. Moves (1 + length s.items) scanner.old scanner.new) }
     ensures range { IfOk result (λ s. All IsSegmentInRange s.items) }
 {

@@ -21,11 +21,11 @@ pub enum RouteError {
 }
 
 impl RouteError {
-    ghost use Rattle.route_text.specs.Faults.{number_of};
+    ghost use Rattle.route_text.specs.Faults.{route_error_number};
 
     /// The number of the refusal; none for want of memory.
     pub fn number(self) -> Option<u32>
-        ensures { result ≡ number_of self }
+        ensures { result ≡ route_error_number self }
     {
         match self {
             RouteError::Syntax { .. } => Some(31),

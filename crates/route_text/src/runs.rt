@@ -1,7 +1,7 @@
 //! The runs of edges in a set.
 
 ghost use Rattle.std.specs.Prelude.{◌≡◌, All, filter, IsTrue};
-ghost use Rattle.grid_base.specs.Lines.{is_along, step};
+ghost use Rattle.grid_base.specs.Lines.{is_along, stride};
 ghost use Rattle.grid_base.specs.Numbers.{IsPiece, IsVertex};
 ghost use Rattle.tree_set.specs.Order.{IsRising};
 ghost use Rattle.tree_set.specs.Runs.{begins_run, run_end};
@@ -21,7 +21,7 @@ pub(crate) fn is_along(piece: Piece, axis: Axis) -> bool
 
 /// By how much an edge along the axis raises the number of a vertex.
 fn step(size: &Size, axis: Axis) -> u32
-    ensures { result ≡ step axis size.now }
+    ensures { result ≡ stride axis size.now }
 {
     match axis {
         Axis::X => 1,

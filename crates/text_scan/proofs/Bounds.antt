@@ -1,9 +1,9 @@
 -- How many bytes reading a part takes, and parts up to an end, of which each takes one at least.
-use Rattle.std.proofs.Common.{◌≡◌, ℕ, zero, suc, ◌+◌, ◌-◌, ◌<◌, ◌≤◌, Bool, true, false, List, [], ◌∷◌, ◌++◌, length, Ok, Err, refl, sym, ap, ◌∙◌, ⊎_elim, arith, length-drop}
+use Rattle.std.proofs.Common.{◌≡◌, ℕ, zero, suc, ◌+◌, ◌-◌, ◌<◌, ◌≤◌, Bool, true, false, List, [], ◌∷◌, ◌++◌, length, Result, Ok, Err, refl, sym, ap, ◌∙◌, ⊎_elim, arith, length-drop}
 use Rattle.std.specs.Prelude.{IfOk}
 use Rattle.std.proofs.lemmas.Bool.{cases_Bool}
 use Rattle.std.proofs.lemmas.List.{append-nil}
-use Rattle.text_scan.specs.Parts.{Read, ◌>>=◌}
+use Rattle.text_scan.specs.Parts.{Read, ◌>>=◌, refused_as}
 use Rattle.text_scan.specs.Reading.{Reading, left, past}
 use Rattle.text_scan.specs.Until.{parts_within, parts_until}
 use Rattle.text_scan.proofs.Parts.{with_parts, with_parts-none, with_parts-one}
@@ -26,6 +26,17 @@ takes-then n r (Err refusal) f first then = tt
 pub takes_some : {A F : Type 0} (r : Reading) (read : Read Reading F A) → Takes 1 r read → Takes 0 r read
 takes_some r (Ok x) takes = omega (arith, takes)
 takes_some r (Err refusal) takes = tt
+
+-- a part that is read behind what was passed over
+pub takes_behind : {A F : Type 0} (r after : Reading) (read : Read Reading F A) → length (left after) ≤ length (left r) → Takes 1 after read → Takes 1 r read
+takes_behind r after (Ok x) few takes = omega (arith, few, takes)
+takes_behind r after (Err refusal) few takes = tt
+
+-- an answer with what is left behind it, in other words
+pub answer_takes : {A B F G : Type 0} (other : F → G) (answer : Result B F) (value : B → A) (r after : Reading) → length (left after) ≤ length (left r) →
+    Takes 0 r (refused_as other answer >>= λ x. Ok (value x, after))
+answer_takes other (Ok x) value r after few = omega (arith, few)
+answer_takes other (Err refusal) value r after few = tt
 
 -- after n more bytes so many fewer are left
 pub left-past : (n : ℕ) (r : Reading) → length (left (past n r)) ≡ length (left r) - n

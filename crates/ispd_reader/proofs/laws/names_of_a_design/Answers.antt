@@ -1,4 +1,5 @@
-use Rattle.ispd_reader.proofs.NetNames.{design_named, design_numbered}
+use Rattle.grid_graph.proofs.Designs.{design_numbered}
+use Rattle.ispd_reader.proofs.NetNames.{design_named}
 use Rattle.ispd_reader.proofs.laws.names_of_a_design.Goals as goal
 
 pub returns-clause-word : goal.returns-clause-word

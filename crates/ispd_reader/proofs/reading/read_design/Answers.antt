@@ -5,7 +5,8 @@ use Rattle.grid_graph.specs.Layouts.{layout_of_parts}
 use Rattle.text_scan.specs.Reading.{whole}
 use Rattle.ispd_reader.specs.Header.{Header}
 use Rattle.ispd_reader.specs.Views.{extent_of_size, header_of, nets_of}
-use Rattle.ispd_reader.proofs.Whole.{all_read, nets_refused, adjustments_refused, design_kept, capacities_read, short_text}
+use Rattle.grid_graph.proofs.Designs.{design_kept}
+use Rattle.ispd_reader.proofs.Whole.{all_read, nets_refused, adjustments_refused, capacities_read, short_text}
 use Rattle.ispd_reader.proofs.reading.read_design.Goals as goal
 
 pub returns-in_err-nets-clause-refusal : goal.returns-in_err-nets-clause-refusal
