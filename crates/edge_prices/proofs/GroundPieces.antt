@@ -8,28 +8,18 @@ use Rattle.grid_base.specs.declared.piece.Piece.{Piece}
 use Rattle.grid_base.specs.declared.piece.Piece.TheVariants.{Edge, Via}
 use Rattle.grid_base.specs.declared.size.Size.{Size}
 use Rattle.grid_base.specs.Numbers.{layers, vertices, layer_of, to_next_layer, IsPiece}
+use Rattle.grid_base.proofs.Pieces.{edge-tells, via-tells}
 use Rattle.grid_base.proofs.Places.{place_at-inside}
 use Rattle.grid_graph.specs.declared.grid.Grid.{Grid}
 use Rattle.grid_graph.specs.declared.ground.Ground.{Ground}
 use Rattle.grid_graph.specs.declared.ground.Ground.TheVariants.{Open, WithChoked}
 use Rattle.grid_graph.specs.declared.kind.Kind.{Kind}
 use Rattle.grid_graph.specs.declared.kind.Kind.TheVariants as kinds
-use Rattle.grid_graph.specs.Grids.{size_of, kind, Allows}
+use Rattle.grid_graph.specs.Grids.{size_of, kind, Allows, edge_numbers}
 use Rattle.grid_graph.specs.Weighed.{Weighs, IsAllowed, NoPieceTwice, WeighsOnlyPieces}
 use Rattle.grid_graph.proofs.Allowed.{Allows-IsPiece}
 use Rattle.edge_prices.specs.PieceLists.{admits, has_piece, edge, all_pieces, pieces_with, AreGroundPieces}
-use Rattle.edge_prices.specs.Vectors.{edge_numbers}
 use Rattle.grid_graph.proofs.Members.{In, In-Contains, Contains-In, In-map, In-from_map, In-filter, In-from_filter, In-append_left, In-append_right, In-range, Differ, Differ-filter, Differ-append, Differ-map_range, Differ-HasNoRepeats}
-
-edge-tells : (j k : ℕ) → edge j ≡ edge k → j ≡ k
-edge-tells j k same =
-    let numbers : EdgeNumber → EdgeNumber → Type 0 = λ a b. a ≡ b in
-    let equal : numbers (record { 0 = j }) (record { 0 = k }) = cc in ap (λ (e : EdgeNumber). e.0) equal
-
-via-tells : (j k : ℕ) → to_next_layer j ≡ to_next_layer k → j ≡ k
-via-tells j k same =
-    let numbers : ViaNumber → ViaNumber → Type 0 = λ a b. a ≡ b in
-    let equal : numbers (record { 0 = j }) (record { 0 = k }) = cc in ap (λ (v : ViaNumber). v.0) equal
 
 edge-via : (j k : ℕ) → edge j ≡ to_next_layer k → ⊥
 edge-via j k same = cc

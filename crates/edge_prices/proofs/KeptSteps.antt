@@ -7,14 +7,14 @@ use Rattle.std.proofs.lemmas.List.FromFn.{fill_by_all}
 use Rattle.grid_base.specs.declared.axis.Axis.{Axis}
 use Rattle.grid_base.specs.Numbers.{edge_axis}
 use Rattle.grid_graph.specs.declared.grid.Grid.{Grid}
-use Rattle.grid_graph.specs.Grids.{capacity}
+use Rattle.grid_graph.specs.Grids.{capacity, edge_numbers, entries}
 use Rattle.edge_prices.specs.declared.least_prices.LeastPrices.{LeastPrices}
 use Rattle.edge_prices.specs.Floors.{least_along, AreLeast}
 use Rattle.edge_prices.specs.Kept.{IsCurrent}
-use Rattle.edge_prices.specs.Limits.{max_load}
+use Rattle.grid_graph.specs.Limits.{max_load}
 use Rattle.edge_prices.specs.TilePrices.{AreTilePrices}
 use Rattle.edge_prices.specs.Prices.{index_or_zero, price_or_zero}
-use Rattle.edge_prices.specs.Vectors.{edge_numbers, entries, capacity_of, index_of, top_of, price_of, price_vector, IsLoadList}
+use Rattle.edge_prices.specs.Vectors.{capacity_of, index_of, top_of, price_of, price_vector, IsLoadList}
 use Rattle.edge_prices.proofs.Entries.{set_within}
 use Rattle.edge_prices.proofs.Greatest.{le-greatest, greatest-kept}
 use Rattle.edge_prices.proofs.PriceVectors.{capacity_of-edge, entry-price_vector, length-price_vector, price_or_zero-positive}

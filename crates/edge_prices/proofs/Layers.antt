@@ -13,9 +13,8 @@ use Rattle.grid_graph.specs.declared.grid.Grid.{Grid}
 use Rattle.grid_graph.specs.declared.ground.Ground.{Ground}
 use Rattle.grid_graph.specs.declared.ground.Ground.TheVariants.{Open, WithChoked}
 use Rattle.grid_graph.specs.Capacities.{demand}
-use Rattle.grid_graph.specs.Grids.{size_of, width_of_layer, spacing_of_layer, demand_on, Allows}
+use Rattle.grid_graph.specs.Grids.{size_of, width_of_layer, spacing_of_layer, demand_on, Allows, edge_numbers}
 use Rattle.edge_prices.specs.Demands.{layer_size}
-use Rattle.edge_prices.specs.Vectors.{edge_numbers}
 
 -- the layer k holds the vertices from k times a layer's size on
 pub layer_of-within : (s : Size) (v k : ℕ) → k * (cols s * rows s) ≤ v → v < (k + 1) * (cols s * rows s) → k ≡ layer_of s v

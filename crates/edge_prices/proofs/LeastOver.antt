@@ -1,33 +1,25 @@
 -- No edge weighs less than the least weight over its tile edge.
 use Rattle.std.proofs.Common.{ℕ, ◌+◌, ◌*◌, ◌/◌, ◌≡◌, ◌≤◌, ◌<◌, List, slice_index, cond, ltb, ap, arith}
-use Rattle.std.proofs.Math.Nat.{div-add-mod}
 use Rattle.std.proofs.lemmas.Bool.{cond_both, ltb-true, ltb-false}
 use Rattle.std.proofs.lemmas.Nat.{mul-le, div_below}
 use Rattle.grid_base.specs.declared.piece.Piece.TheVariants.{Edge}
 use Rattle.grid_base.specs.declared.size.Size.{Size}
-use Rattle.grid_base.specs.Numbers.{cols, rows, layers, vertices}
+use Rattle.grid_base.specs.Numbers.{layers, vertices}
 use Rattle.grid_graph.specs.declared.grid.Grid.{Grid}
 use Rattle.grid_graph.specs.declared.ground.Ground.{Ground}
 use Rattle.grid_graph.specs.Flat.{tiles, tile_edge_of, AreLeastOver}
-use Rattle.grid_graph.specs.Grids.{size_of, demand_on}
+use Rattle.grid_graph.specs.Grids.{size_of, demand_on, edge_numbers}
 use Rattle.grid_graph.specs.Limits.{max_demand, max_weight}
+use Rattle.grid_graph.proofs.TileSteps.{some_tiles, tile_edge-number}
 use Rattle.edge_prices.specs.PieceLists.{pieces_with}
-use Rattle.edge_prices.specs.Vectors.{edge_numbers}
 use Rattle.edge_prices.specs.Limits.{max_price}
 use Rattle.edge_prices.specs.TilePrices.{no_price, open_price, price_on, least_price_over, IsLeastDemand, weight_at, least_weight_over}
-use Rattle.edge_prices.specs.Weights.{is_open, edge_cost, weight, wirelength_price, ArePrices}
+use Rattle.edge_prices.specs.Weights.{is_open, edge_cost, piece_weight, wirelength_price, ArePrices}
 use Rattle.edge_prices.proofs.GroundPieces.{allowed_number, pieces_with-Weighs}
 use Rattle.edge_prices.proofs.Least.{least-le}
 
-some_tiles : (s : Size) → 0 < 2 * tiles s
-some_tiles s = omega (arith, mul-le 1 1 (cols s) (rows s) s.within.has_col s.within.has_row)
-
--- an edge stands on its layer over its tile edge
-tile_edge-number : (s : Size) (e : ℕ) → e / (2 * tiles s) * (2 * tiles s) + tile_edge_of s e ≡ e
-tile_edge-number s e = omega (arith, div-add-mod e (2 * tiles s))
-
 tile_edge-layer : (s : Size) (e : ℕ) → e < 2 * vertices s → e / (2 * tiles s) < layers s
-tile_edge-layer s e number = div_below e (2 * tiles s) (layers s) (some_tiles s) (omega (arith, number))
+tile_edge-layer s e number = div_below e (2 * tiles s) (layers s) (omega (arith, some_tiles s)) (omega (arith, number))
 
 -- the edge on a layer over a tile edge has a number of the grid
 pub number-on : (s : Size) (layer e : ℕ) → layer < layers s → e < 2 * tiles s → layer * (2 * tiles s) + e < 2 * vertices s
@@ -55,7 +47,7 @@ tile_price-le g prices e number =
     omega (arith, low, ap (open_price g prices) (tile_edge-number s e))
 
 edge-over : (g : Grid) (width : ℕ) (prices : List ℕ) (demand e : ℕ) → ArePrices g prices → IsLeastDemand g width demand → e < edge_numbers g →
-    least_weight_over g prices demand (tile_edge_of (size_of g) e) ≤ weight g width prices (Edge (record { 0 = e }))
+    least_weight_over g prices demand (tile_edge_of (size_of g) e) ≤ piece_weight g width prices (Edge (record { 0 = e }))
 edge-over g width prices demand e listed used number =
     let low = least_price_over g prices (tile_edge_of (size_of g) e) in
     let wire = wirelength_price g prices in
@@ -68,10 +60,10 @@ edge-over g width prices demand e listed used number =
 
 -- the weights of a ground's pieces are at least those over their tile edges
 pub least_over : (g : Grid) (over : Ground) (width : ℕ) (prices : List ℕ) (demand : ℕ) → ArePrices g prices → IsLeastDemand g width demand →
-    AreLeastOver (size_of g) (pieces_with g over (weight g width prices)) (least_weight_over g prices demand)
+    AreLeastOver (size_of g) (pieces_with g over (piece_weight g width prices)) (least_weight_over g prices demand)
 least_over g over width prices demand listed used = record {
   below = λ e n weighs.
-      let facts = (pieces_with-Weighs g over (weight g width prices) (Edge e) n).0 weighs in
+      let facts = (pieces_with-Weighs g over (piece_weight g width prices) (Edge e) n).0 weighs in
       omega (arith, edge-over g width prices demand e.0 listed used (allowed_number g over e facts.0), facts.1);
   within = λ e. weight_at-within (least_price_over g prices e) demand (wirelength_price g prices) used.within (listed.within (edge_numbers g));
 }

@@ -5,11 +5,11 @@ use Rattle.std.proofs.lemmas.Bool.{cases_lt, cond_both, cond-true, cond-false, l
 use Rattle.std.proofs.lemmas.List.{get_or_past}
 use Rattle.std.proofs.lemmas.List.FromFn.{length-map-range_with_len, get_or-map-range_with_len}
 use Rattle.grid_graph.specs.declared.grid.Grid.{Grid}
-use Rattle.grid_graph.specs.Grids.{capacity}
+use Rattle.grid_graph.specs.Grids.{capacity, edge_numbers, entries}
 use Rattle.edge_prices.specs.Demands.{AreAllPriced}
 use Rattle.edge_prices.specs.Limits.{last_index, max_price}
 use Rattle.edge_prices.specs.Prices.{price, price_by, price_or_zero}
-use Rattle.edge_prices.specs.Vectors.{edge_numbers, entries, capacity_of, index_of, top_of, price_of, price_vector}
+use Rattle.edge_prices.specs.Vectors.{capacity_of, index_of, top_of, price_of, price_vector}
 use Rattle.edge_prices.specs.Weights.{ArePrices, IsPriceList}
 
 -- no price of the table is 0

@@ -6,9 +6,8 @@ use Rattle.std.proofs.lemmas.Nat.{mod-mul-add}
 use Rattle.grid_base.specs.Numbers.{layers}
 use Rattle.grid_graph.specs.declared.grid.Grid.{Grid}
 use Rattle.grid_graph.specs.Flat.{tiles, tile_edge_of}
-use Rattle.grid_graph.specs.Grids.{size_of}
+use Rattle.grid_graph.specs.Grids.{size_of, edge_numbers}
 use Rattle.edge_prices.specs.TilePrices.{no_price, price_on, least_price_over, AreTilePrices}
-use Rattle.edge_prices.specs.Vectors.{edge_numbers}
 use Rattle.edge_prices.specs.Weights.{is_open}
 use Rattle.edge_prices.proofs.Least.{least-cong}
 use Rattle.edge_prices.proofs.LeastOver.{number-on}

@@ -10,7 +10,7 @@ use Rattle.grid_base.specs.declared.size.Size.{Size}
 use Rattle.grid_base.specs.Numbers.{layers, edge_axis}
 use Rattle.grid_graph.specs.declared.grid.Grid.{Grid}
 use Rattle.grid_graph.specs.declared.ground.Ground.{Ground}
-use Rattle.grid_graph.specs.Grids.{size_of, capacity, demand_on, Allows}
+use Rattle.grid_graph.specs.Grids.{size_of, capacity, demand_on, Allows, edge_numbers}
 use Rattle.grid_graph.specs.Limits.{max_demand, max_weight}
 use Rattle.grid_graph.specs.declared.floors.Floors.{Floors}
 use Rattle.edge_prices.specs.declared.least_prices.LeastPrices.{LeastPrices}
@@ -20,8 +20,7 @@ use Rattle.edge_prices.specs.Floors.{least_along, AreLeast}
 use Rattle.edge_prices.specs.Limits.{max_price}
 use Rattle.edge_prices.specs.PieceLists.{pieces_with, edge}
 use Rattle.edge_prices.specs.TilePrices.{no_price, price_on, least_price_over, least_weight_over}
-use Rattle.edge_prices.specs.Vectors.{edge_numbers}
-use Rattle.edge_prices.specs.Weights.{is_open, edge_cost, weight, wirelength_price}
+use Rattle.edge_prices.specs.Weights.{is_open, edge_cost, piece_weight, wirelength_price}
 use Rattle.edge_prices.proofs.GroundPieces.{allowed_number, pieces_with-Weighs}
 use Rattle.edge_prices.proofs.Least.{least-ge}
 use Rattle.edge_prices.proofs.LeastOver.{number-on}
@@ -29,7 +28,7 @@ use Rattle.edge_prices.proofs.LeastOver.{number-on}
 -- an edge weighs at least what it would at a lower price and a lower demand
 edge-floor : (g : Grid) (width : ℕ) (prices : List ℕ) (e low demand : ℕ) →
     (0 < capacity g e → low ≤ slice_index prices e) → low ≤ max_price → demand ≤ demand_on g width e → demand ≤ max_demand → wirelength_price g prices ≤ max_price →
-    4 * (low * demand + wirelength_price g prices) + 1 ≤ weight g width prices (edge e)
+    4 * (low * demand + wirelength_price g prices) + 1 ≤ piece_weight g width prices (edge e)
 edge-floor g width prices e low demand cheap low_small uses small wire =
     cond_both (is_open g e) _ _ (λ w. 4 * (low * demand + wirelength_price g prices) + 1 ≤ w)
     (λ opens. let least : low * demand ≤ edge_cost g width prices e = mul-le low demand (slice_index prices e) (demand_on g width e) (cheap (ltb-true _ _ opens)) uses in omega arith)
@@ -48,7 +47,7 @@ floor_along-is floors least demand wire are Y = are.y
 
 piece-floor : (g : Grid) (over : Ground) (width : ℕ) (prices : List ℕ) (least : LeastPrices) (floors : Floors) (demand : ℕ) → AreLeast g prices least →
     ((e : ℕ) → e < edge_numbers g → demand ≤ demand_on g width e) → demand ≤ max_demand → wirelength_price g prices ≤ max_price →
-    AreFloorsAt floors least demand (wirelength_price g prices) → (p : Piece) → Allows g over p → floor_of floors p ≤ weight g width prices p
+    AreFloorsAt floors least demand (wirelength_price g prices) → (p : Piece) → Allows g over p → floor_of floors p ≤ piece_weight g width prices p
 piece-floor g over width prices least floors demand low uses small wire are (Edge e) allowed =
     let number = allowed_number g over e allowed in
     rw (floor_along-is floors least demand (wirelength_price g prices) are (edge_axis e.0))
@@ -58,9 +57,9 @@ piece-floor g over width prices least floors demand low uses small wire are (Via
 -- no piece weighs less than its floor
 pub floors-hold : (g : Grid) (over : Ground) (width : ℕ) (prices : List ℕ) (least : LeastPrices) (floors : Floors) (demand : ℕ) → AreLeast g prices least →
     ((e : ℕ) → e < edge_numbers g → demand ≤ demand_on g width e) → demand ≤ max_demand → wirelength_price g prices ≤ max_price →
-    AreFloorsAt floors least demand (wirelength_price g prices) → AreFloors floors (pieces_with g over (weight g width prices))
+    AreFloorsAt floors least demand (wirelength_price g prices) → AreFloors floors (pieces_with g over (piece_weight g width prices))
 floors-hold g over width prices least floors demand low uses small wire are p n weighs =
-    let facts = (pieces_with-Weighs g over (weight g width prices) p n).0 weighs in
+    let facts = (pieces_with-Weighs g over (piece_weight g width prices) p n).0 weighs in
     rw facts.1 (piece-floor g over width prices least floors demand low uses small wire are p facts.0)
 
 -- no floor along an axis is above the limit

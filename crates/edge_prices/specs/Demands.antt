@@ -2,9 +2,8 @@
 use Rattle.std.specs.Prelude.{ℕ, ◌-◌, ◌*◌, ◌≡◌, ◌≤◌, ◌<◌, Bool, List, slice_index, IsTrue}
 use Rattle.grid_base.specs.Numbers.{cols, rows, vertices, layer_of, edge_start}
 use Rattle.grid_graph.specs.declared.grid.Grid.{Grid}
-use Rattle.grid_graph.specs.Grids.{size_of, capacity, demand_on}
+use Rattle.grid_graph.specs.Grids.{size_of, capacity, demand_on, edge_numbers}
 use Rattle.grid_graph.specs.Limits.{max_demand}
-use Rattle.edge_prices.specs.Vectors.{edge_numbers}
 use Rattle.edge_prices.specs.Weights.{ArePrices}
 
 -- by layer, what a wire of this width uses of an edge

@@ -4,10 +4,9 @@ use Rattle.grid_base.specs.declared.axis.Axis.{Axis}
 use Rattle.grid_base.specs.declared.axis.Axis.TheVariants.{X, Y}
 use Rattle.grid_base.specs.Numbers.{edge_axis}
 use Rattle.grid_graph.specs.declared.grid.Grid.{Grid}
-use Rattle.grid_graph.specs.Grids.{capacity}
+use Rattle.grid_graph.specs.Grids.{capacity, edge_numbers}
 use Rattle.edge_prices.specs.declared.least_prices.LeastPrices.{LeastPrices}
 use Rattle.edge_prices.specs.Limits.{max_price}
-use Rattle.edge_prices.specs.Vectors.{edge_numbers}
 
 -- the least price along an axis
 abbrev pub least_along : LeastPrices → Axis → ℕ

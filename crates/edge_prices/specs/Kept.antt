@@ -2,11 +2,11 @@
 use Rattle.std.specs.Prelude.{ℕ, ◌≡◌, ◌*◌, Bool, false, List, length, Option}
 use Rattle.grid_graph.specs.declared.grid.Grid.{Grid}
 use Rattle.grid_graph.specs.Flat.{tiles}
-use Rattle.grid_graph.specs.Grids.{size_of}
+use Rattle.grid_graph.specs.Grids.{size_of, entries}
 use Rattle.edge_prices.specs.declared.least_prices.LeastPrices.{LeastPrices}
 use Rattle.edge_prices.specs.Floors.{AreLeast}
 use Rattle.edge_prices.specs.TilePrices.{AreTilePrices}
-use Rattle.edge_prices.specs.Vectors.{entries, top_of, price_vector, IsLoadList}
+use Rattle.edge_prices.specs.Vectors.{top_of, price_vector, IsLoadList}
 
 -- the prices, their greatest index, their least numbers and the least over tile edges are those of these loads
 pub record IsCurrent (g : Grid) (loads : List ℕ) (scale : ℕ) (budget : Option ℕ) (prices : List ℕ) (top : ℕ) (least : LeastPrices) (over : List ℕ) : Type 0 where

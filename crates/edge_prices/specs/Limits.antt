@@ -1,6 +1,7 @@
 -- The limits of prices.
 use Rattle.std.specs.Prelude.{ℕ, ◌≤◌, ◌^◌, Option}
 use Rattle.std.specs.Option.{ForSome}
+use Rattle.grid_graph.specs.Limits.{max_budget}
 
 -- the last index of the price table
 abbrev pub last_index : ℕ
@@ -10,17 +11,13 @@ last_index = 255
 abbrev pub max_price : ℕ
 max_price = 2 ^ 15
 
--- the greatest load of a resource
-abbrev pub max_load : ℕ
-max_load = 2 ^ 62
+-- the greatest cost of an edge for a net: a price for each unit of its demand
+abbrev pub max_cost : ℕ
+max_cost = 2 ^ 25
 
 -- the greatest scale
 abbrev pub max_scale : ℕ
 max_scale = 16
-
--- the greatest budget
-abbrev pub max_budget : ℕ
-max_budget = 2 ^ 42
 
 -- how strongly loads count
 abbrev pub IsScale : ℕ → Type 0

@@ -10,9 +10,8 @@ use Rattle.grid_graph.specs.declared.ground.Ground.{Ground}
 use Rattle.grid_graph.specs.declared.ground.Ground.TheVariants.{Open, WithChoked}
 use Rattle.grid_graph.specs.declared.kind.Kind.{Kind}
 use Rattle.grid_graph.specs.declared.kind.Kind.TheVariants as kinds
-use Rattle.grid_graph.specs.Grids.{size_of, kind, Allows}
+use Rattle.grid_graph.specs.Grids.{size_of, kind, Allows, edge_numbers}
 use Rattle.grid_graph.specs.Weighed.{Weighs, NoPieceTwice, WeighsOnlyPieces, AreWithinLimit}
-use Rattle.edge_prices.specs.Vectors.{edge_numbers}
 
 -- whether a net of this ground may use an edge of this kind
 abbrev pub admits : Ground → Kind → Bool

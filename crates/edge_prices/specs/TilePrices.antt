@@ -3,11 +3,10 @@ use Rattle.std.specs.Prelude.{ℕ, ◌+◌, ◌*◌, ◌≡◌, ◌≤◌, ◌<�
 use Rattle.grid_base.specs.Numbers.{layers}
 use Rattle.grid_graph.specs.declared.grid.Grid.{Grid}
 use Rattle.grid_graph.specs.Flat.{tiles}
-use Rattle.grid_graph.specs.Grids.{size_of, demand_on}
+use Rattle.grid_graph.specs.Grids.{size_of, demand_on, edge_numbers}
 use Rattle.grid_graph.specs.Limits.{max_demand, max_weight}
 use Rattle.edge_prices.specs.Least.{least}
 use Rattle.edge_prices.specs.Limits.{max_price}
-use Rattle.edge_prices.specs.Vectors.{edge_numbers}
 use Rattle.edge_prices.specs.Weights.{is_open, wirelength_price}
 
 -- a number above all prices, which stands for that of an edge that isn't open

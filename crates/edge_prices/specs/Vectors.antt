@@ -1,20 +1,11 @@
 -- Lists of loads and of prices. They have one entry per edge number, and then one for the wirelength.
-use Rattle.std.specs.Prelude.{ℕ, ◌+◌, ◌*◌, ◌≡◌, ◌≤◌, ◌==◌, List, length, map, slice_index, Option, unwrap_or, cond}
+use Rattle.std.specs.Prelude.{ℕ, ◌≡◌, ◌≤◌, ◌==◌, List, length, map, slice_index, Option, unwrap_or, cond}
 use Rattle.std.specs.List.{range_with_len}
-use Rattle.grid_base.specs.Numbers.{vertices}
 use Rattle.grid_graph.specs.declared.grid.Grid.{Grid}
-use Rattle.grid_graph.specs.Grids.{size_of, capacity}
+use Rattle.grid_graph.specs.Grids.{capacity, edge_numbers, entries}
 use Rattle.edge_prices.specs.Greatest.{greatest}
-use Rattle.edge_prices.specs.Limits.{max_load}
+use Rattle.grid_graph.specs.Limits.{max_load}
 use Rattle.edge_prices.specs.Prices.{index_or_zero, price_or_zero}
-
--- how many edge numbers there are, and the place of the wirelength's entry
-abbrev pub edge_numbers : Grid → ℕ
-edge_numbers g = 2 * vertices (size_of g)
-
--- how many entries a list of loads or of prices has
-abbrev pub entries : Grid → ℕ
-entries g = edge_numbers g + 1
 
 -- how much the entry's resource can carry: an edge its capacity, the wirelength its budget; 0 where the entry is no resource
 abbrev pub capacity_of : Grid → Option ℕ → ℕ → ℕ

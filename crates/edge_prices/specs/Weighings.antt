@@ -6,7 +6,7 @@ use Rattle.grid_graph.specs.Grids.{size_of}
 use Rattle.edge_prices.specs.declared.weighing.Weighing.{Weighing}
 use Rattle.edge_prices.specs.PieceLists.{pieces_with}
 use Rattle.edge_prices.specs.TilePrices.{least_weight_over}
-use Rattle.edge_prices.specs.Weights.{weight}
+use Rattle.edge_prices.specs.Weights.{piece_weight}
 
 -- the grid's size
 abbrev pub weighed_size : Weighing → Size
@@ -14,7 +14,7 @@ weighed_size w = size_of w.net.grid.now
 
 -- the weight of each piece
 abbrev pub weight_by : Weighing → Piece → ℕ
-weight_by w = weight w.net.grid.now w.net.width w.net.prices.now
+weight_by w = piece_weight w.net.grid.now w.net.width w.net.prices.now
 
 -- the ground's pieces with their weights
 abbrev pub weighed_pieces : Weighing → List (Piece × ℕ)

@@ -3,10 +3,9 @@ use Rattle.std.specs.Prelude.{ℕ, ◌+◌, ◌*◌, ◌≡◌, ◌≤◌, ◌<�
 use Rattle.grid_base.specs.declared.piece.Piece.{Piece}
 use Rattle.grid_base.specs.declared.piece.Piece.TheVariants.{Edge, Via}
 use Rattle.grid_graph.specs.declared.grid.Grid.{Grid}
-use Rattle.grid_graph.specs.Grids.{capacity, demand_on}
+use Rattle.grid_graph.specs.Grids.{capacity, demand_on, edge_numbers, entries}
 use Rattle.grid_graph.specs.Limits.{max_weight}
 use Rattle.edge_prices.specs.Limits.{max_price}
-use Rattle.edge_prices.specs.Vectors.{edge_numbers, entries}
 
 -- prices of all edges and perhaps of more: none where an edge isn't open
 pub record ArePrices (g : Grid) (prices : List ℕ) : Type 0 where
@@ -42,6 +41,6 @@ abbrev pub wirelength_price : Grid → List ℕ → ℕ
 wirelength_price g prices = slice_index prices (edge_numbers g)
 
 -- the weight of a piece: four times its cost with the wirelength's price, and 1; that of a choked edge is the limit, above all of these
-abbrev pub weight : Grid → ℕ → List ℕ → Piece → ℕ
-weight g width prices (Edge e) = cond (is_open g e.0) (4 * (edge_cost g width prices e.0 + wirelength_price g prices) + 1) max_weight
-weight g width prices (Via v) = 4 * wirelength_price g prices + 1
+abbrev pub piece_weight : Grid → ℕ → List ℕ → Piece → ℕ
+piece_weight g width prices (Edge e) = cond (is_open g e.0) (4 * (edge_cost g width prices e.0 + wirelength_price g prices) + 1) max_weight
+piece_weight g width prices (Via v) = 4 * wirelength_price g prices + 1

@@ -1,7 +1,8 @@
 //! Indices of resources.
 
 ghost use Rattle.std.specs.Prelude.{◌≡◌, ◌≤◌};
-ghost use Rattle.edge_prices.specs.Limits.{IsScale, max_load};
+ghost use Rattle.edge_prices.specs.Limits.{IsScale};
+ghost use Rattle.grid_graph.specs.Limits.{max_load};
 ghost use Rattle.edge_prices.specs.Prices.{index};
 
 /// The index of a resource: how many eighths of its capacity are in use at this scale, rounded down.

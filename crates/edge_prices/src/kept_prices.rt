@@ -30,13 +30,13 @@ pub struct KeptPrices<'a> {
 impl<'a> KeptPrices<'a> {
     ghost use Rattle.std.specs.Prelude.{◌≡◌, ◌≤◌, ◌<◌, ◌*◌, length, slice_set, slice_index};
     ghost use Rattle.grid_graph.specs.Flat.{tiles};
-    ghost use Rattle.grid_graph.specs.Grids.{size_of, IsNetWidth};
+    ghost use Rattle.grid_graph.specs.Grids.{size_of, IsNetWidth, entries};
     ghost use Rattle.edge_prices.specs.KeptLists.{grid_of, scale_of, budget_of, loads_of, vector_of, IsRenewed, KeepsSetting};
-    ghost use Rattle.edge_prices.specs.Limits.{max_load};
+    ghost use Rattle.grid_graph.specs.Limits.{max_load};
     ghost use Rattle.edge_prices.specs.PieceLists.{AreGroundPieces};
-    ghost use Rattle.edge_prices.specs.Vectors.{entries, IsLoadList};
+    ghost use Rattle.edge_prices.specs.Vectors.{IsLoadList};
     ghost use Rattle.edge_prices.specs.Weighings.{weighed_size, weighed_pieces};
-    ghost use Rattle.edge_prices.specs.Weights.{IsPriceList, weight};
+    ghost use Rattle.edge_prices.specs.Weights.{IsPriceList, piece_weight};
 
     /// The prices of these loads. They are written over `prices`, and the least over each tile edge, by its number on layer
     /// 0, over `tile_prices`, whatever the two hold.
@@ -144,7 +144,7 @@ impl<'a> KeptPrices<'a> {
         requires renewed { IsRenewed self.now }
         requires width { IsNetWidth (grid_of self.now) width }
         ensures size { weighed_size result ≡ size_of (grid_of self.now) }
-        ensures pieces { AreGroundPieces (grid_of self.now) ground (weight (grid_of self.now) width (vector_of self.now)) (weighed_pieces result) }
+        ensures pieces { AreGroundPieces (grid_of self.now) ground (piece_weight (grid_of self.now) width (vector_of self.now)) (weighed_pieces result) }
     {
         let net = NetPrices::new(
             self.resources.grid,

@@ -25,6 +25,7 @@ mod least_prices;
 mod limits;
 mod net_prices;
 mod price;
+mod price_lists;
 mod price_table;
 mod price_vector;
 mod resources;
@@ -36,6 +37,7 @@ pub use index::index_at;
 pub use kept_prices::KeptPrices;
 pub use limits::{LAST_INDEX, MAX_BUDGET, MAX_LOAD, MAX_PRICE, MAX_SCALE};
 pub use price::{price_at, price_from};
+pub use price_lists::are_edge_prices;
 pub use price_vector::prices;
 pub use weighing::Weighing;
 

@@ -25,12 +25,12 @@ pub struct NetPrices<'a> {
 }
 
 impl<'a> NetPrices<'a> {
-    ghost use Rattle.std.specs.Prelude.{ℕ, ◌≡◌, ◌≤◌, ◌<◌, ◌↔◌, ◌^◌, IsTrue, IfSome, Some, None, cond, slice_index};
+    ghost use Rattle.std.specs.Prelude.{ℕ, ◌≡◌, ◌≤◌, ◌<◌, ◌↔◌, IsTrue, IfSome, Some, None, cond, slice_index};
     ghost use Rattle.grid_base.specs.Numbers.{layer_of, edge_start, IsVertex};
-    ghost use Rattle.grid_graph.specs.Grids.{size_of, demand_on, Allows, IsNetWidth};
+    ghost use Rattle.grid_graph.specs.Grids.{size_of, demand_on, Allows, IsNetWidth, edge_numbers};
     ghost use Rattle.grid_graph.specs.Limits.{max_demand};
     ghost use Rattle.edge_prices.specs.Demands.{AreAllPriced, AreDemands};
-    ghost use Rattle.edge_prices.specs.Vectors.{edge_numbers};
+    ghost use Rattle.edge_prices.specs.Limits.{max_cost};
     ghost use Rattle.edge_prices.specs.Weights.{ArePrices, is_open, edge_cost};
 
     /// What a net of this width and ground pays at these prices. `all_priced` says that each open edge has a price.
@@ -77,7 +77,7 @@ impl<'a> NetPrices<'a> {
     /// What the net pays for the edge: its price for each unit that a wire uses of it. `None` is an edge that isn't open.
     pub fn cost(&self, e: Edge) -> Option<u64>
         ensures value { e.0 < edge_numbers self.now.grid.now → result ≡ cond (is_open self.now.grid.now e.0) (Some (edge_cost self.now.grid.now self.now.width self.now.prices.now e.0)) None }
-        ensures limit { IfSome result (λ cost. cost ≤ 2 ^ 25) }
+        ensures limit { IfSome result (λ cost. cost ≤ max_cost) }
     {
         if e.0 >= self.edges {
             return None;
@@ -90,7 +90,7 @@ impl<'a> NetPrices<'a> {
         requires edge { e.0 < edge_numbers self.now.grid.now }
         requires layer { layer ≡ layer_of (size_of self.now.grid.now) (edge_start e.0) }
         ensures value { result ≡ cond (is_open self.now.grid.now e.0) (Some (edge_cost self.now.grid.now self.now.width self.now.prices.now e.0)) None }
-        ensures limit { IfSome result (λ cost. cost ≤ 2 ^ 25) }
+        ensures limit { IfSome result (λ cost. cost ≤ max_cost) }
     {
         if !self.is_open(e) {
             return None;

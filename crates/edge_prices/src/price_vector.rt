@@ -2,7 +2,8 @@
 
 ghost use Rattle.std.specs.Prelude.{◌≡◌, length};
 ghost use Rattle.edge_prices.specs.Limits.{IsScale, IsBudget};
-ghost use Rattle.edge_prices.specs.Vectors.{entries, price_vector, IsLoadList};
+ghost use Rattle.grid_graph.specs.Grids.{entries};
+ghost use Rattle.edge_prices.specs.Vectors.{price_vector, IsLoadList};
 ghost use Rattle.edge_prices.specs.Weights.{IsPriceList};
 
 use crate::resources::Resources;

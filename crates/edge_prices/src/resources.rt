@@ -21,9 +21,10 @@ pub struct Resources<'a> {
 
 impl Resources<'_> {
     ghost use Rattle.std.specs.Prelude.{◌≡◌, ◌≤◌, ◌<◌, length, slice_index};
-    ghost use Rattle.edge_prices.specs.Limits.{max_load};
+    ghost use Rattle.grid_graph.specs.Limits.{max_load};
     ghost use Rattle.edge_prices.specs.Prices.{index_or_zero, price_or_zero};
-    ghost use Rattle.edge_prices.specs.Vectors.{edge_numbers, entries, capacity_of, index_of, top_of, price_of, price_vector, IsLoadList};
+    ghost use Rattle.grid_graph.specs.Grids.{edge_numbers, entries};
+    ghost use Rattle.edge_prices.specs.Vectors.{capacity_of, index_of, top_of, price_of, price_vector, IsLoadList};
 
     /// The number of edge numbers, which is the place of the wirelength's entry.
     pub fn edges(&self) -> u32

@@ -6,7 +6,6 @@ ghost use Rattle.grid_graph.specs.Grids.{size_of, IsNetWidth};
 ghost use Rattle.edge_prices.specs.KeptLists.{grid_of, IsRenewed};
 ghost use Rattle.edge_prices.specs.Limits.{IsBudget};
 ghost use Rattle.edge_prices.specs.Vectors.{IsLoadList};
-ghost use Rattle.edge_prices.specs.Weights.{AreEdgePrices};
 
 use super::*;
 use grid_base::{Edge, NoMemory, Piece, Size, Via};
@@ -238,23 +237,6 @@ fn pieces_weigh_what_their_price_and_demand_say(rt: HostRuntime) -> Result<(), F
         )
     );
     Ok(())
-}
-
-/// Whether these are prices of the edges alone.
-fn are_edge_prices(grid: &Grid, prices: &[u32]) -> bool
-    ensures { IsTrue result → AreEdgePrices grid.now prices.now }
-{
-    let edges = 2 * grid.size().vertices();
-    if prices.len() != edges as usize {
-        return false;
-    }
-    for e in 0..edges {
-        let price = prices[e as usize];
-        if price > MAX_PRICE || (price > 0 && grid.capacity(Edge(e)) == 0) {
-            return false;
-        }
-    }
-    true
 }
 
 #[test]

@@ -2,9 +2,8 @@
 
 ghost use Rattle.std.specs.Prelude.{ℕ, List, ◌≡◌, ◌≢◌, ◌<◌, ◌*◌, length, slice_index};
 ghost use Rattle.grid_graph.specs.Flat.{tiles};
-ghost use Rattle.grid_graph.specs.Grids.{size_of};
+ghost use Rattle.grid_graph.specs.Grids.{size_of, edge_numbers};
 ghost use Rattle.edge_prices.specs.TilePrices.{open_price, least_price_over, AreTilePrices};
-ghost use Rattle.edge_prices.specs.Vectors.{edge_numbers};
 ghost use Rattle.edge_prices.specs.Weights.{ArePrices};
 
 use crate::limits::MAX_PRICE;

@@ -28,29 +28,29 @@ pub struct Weighing<'a> {
     ghost used: { IsLeastDemand net.grid.now net.width demand },
     ghost tiled: { ForSome tile_prices (λ over. AreTilePrices net.grid.now net.prices.now over.now) },
     ghost low: { AreLeast net.grid.now net.prices.now least },
-    ghost listed: { IsWeightList (size_of net.grid.now) (pieces_with net.grid.now net.ground (weights.weight net.grid.now net.width net.prices.now)) },
-    ghost under: { AreLeastOver (size_of net.grid.now) (pieces_with net.grid.now net.ground (weights.weight net.grid.now net.width net.prices.now)) (least_weight_over net.grid.now net.prices.now demand) },
+    ghost listed: { IsWeightList (size_of net.grid.now) (pieces_with net.grid.now net.ground (weights.piece_weight net.grid.now net.width net.prices.now)) },
+    ghost under: { AreLeastOver (size_of net.grid.now) (pieces_with net.grid.now net.ground (weights.piece_weight net.grid.now net.width net.prices.now)) (least_weight_over net.grid.now net.prices.now demand) },
 }
 
 impl<'a> Weighing<'a> {
-    ghost use Rattle.std.specs.Prelude.{◌≡◌, ◌+◌, ◌*◌, ◌≤◌, ◌<◌, ◌^◌, None, IfSome};
+    ghost use Rattle.std.specs.Prelude.{◌≡◌, ◌+◌, ◌*◌, ◌≤◌, ◌<◌, None, IfSome};
     ghost use Rattle.std.specs.Option.{ForSome};
     ghost use Rattle.grid_graph.specs.Flat.{tiles};
-    ghost use Rattle.grid_graph.specs.Grids.{size_of, IsNetWidth};
+    ghost use Rattle.grid_graph.specs.Grids.{size_of, IsNetWidth, edge_numbers};
     ghost use Rattle.grid_graph.specs.Limits.{max_weight};
     ghost use Rattle.edge_prices.specs.Floors.{AreLeast};
+    ghost use Rattle.edge_prices.specs.Limits.{max_cost};
     ghost use Rattle.edge_prices.specs.PieceLists.{AreGroundPieces};
     ghost use Rattle.edge_prices.specs.TilePrices.{AreTilePrices, least_price_over, weight_at};
-    ghost use Rattle.edge_prices.specs.Vectors.{edge_numbers};
     ghost use Rattle.edge_prices.specs.Weighings.{weighed_size, weighed_pieces, weight_by};
-    ghost use Rattle.edge_prices.specs.Weights.{IsPriceList, weight, wirelength_price};
+    ghost use Rattle.edge_prices.specs.Weights.{IsPriceList, piece_weight, wirelength_price};
 
     /// The pieces of the ground with their weights for a net of this width, at a price list.
     pub fn new(grid: &'a Grid, width: u32, ground: Ground, prices: &'a [u32]) -> Weighing<'a>
         requires width { IsNetWidth grid.now width }
         requires prices { IsPriceList grid.now prices.now }
         ensures size { weighed_size result ≡ size_of grid.now }
-        ensures pieces { AreGroundPieces grid.now ground (weight grid.now width prices.now) (weighed_pieces result) }
+        ensures pieces { AreGroundPieces grid.now ground (piece_weight grid.now width prices.now) (weighed_pieces result) }
     {
         let net = NetPrices::new(grid, width, ground, prices, false);
         Weighing::at(net, LeastPrices::NONE, None)
@@ -67,7 +67,7 @@ impl<'a> Weighing<'a> {
         requires least { AreLeast net.grid.now net.prices.now least }
         requires tile_prices { ForSome tile_prices (λ over. AreTilePrices net.grid.now net.prices.now over.now) }
         ensures size { weighed_size result ≡ size_of net.entry.grid.now }
-        ensures pieces { AreGroundPieces net.entry.grid.now net.entry.ground (weight net.entry.grid.now net.entry.width net.entry.prices.now) (weighed_pieces result) }
+        ensures pieces { AreGroundPieces net.entry.grid.now net.entry.ground (piece_weight net.entry.grid.now net.entry.width net.entry.prices.now) (weighed_pieces result) }
     {
         let wirelength_price = net.prices[2 * net.grid.size().vertices() as usize];
         let demand = net.least_demand();
@@ -111,7 +111,7 @@ impl<'a> Weighing<'a> {
 
     /// The weight of an edge that costs this much, or of a choked one.
     fn weight_of(&self, cost: Option<u64>) -> u64
-        requires { IfSome cost (λ x. x ≤ 2 ^ 25) }
+        requires { IfSome cost (λ x. x ≤ max_cost) }
         ensures some { IfSome cost (λ x. result ≡ 4 * (x + wirelength_price self.now.net.grid.now self.now.net.prices.now) + 1) }
         ensures none { cost ≡ None → result ≡ max_weight }
         ensures limit { result ≤ max_weight }
@@ -124,7 +124,7 @@ impl<'a> Weighing<'a> {
 
     /// The weight of an open edge that costs this much. A via weighs as much as one that costs nothing.
     fn open_weight(&self, cost: u64) -> u64
-        requires { cost ≤ 2 ^ 25 }
+        requires { cost ≤ max_cost }
         ensures value { result ≡ 4 * (cost + wirelength_price self.now.net.grid.now self.now.net.prices.now) + 1 }
         ensures limit { result ≤ max_weight }
     {

@@ -2,6 +2,7 @@ pub mod Counting
 pub mod Fullest
 pub mod Loads
 pub mod Peaks
+pub mod PeaksWith
 pub mod Order
 pub mod Ratios
 pub mod Reaching

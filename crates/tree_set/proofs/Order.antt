@@ -1,16 +1,21 @@
 -- The order of pieces is total, and it is the one that `Piece` derives.
-use Rattle.std.proofs.Common.{◌≡◌, refl, ap, sym, ◌∙◌, ◌+◌, true, List, [], get_or, eqb-true}
+use Rattle.std.proofs.Common.{◌≡◌, ℕ, ◌<◌, refl, ap, sym, ◌∙◌, ◌+◌, subst, ⊎_elim, arith, true, List, [], get_or, eqb-true}
 use Rattle.std.specs.Cmp.{IsTotalOrder, IsEquivalence}
 use Rattle.std.specs.List.Sorted.{IsSorted, IsStrictlySortedBy}
 use Rattle.std.specs.List.{dedup}
+use Rattle.std.proofs.lemmas.Bool.{cases_lt}
 use Rattle.std.proofs.lemmas.List.Kept.{IsStrictlySortedBy-dedup}
+use Rattle.std.proofs.lemmas.Map.Keys.{Less-from_sorted}
+use Rattle.std.proofs.lemmas.Option.{slice_get_within, get_or_from_slice_get}
 use Rattle.std.specs.Ordering.{ordering_reverse, eq_by_cmp, is_eq, is_lt}
+use Rattle.std.specs.declared.cmp.Ordering.TheVariants.{Less, Greater}
 use Rattle.grid_base.specs.declared.piece.Piece.{Piece}
 use Rattle.grid_base.specs.declared.piece.Piece.TheVariants.{Edge, Via}
 use Rattle.grid_base.specs.contracts.piece.PieceOrd.TheImpl as ord
 use Rattle.grid_base.specs.contracts.piece.PieceOrd.TheImpl.Laws.{total-law, matches_eq-law}
 use Rattle.grid_base.specs.contracts.piece.PiecePartialEq.TheImpl as equal
 use Rattle.grid_base.specs.contracts.piece.PieceEq.TheImpl.Laws.{laws-law}
+use Rattle.grid_base.specs.Lists.{At, HasNoRepeats}
 use Rattle.tree_set.specs.Order.{piece_cmp, IsRising}
 
 pub piece_cmp-derived : (p q : Piece) → ord.ghosts.cmp p q ≡ piece_cmp p q
@@ -54,3 +59,24 @@ empty-IsRising = tt
 -- a list in the derived order, without repeats by the derived test, rises
 pub IsRising-dedup : (ps : List Piece) → IsSorted ord.ghosts.cmp ps → IsRising (dedup equal.ghosts.eq ps)
 IsRising-dedup ps up = IsStrictlySortedBy-dedup piece_cmp-total piece_eq-ties ps (IsSorted-written ps up)
+
+-- no piece comes before itself
+before_itself : (p : Piece) → ¬ (piece_cmp p p ≡ Less)
+before_itself p less =
+    let turned : Less ≡ Greater = sym less ∙ piece_cmp-total.antisymm p p ∙ ap ordering_reverse less in
+    absurd (cc turned)
+
+twice_in_rising : (tree : List Piece) (i j : ℕ) (p : Piece) → IsRising tree → i < j → At tree i p → At tree j p → ⊥
+twice_in_rising tree i j p rising before first second =
+    let less = Less-from_sorted piece_cmp tree i j p rising before (slice_get_within tree j p second) in
+    before_itself p (subst (λ q. piece_cmp q p ≡ Less) (get_or_from_slice_get tree i p p first) (subst (λ q. piece_cmp (get_or tree i p) q ≡ Less) (get_or_from_slice_get tree j p p second) less))
+
+-- no piece stands in a rising list twice
+pub rising_once : (tree : List Piece) → IsRising tree → HasNoRepeats tree
+rising_once tree rising i j p first second = ⊎_elim
+    (λ before. absurd (twice_in_rising tree i j p rising before first second))
+    (λ le. ⊎_elim
+    (λ behind. absurd (twice_in_rising tree j i p rising behind second first))
+    (λ ge. omega arith)
+    (cases_lt j i))
+    (cases_lt i j)

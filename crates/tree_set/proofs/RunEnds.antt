@@ -12,7 +12,7 @@ use Rattle.grid_base.specs.declared.axis.Axis.{Axis}
 use Rattle.grid_base.specs.declared.axis.Axis.TheVariants.{X, Y}
 use Rattle.grid_base.specs.declared.piece.Piece.{Piece}
 use Rattle.grid_base.specs.declared.size.Size.{Size}
-use Rattle.grid_base.specs.Lines.{is_along, edge_from, step}
+use Rattle.grid_base.specs.Lines.{is_along, edge_from, stride}
 use Rattle.grid_base.specs.Numbers.{start_of, end_of}
 use Rattle.grid_base.proofs.Chosen.{Contains-filter}
 use Rattle.grid_base.proofs.Lines.{start_of-edge_from, end_of-edge_from, is_along-edge_from, edge_from-start_of, end_of-along}
@@ -21,11 +21,11 @@ use Rattle.tree_set.specs.Order.{piece_cmp, IsRising}
 use Rattle.tree_set.specs.Runs.{begins_run, run_end}
 
 -- where an edge along an axis ends at a vertex, it is the one from a step before
-ends_at : (s : Size) (axis : Axis) (p : Piece) (v : ℕ) → is_along axis p ≡ true → (end_of s p == v) ≡ true → start_of p + step axis s ≡ v
+ends_at : (s : Size) (axis : Axis) (p : Piece) (v : ℕ) → is_along axis p ≡ true → (end_of s p == v) ≡ true → start_of p + stride axis s ≡ v
 ends_at s axis p v along ends = sym (end_of-along s axis p along) ∙ eqb-true _ _ ends
 
 -- no edge along an axis ends at a vertex that is less than a step above 0
-pub begins_run-low : (s : Size) (axis : Axis) (ps : List Piece) (v : ℕ) → v < step axis s → begins_run s (filter (is_along axis) ps) v ≡ true
+pub begins_run-low : (s : Size) (axis : Axis) (ps : List Piece) (v : ℕ) → v < stride axis s → begins_run s (filter (is_along axis) ps) v ≡ true
 begins_run-low s axis ps v low =
     ap not (list_any_none (λ p. end_of s p == v) (filter (is_along axis) ps)
     (λ k d below. false_from_ne_true _ (λ ends.
@@ -33,12 +33,12 @@ begins_run-low s axis ps v low =
     absurd (omega (arith, ends_at s axis (get_or (filter (is_along axis) ps) k d) v along ends, low)))))
 
 -- a run begins at a vertex where the set doesn't hold the edge from a step before
-pub begins_run-tested : (s : Size) (axis : Axis) (ps : List Piece) (v : ℕ) (held : Bool) → step axis s ≤ v → (held ≡ true) ↔ Contains ps (edge_from axis (v - step axis s)) → not held ≡ begins_run s (filter (is_along axis) ps) v
+pub begins_run-tested : (s : Size) (axis : Axis) (ps : List Piece) (v : ℕ) (held : Bool) → stride axis s ≤ v → (held ≡ true) ↔ Contains ps (edge_from axis (v - stride axis s)) → not held ≡ begins_run s (filter (is_along axis) ps) v
 begins_run-tested s axis ps v true high member =
     let edges = filter (is_along axis) ps in
-    let before = edge_from axis (v - step axis s) in
-    let at = Contains-filter (is_along axis) ps before (is_along-edge_from axis (v - step axis s)) (member.0 refl) in
-    let ends : (end_of s (get_or edges at.0 before) == v) ≡ true = rw at.2 (eq-eqb _ _ (end_of-edge_from s axis (v - step axis s) ∙ omega (arith, high))) in
+    let before = edge_from axis (v - stride axis s) in
+    let at = Contains-filter (is_along axis) ps before (is_along-edge_from axis (v - stride axis s)) (member.0 refl) in
+    let ends : (end_of s (get_or edges at.0 before) == v) ≡ true = rw at.2 (eq-eqb _ _ (end_of-edge_from s axis (v - stride axis s) ∙ omega (arith, high))) in
     ap not (sym (list_any_at (λ p. end_of s p == v) edges at.0 before at.1 ends))
 begins_run-tested s axis ps v false high member =
     let edges = filter (is_along axis) ps in
@@ -46,9 +46,9 @@ begins_run-tested s axis ps v false high member =
     (λ k d below. false_from_ne_true _ (λ ends.
     let edge = get_or edges k d in
     let along = filter_passes (is_along axis) ps k d below in
-    let near : start_of edge ≡ v - step axis s = omega (arith, ends_at s axis edge v along ends) in
+    let near : start_of edge ≡ v - stride axis s = omega (arith, ends_at s axis edge v along ends) in
     let held : Contains ps edge = All-filter (is_along axis) (Contains ps) ps (All-contains_itself ps) k d below in
-    let is : edge ≡ edge_from axis (v - step axis s) = edge_from-start_of axis edge along ∙ ap (edge_from axis) near in
+    let is : edge ≡ edge_from axis (v - stride axis s) = edge_from-start_of axis edge along ∙ ap (edge_from axis) near in
     let yes : false ≡ true = member.1 (subst (Contains ps) is held) in
     cc))))
 
@@ -93,7 +93,7 @@ run_end-goes s (e ∷ es) v up (suc k) d below is =
     rw (off, past) (run_end-goes s es v (λ i j a first last. up (suc i) (suc j) a (omega (arith, first)) (omega (arith, last))) k d (omega (arith, below)) is)
 
 -- a run that stands at a vertex goes on where the set holds the edge from it
-pub run_end-held : (s : Size) (axis : Axis) (ps : List Piece) (v : ℕ) → IsRising ps → Contains ps (edge_from axis v) → run_end s (filter (is_along axis) ps) v ≡ run_end s (filter (is_along axis) ps) (v + step axis s)
+pub run_end-held : (s : Size) (axis : Axis) (ps : List Piece) (v : ℕ) → IsRising ps → Contains ps (edge_from axis v) → run_end s (filter (is_along axis) ps) v ≡ run_end s (filter (is_along axis) ps) (v + stride axis s)
 run_end-held s axis ps v up held =
     let edges = filter (is_along axis) ps in
     let edge = edge_from axis v in

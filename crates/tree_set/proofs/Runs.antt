@@ -1,22 +1,23 @@
 -- The runs of a rising set are its longest ones, and each of its edges lies on one.
-use Rattle.std.proofs.Common.{◌≡◌, ℕ, suc, ◌+◌, ◌*◌, ◌<◌, ◌≤◌, ◌==◌, Bool, true, false, List, [], ◌∷◌, get_or, Contains, All, sym, ◌∙◌, ap, subst, ⊎_elim, arith, eq-eqb}
+use Rattle.std.proofs.Common.{◌≡◌, ℕ, suc, ◌+◌, ◌*◌, ◌<◌, ◌≤◌, ◌==◌, Bool, true, false, List, [], ◌∷◌, get_or, Contains, All, refl, sym, ◌∙◌, ap, subst, ⊎_elim, arith, eq-eqb}
 use Rattle.std.specs.Prelude.{filter}
 use Rattle.std.specs.List.{list_any}
 use Rattle.std.proofs.lemmas.Bool.{cases_Bool, cases_lt, not-true, both_ways}
-use Rattle.std.proofs.lemmas.List.Elements.{All-filter, All-map}
+use Rattle.std.proofs.lemmas.List.Elements.{All-contains, All-filter, All-map}
 use Rattle.std.proofs.lemmas.List.Folds.{list_any_at}
 use Rattle.grid_base.specs.declared.axis.Axis.{Axis}
 use Rattle.grid_base.specs.declared.piece.Piece.{Piece}
+use Rattle.grid_base.specs.declared.piece.Piece.TheVariants.{Edge, Via}
 use Rattle.grid_base.specs.declared.size.Size.{Size}
-use Rattle.grid_base.specs.Lines.{is_along, edge_from, step}
-use Rattle.grid_base.specs.Numbers.{IsPiece, IsVertex, start_of, end_of}
+use Rattle.grid_base.specs.Lines.{is_along, edge_from, stride}
+use Rattle.grid_base.specs.Numbers.{IsPiece, IsVertex, place_at, start_of, end_of, to_next_layer}
 use Rattle.grid_base.proofs.Chosen.{Contains-filter, left_by_filter, Contains-map, made_by_map}
-use Rattle.grid_base.proofs.Lines.{no_steps, start_of-edge_from, is_along-edge_from, edge_from-start_of}
+use Rattle.grid_base.proofs.Lines.{IsLine, moved, no_steps, place_on_line, vertex_on_line, start_of-edge_from, is_along-edge_from, edge_from-start_of}
 use Rattle.grid_base.proofs.Pieces.{end_of-vertex}
 use Rattle.tree_set.specs.Order.{IsRising}
 use Rattle.tree_set.specs.Routings.{ArePieces}
 use Rattle.tree_set.specs.Runs.{IsLongestRun, begins_run, run_end, runs, is_via, vias}
-use Rattle.tree_set.proofs.Ways.{way-behind, whole_way, way_to}
+use Rattle.tree_set.proofs.Ways.{held-vertex, way-behind, whole_way, way_to}
 
 -- where a run begins, no edge along the axis ends
 no_edge_before : (s : Size) (axis : Axis) (tree : List Piece) (v : ℕ) → begins_run s (filter (is_along axis) tree) v ≡ true → (p : Piece) → Contains tree p → is_along axis p ≡ true → end_of s p ≡ v → ⊥
@@ -33,7 +34,7 @@ longest_from s axis tree v up pieces held begins =
     ⊎_elim
     (λ (more : 0 < whole.long). more)
     (λ (none : whole.long ≤ 0).
-    let here : v + whole.long * step axis s ≡ v = ap (λ n. v + n * step axis s) (omega (arith, none)) ∙ no_steps v (step axis s) in
+    let here : v + whole.long * stride axis s ≡ v = ap (λ n. v + n * stride axis s) (omega (arith, none)) ∙ no_steps v (stride axis s) in
     absurd (whole.done (subst (λ u. Contains tree (edge_from axis u)) (sym here) held)))
     (cases_lt 0 whole.long)
     in
@@ -63,7 +64,7 @@ pub record LiesOnRun (s : Size) (axis : Axis) (tree : List Piece) (v : ℕ) : Ty
   pub longest : IsLongestRun s axis tree ends
   pub steps : ℕ
   pub below : steps < longest.long
-  pub there : ends.0 + steps * step axis s ≡ v
+  pub there : ends.0 + steps * stride axis s ≡ v
 
 -- where a run begins with an edge of the set, it is one of the set's runs
 is_run_from : (s : Size) (axis : Axis) (tree : List Piece) (v : ℕ) → Contains tree (edge_from axis v) → begins_run s (filter (is_along axis) tree) v ≡ true → Contains (runs s (filter (is_along axis) tree)) (v, run_end s (filter (is_along axis) tree) v)
@@ -81,7 +82,7 @@ edge_lies_on_run s axis tree v up pieces held =
     let to = way_to s axis tree v in
     let start = to.start in
     let way = way-behind s axis tree start to.long to.way (rw to.back held) in
-    let first : Contains tree (edge_from axis start) = subst (λ u. Contains tree (edge_from axis u)) (no_steps start (step axis s)) (way.held 0 (omega arith)) in
+    let first : Contains tree (edge_from axis start) = subst (λ u. Contains tree (edge_from axis u)) (no_steps start (stride axis s)) (way.held 0 (omega arith)) in
     let run = longest_from s axis tree start up pieces first to.begins in
     record {
       ends = (start, run_end s (filter (is_along axis) tree) start);
@@ -123,3 +124,29 @@ vias_have_ends s pieces are =
     (λ k d below.
     let piece = All-filter is_via (IsPiece s) pieces are k d below in
     (piece.0, end_of-vertex s (get_or (filter is_via pieces) k d) piece))
+
+-- the two ends of a run are vertices in line
+pub record RunEnds (s : Size) (axis : Axis) (ends : ℕ × ℕ) (long : ℕ) : Type 0 where
+  pub start : IsVertex s ends.0
+  pub end : IsVertex s ends.1
+  pub place : place_at s ends.1 ≡ moved axis long (place_at s ends.0)
+
+pub run_line : {s : Size} {axis : Axis} {tree : List Piece} {ends : ℕ × ℕ} (pieces : ArePieces s tree) (run : IsLongestRun s axis tree ends) → IsLine s axis ends.0 run.long
+run_line {s = s} {axis = axis} {tree = tree} {ends = ends} pieces run =
+    record { each = λ i below. All-contains (IsPiece s) tree (edge_from axis (ends.0 + i * stride axis s)) pieces (run.held i below) }
+
+pub run_ends : (s : Size) (axis : Axis) (tree : List Piece) (ends : ℕ × ℕ) (pieces : ArePieces s tree) (run : IsLongestRun s axis tree ends) → RunEnds s axis ends run.long
+run_ends s axis tree ends pieces run =
+    let line : IsLine s axis ends.0 run.long = run_line pieces run in
+    let first : Contains tree (edge_from axis ends.0) = subst (λ u. Contains tree (edge_from axis u)) (no_steps ends.0 (stride axis s)) (run.held 0 run.some) in
+    let start : IsVertex s ends.0 = held-vertex s axis tree ends.0 pieces first in
+    record {
+      start = start;
+      end = subst (IsVertex s) (sym run.end) (vertex_on_line s axis ends.0 run.long start line);
+      place = ap (place_at s) run.end ∙ place_on_line s axis ends.0 run.long line;
+    }
+
+-- a via goes up from its start
+pub via_is : (p : Piece) → is_via p ≡ true → p ≡ to_next_layer (start_of p)
+via_is (Edge e) is = cc
+via_is (Via v) is = refl

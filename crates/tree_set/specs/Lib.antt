@@ -3,6 +3,7 @@ pub use Rattle.grid_base.specs.Numbers
 pub use Rattle.grid_base.specs.Walks
 pub use Rattle.grid_graph.specs.Grids
 pub use Rattle.grid_graph.specs.Grounds
+pub mod Budgets
 pub mod Fractions
 pub mod Fullest
 pub mod Loads

@@ -1,5 +1,5 @@
 -- The measures of a load per edge number: overflow and peak; and the wirelength.
-use Rattle.std.specs.Prelude.{ℕ, ◌≡◌, ◌≢◌, ◌-◌, ◌*◌, ◌≤◌, List, length, map, Option, Some, None}
+use Rattle.std.specs.Prelude.{ℕ, ◌≡◌, ◌≢◌, ◌-◌, ◌*◌, ◌≤◌, ◌⊎◌, List, length, map, Option, Some, None}
 use Rattle.std.specs.List.{sum, sum_by, range_with_len}
 use Rattle.grid_base.specs.declared.piece.Piece.{Piece}
 use Rattle.grid_base.specs.Numbers.{vertices}
@@ -35,3 +35,15 @@ pub record IsGreatest (g : Grid) (load : ℕ → ℕ) (f : Fraction) : Type 0 wh
 abbrev pub IsPeak : Grid → (ℕ → ℕ) → Option Fraction → Type 0
 IsPeak g load None = (e : ℕ) → kind g e ≢ Open
 IsPeak g load (Some f) = IsGreatest g load f
+
+-- the fraction is load/capacity of an open edge or of the wirelength, whose capacity is the budget, and none of these has more
+pub record IsGreatestWith (g : Grid) (load : ℕ → ℕ) (wire budget : ℕ) (f : Fraction) : Type 0 where
+  pub reached : IsRatio wire budget f ⊎ ((edge : ℕ) × (kind g edge ≡ Open) × IsRatio (load edge) (capacity g edge) f)
+  pub most : (e : ℕ) → kind g e ≡ Open → load e * f.den ≤ f.num * capacity g e
+  pub of_wire : wire * f.den ≤ f.num * budget
+
+-- the peak with a budget, if there is one: the greatest load/capacity over the open edges and the wirelength
+abbrev pub IsPeakWith : Grid → (ℕ → ℕ) → ℕ → Option ℕ → Option Fraction → Type 0
+IsPeakWith g load wire None peak = IsPeak g load peak
+IsPeakWith g load wire (Some budget) None = ⊥
+IsPeakWith g load wire (Some budget) (Some f) = IsGreatestWith g load wire budget f

@@ -5,7 +5,7 @@ use Rattle.grid_base.specs.declared.axis.Axis.{Axis}
 use Rattle.grid_base.specs.declared.piece.Piece.{Piece}
 use Rattle.grid_base.specs.declared.piece.Piece.TheVariants.{Edge, Via}
 use Rattle.grid_base.specs.declared.size.Size.{Size}
-use Rattle.grid_base.specs.Lines.{is_along, edge_from, step}
+use Rattle.grid_base.specs.Lines.{is_along, edge_from, stride}
 use Rattle.grid_base.specs.Numbers.{start_of, end_of}
 
 -- the piece is a via
@@ -33,7 +33,7 @@ vias s pieces = map (λ via. (start_of via, end_of s via)) (filter is_via pieces
 pub record IsLongestRun (s : Size) (axis : Axis) (tree : List Piece) (ends : ℕ × ℕ) : Type 0 where
   pub long : ℕ
   pub some : 0 < long
-  pub end : ends.1 ≡ ends.0 + long * step axis s
-  pub held : (i : ℕ) → i < long → Contains tree (edge_from axis (ends.0 + i * step axis s))
+  pub end : ends.1 ≡ ends.0 + long * stride axis s
+  pub held : (i : ℕ) → i < long → Contains tree (edge_from axis (ends.0 + i * stride axis s))
   pub first : (p : Piece) → Contains tree p → IsTrue (is_along axis p) → end_of s p ≢ ends.0
   pub last : ¬ Contains tree (edge_from axis ends.1)

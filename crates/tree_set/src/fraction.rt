@@ -10,7 +10,7 @@ use crate::divisor::greatest_divisor;
 pub struct Fraction {
     /// The numerator, below 2^70.
     pub num: u128,
-    /// The denominator, from 1 to 2^57.
+    /// The denominator, from 1 to 2^58.
     pub den: u128,
     pub ghost lowest: { IsLowest num den },
 }

@@ -19,6 +19,7 @@
 
 #![tactic(auto)]
 
+mod budget;
 mod divisor;
 mod fraction;
 mod joining;
@@ -32,6 +33,7 @@ mod reached;
 mod tree;
 mod within;
 
+pub use budget::Budget;
 pub use fraction::Fraction;
 pub use joining::joins;
 pub use laws::loads_add_up;

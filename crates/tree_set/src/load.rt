@@ -5,8 +5,7 @@ ghost use Rattle.grid_base.specs.Numbers.{vertices};
 ghost use Rattle.grid_graph.specs.Grids.{IsNetWidth, size_of};
 ghost use Rattle.tree_set.specs.Loads.{net_load};
 ghost use Rattle.tree_set.specs.Routings.{ArePieces};
-ghost use Rattle.tree_set.specs.Limits.{max_load};
-ghost use Rattle.grid_graph.specs.Limits.{max_demand};
+ghost use Rattle.grid_graph.specs.Limits.{max_demand, max_load};
 
 use crate::tree::Tree;
 use grid_base::Piece;

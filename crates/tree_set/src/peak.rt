@@ -5,7 +5,7 @@ ghost use Rattle.grid_base.specs.Numbers.{vertices};
 ghost use Rattle.grid_graph.specs.Grids as grids;
 ghost use Rattle.tree_set.specs.Measures as measures;
 ghost use Rattle.tree_set.specs.Fullest.{IsFullestBelow};
-ghost use Rattle.tree_set.specs.Limits.{max_load};
+ghost use Rattle.grid_graph.specs.Limits.{max_load};
 ghost use Rattle.grid_graph.specs.Grids.{size_of};
 
 use crate::fraction::Fraction;

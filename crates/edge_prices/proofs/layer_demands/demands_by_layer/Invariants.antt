@@ -1,9 +1,8 @@
 use Rattle.std.proofs.Common.{◌≡◌, ℕ, length, ◌<◌, ◌≤◌, slice_index}
 use Rattle.grid_base.specs.Limits.{max_layers}
 use Rattle.grid_base.specs.Numbers.{layer_of, edge_start}
-use Rattle.grid_graph.specs.Grids.{size_of, demand_on}
+use Rattle.grid_graph.specs.Grids.{size_of, demand_on, edge_numbers}
 use Rattle.grid_graph.specs.Limits.{max_demand}
-use Rattle.edge_prices.specs.Vectors.{edge_numbers}
 use Rattle.edge_prices.proofs.layer_demands.demands_by_layer.Given as goal
 
 -- the demands of the layers before this one are known

@@ -2,7 +2,7 @@ use Rattle.std.proofs.Common.{ℕ, Bor, List, ◌≡◌, sym, subst, ◌∙◌}
 use Rattle.grid_graph.specs.declared.grid.Grid.{Grid}
 use Rattle.edge_prices.specs.Demands.{AreAllPriced}
 use Rattle.edge_prices.specs.TilePrices.{AreTilePrices}
-use Rattle.edge_prices.specs.Weights.{ArePrices, weight}
+use Rattle.edge_prices.specs.Weights.{ArePrices, piece_weight}
 use Rattle.edge_prices.proofs.GroundPieces.{AreGroundPieces-same}
 use Rattle.edge_prices.proofs.PriceVectors.{price_vector-ArePrices, price_vector-AreAllPriced}
 use Rattle.edge_prices.proofs.kept_prices.KeptPrices.weighing.Goals as goal
@@ -23,7 +23,7 @@ pub returns-clause-pieces : goal.returns-clause-pieces
 returns-clause-pieces c =
     let net = c.new-net.result in
     let made = c.new-net.ensures in
-    AreGroundPieces-same weight net.grid.now _ net.ground _ net.width _ net.prices.now _ _ made.grid made.ground made.width
+    AreGroundPieces-same piece_weight net.grid.now _ net.ground _ net.width _ net.prices.now _ _ made.grid made.ground made.width
     (made.prices ∙ c.as_slice.ensures.value ∙ (c.args.self.now.kept.fresh c.requires.renewed).vector) c.at.ensures.pieces
 
 pub at-requires-clause-tile_prices : goal.at-requires-clause-tile_prices

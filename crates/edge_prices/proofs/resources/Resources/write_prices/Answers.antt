@@ -1,7 +1,8 @@
 use Rattle.std.proofs.Common.{◌≡◌, ◌<◌, length, arith}
 use Rattle.std.proofs.lemmas.List.FromFn.{fill_by_all}
 use Rattle.std.proofs.lemmas.List.Edits.{fill_by_more}
-use Rattle.edge_prices.specs.Vectors.{price_of, entries, index_of}
+use Rattle.grid_graph.specs.Grids.{entries}
+use Rattle.edge_prices.specs.Vectors.{price_of, index_of}
 use Rattle.edge_prices.proofs.Greatest.{le-greatest}
 use Rattle.edge_prices.proofs.resources.Resources.write_prices.Goals as goal
 

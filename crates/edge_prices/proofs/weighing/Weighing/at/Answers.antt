@@ -1,6 +1,6 @@
 use Rattle.std.proofs.Common.{◌*◌, slice_index, ap, ◌∙◌}
 use Rattle.grid_base.specs.Numbers.{vertices}
-use Rattle.edge_prices.specs.Weights.{weight}
+use Rattle.edge_prices.specs.Weights.{piece_weight}
 use Rattle.edge_prices.proofs.GroundPieces.{pieces_with-Weighs}
 use Rattle.edge_prices.proofs.LeastOver.{least_over}
 use Rattle.edge_prices.proofs.WeightLimits.{weights_listed}
@@ -14,7 +14,7 @@ invariant_of-result-clause-listed c =
     let net = c.args.net in weights_listed net.grid.now net.ground net.width net.prices.now net.demands net.known.listed net.known.used
 
 pub returns-clause-pieces : goal.returns-clause-pieces
-returns-clause-pieces c = let net = c.args.net in pieces_with-Weighs net.grid.now net.ground (weight net.grid.now net.width net.prices.now)
+returns-clause-pieces c = let net = c.args.net in pieces_with-Weighs net.grid.now net.ground (piece_weight net.grid.now net.width net.prices.now)
 
 pub invariant_of-result-clause-under : goal.invariant_of-result-clause-under
 invariant_of-result-clause-under c =

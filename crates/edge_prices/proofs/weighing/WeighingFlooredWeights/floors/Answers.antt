@@ -3,11 +3,10 @@ use Rattle.std.proofs.lemmas.Nat.{mul-le}
 use Rattle.grid_base.specs.declared.axis.Axis.TheVariants.{X, Y}
 use Rattle.grid_graph.specs.declared.floors.Floors.{Floors}
 use Rattle.grid_graph.specs.Floors.{AreTileFloors}
-use Rattle.grid_graph.specs.Grids.{size_of}
+use Rattle.grid_graph.specs.Grids.{size_of, edge_numbers}
 use Rattle.grid_graph.specs.Limits.{max_demand}
 use Rattle.edge_prices.specs.Limits.{max_price}
 use Rattle.edge_prices.specs.TilePrices.{least_weight_over}
-use Rattle.edge_prices.specs.Vectors.{edge_numbers}
 use Rattle.edge_prices.specs.Weights.{wirelength_price}
 use Rattle.edge_prices.proofs.WeightFloors.{AreFloorsAt, floors-hold, floors-within, tile-floors}
 use Rattle.edge_prices.proofs.weighing.WeighingFlooredWeights.floors.Goals as goal

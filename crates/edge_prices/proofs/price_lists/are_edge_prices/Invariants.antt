@@ -1,8 +1,7 @@
 use Rattle.std.proofs.Common.{ℕ, ◌≡◌, ◌<◌, ◌≤◌, length, slice_index}
-use Rattle.grid_graph.specs.Grids.{capacity}
+use Rattle.grid_graph.specs.Grids.{capacity, edge_numbers}
 use Rattle.edge_prices.specs.Limits.{max_price}
-use Rattle.edge_prices.specs.Vectors.{edge_numbers}
-use Rattle.edge_prices.proofs.tests.are_edge_prices.Given as goal
+use Rattle.edge_prices.proofs.price_lists.are_edge_prices.Given as goal
 
 -- the entries before this one are prices
 abbrev pub invariant-loop-e : goal.invariant-loop-e
