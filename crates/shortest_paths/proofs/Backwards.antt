@@ -1,23 +1,21 @@
 -- Reading a path back from the numbers.
-use Rattle.std.proofs.Common.{◌≡◌, ℕ, ◌+◌, ◌<◌, List, Option, [], ◌∷◌, ◌++◌, reverse, Some, None, get_or, refl, sym, ◌∙◌, ap, subst, inl, inr, ⊎_elim, arith}
+use Rattle.std.proofs.Common.{◌≡◌, ℕ, ◌+◌, ◌<◌, List, Option, [], ◌∷◌, ◌++◌, reverse, Some, None, get_or, refl, sym, ◌∙◌, ap, subst, ⊎_elim, arith}
 use Rattle.std.proofs.lemmas.Bool.{cases_eq}
 use Rattle.std.proofs.lemmas.List.{reverse-append}
 use Rattle.std.proofs.lemmas.Option.{get_or_from_slice_get, same_Some}
 use Rattle.grid_base.specs.declared.piece.Piece.{Piece}
 use Rattle.grid_base.specs.declared.size.Size.{Size}
 use Rattle.grid_base.specs.declared.vertex.Vertex.{Vertex}
-use Rattle.grid_base.specs.Numbers.{IsVertex, Connects}
+use Rattle.grid_base.specs.Numbers.{IsVertex}
 use Rattle.grid_base.specs.Walks.{WalkBetween}
 use Rattle.grid_base.proofs.Walks.{WalkBetween-refl, WalkBetween-trans, WalkBetween-piece, WalkBetween-superset}
 use Rattle.grid_graph.specs.Weighed.{IsAllowed}
 use Rattle.grid_base.specs.Neighbours.{steps}
 use Rattle.grid_base.proofs.Neighbours.{connects_step}
-use Rattle.shortest_paths.specs.Paths.{IsStep, IsPath, Reaches}
+use Rattle.grid_base.proofs.Pieces.{connects_back}
+use Rattle.shortest_paths.specs.Paths.{IsArc, IsPath, IsPieceBack}
 use Rattle.shortest_paths.specs.Searches.{HasSet, IsBehind}
 use Rattle.shortest_paths.proofs.Sets.{extended, no_pieces}
-
-connects_back : (s : Size) (p : Piece) (a b : ℕ) → Connects s p a b → Connects s p b a
-connects_back s p a b connects = ⊎_elim (λ there. inr there) (λ back. inl back) connects
 
 -- a step that was read from a table of the steps
 pub read_step : (s : Size) (from k : ℕ) (table : List (Option (Vertex × Piece))) (x : Option (Vertex × Piece)) → table ≡ steps s from → get_or table k None ≡ x → get_or (steps s from) k None ≡ x
@@ -25,13 +23,13 @@ read_step s from k table x is read = ap (λ (xs : List (Option (Vertex × Piece)
 
 -- none of the steps below this place leads back
 abbrev pub NoneReachesBelow : Size → List (Piece × ℕ) → (ℕ → ℕ) → ℕ → ℕ → ℕ → Type 0
-NoneReachesBelow s pieces num here number n = (i : ℕ) (w : Vertex) (p : Piece) → i < n → get_or (steps s here) i None ≡ Some (w, p) → ¬ Reaches pieces p (num w.0) number
+NoneReachesBelow s pieces num here number n = (i : ℕ) (w : Vertex) (p : Piece) → i < n → get_or (steps s here) i None ≡ Some (w, p) → ¬ IsPieceBack pieces p (num w.0) number
 
-pub none_more : (s : Size) (pieces : List (Piece × ℕ)) (num : ℕ → ℕ) (here number n : ℕ) (to : Vertex) (by : Piece) → NoneReachesBelow s pieces num here number n → get_or (steps s here) n None ≡ Some (to, by) → ¬ Reaches pieces by (num to.0) number → NoneReachesBelow s pieces num here number (n + 1)
+pub none_more : (s : Size) (pieces : List (Piece × ℕ)) (num : ℕ → ℕ) (here number n : ℕ) (to : Vertex) (by : Piece) → NoneReachesBelow s pieces num here number n → get_or (steps s here) n None ≡ Some (to, by) → ¬ IsPieceBack pieces by (num to.0) number → NoneReachesBelow s pieces num here number (n + 1)
 none_more s pieces num here number n to by below at none i w p low is = ⊎_elim
     (λ last.
     let same : (to, by) ≡ (w, p) = same_Some (to, by) (w, p) (sym at ∙ ap (λ j. get_or (steps s here) j None) (sym last) ∙ is) in
-    subst (λ (x : Vertex × Piece). ¬ Reaches pieces x.1 (num x.0.0) number) same none)
+    subst (λ (x : Vertex × Piece). ¬ IsPieceBack pieces x.1 (num x.0.0) number) same none)
     (λ before. below i w p (omega arith) is)
     (cases_eq i n)
 
@@ -49,13 +47,13 @@ some_reaches s pieces num here is none =
     (record { weight = is.by; weighs = is.weighs; within = is.less })
 
 -- a path with one step more at its end
-pub path_more : (s : Size) (pieces : List (Piece × ℕ)) (a b d weight : ℕ) (p : Piece) (path : List Piece) (total : ℕ) → IsPath s pieces a b total path → IsStep s pieces p b d weight → IsPath s pieces a d (total + weight) (path ++ p ∷ [])
+pub path_more : (s : Size) (pieces : List (Piece × ℕ)) (a b d weight : ℕ) (p : Piece) (path : List Piece) (total : ℕ) → IsPath s pieces a b total path → IsArc s pieces p b d weight → IsPath s pieces a d (total + weight) (path ++ p ∷ [])
 path_more s pieces a b d weight p [] total (here, nothing) step =
-    (d, weight, 0, subst (λ v. IsStep s pieces p v d weight) (sym here) step, (refl, refl), omega (arith, nothing))
+    (d, weight, 0, subst (λ v. IsArc s pieces p v d weight) (sym here) step, (refl, refl), omega (arith, nothing))
 path_more s pieces a b d weight p (q ∷ path) total (next, first, left, is, rest, sum) step =
     (next, first, left + weight, is, path_more s pieces next b d weight p path left rest step, omega (arith, sum))
 
-step_back : (s : Size) (pieces : List (Piece × ℕ)) (a b weight : ℕ) (p : Piece) → IsStep s pieces p a b weight → IsStep s pieces p b a weight
+step_back : (s : Size) (pieces : List (Piece × ℕ)) (a b weight : ℕ) (p : Piece) → IsArc s pieces p a b weight → IsArc s pieces p b a weight
 step_back s pieces a b weight p is = record { connects = connects_back s p a b is.connects; weighs = is.weighs }
 
 -- a path can be turned round

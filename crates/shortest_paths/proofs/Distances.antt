@@ -3,8 +3,9 @@ use Rattle.std.proofs.Common.{◌≡◌, ◌≢◌, ℕ, ◌+◌, ◌-◌, ◌<�
 use Rattle.std.proofs.lemmas.Bool.{cases_eq, cases_lt}
 use Rattle.grid_base.specs.declared.piece.Piece.{Piece}
 use Rattle.grid_base.specs.declared.size.Size.{Size}
-use Rattle.grid_base.specs.Numbers.{IsVertex, Connects}
+use Rattle.grid_base.specs.Numbers.{IsVertex}
 use Rattle.grid_base.specs.Walks.{WalkBetween, Joins}
+use Rattle.grid_base.proofs.Pieces.{connects_back}
 use Rattle.grid_base.proofs.Walks.{walk_vertices}
 use Rattle.grid_graph.specs.Weighed.{IsAllowed, WeighsOnlyPieces, AreWithinLimit}
 use Rattle.shortest_paths.specs.declared.row.Row.{Row}
@@ -27,9 +28,6 @@ use Rattle.shortest_paths.proofs.Sets.{least_found, ends_joined}
 known : (ℕ → ℕ) → (ℕ → ℕ) → ℕ → ℕ → ℕ
 known num rest x v = min (num v) (x - rest v)
 
-pub falls_or_rises : (s : Size) (p : Piece) (a b : ℕ) → Connects s p a b → Connects s p b a
-falls_or_rises s p a b connects = ⊎_elim (λ there. inr there) (λ back. inl back) connects
-
 refuted : (m n : ℕ) → ¬ (n < m) → m ≤ n
 refuted m n none = ⊎_elim (λ less. absurd (none less)) (λ le. le) (cases_lt n m)
 
@@ -39,7 +37,7 @@ known_slow : (s : Size) (pieces : List (Piece × ℕ)) (num rest : ℕ → ℕ) 
 unfolding known
 known_slow s pieces num rest limit Waiting x slow settled far inside p k a b weighs connects =
     refuted (known num rest x b) (known num rest x a + k) (λ less.
-    let back = slow p k b a weighs (falls_or_rises s p a b connects) in
+    let back = slow p k b a weighs (connects_back s p a b connects) in
     let near : num a + rest a < x = omega (arith, less, back) in
     ⊎_elim
     (λ taken. omega (arith, less, back, taken, near))

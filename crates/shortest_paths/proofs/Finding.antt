@@ -1,15 +1,19 @@
 -- Slots and spots where one more vertex is found.
 use Rattle.std.proofs.Common.{◌≡◌, ◌≢◌, ℕ, ◌+◌, ◌<◌, ◌≤◌, ◌⊎◌, List, length, get_or, set, refl, sym, ◌∙◌, ap, subst, inl, inr, ⊎_elim, arith, eq-eqb, ne_eqb, get_or-set_same, get_or-set_other}
-use Rattle.std.proofs.lemmas.Bool.{cases_eq}
+use Rattle.std.proofs.lemmas.Bool.{cases_eq, cases_lt}
 use Rattle.std.proofs.lemmas.List.{length-set}
 use Rattle.grid_base.specs.declared.size.Size.{Size}
 use Rattle.grid_base.specs.declared.spot.Spot.{Spot}
 use Rattle.grid_base.specs.Numbers.{vertices, IsVertex}
-use Rattle.grid_base.specs.Spots.{IsSpot}
+use Rattle.grid_base.specs.Spots.{IsSpot, spot_at}
+use Rattle.grid_base.proofs.Spots.{spot_at-is}
+use Rattle.grid_base.specs.declared.vertex.Vertex.{Vertex}
+use Rattle.std.specs.List.{All}
+use Rattle.std.proofs.lemmas.List.Elements.{All-get_or}
 use Rattle.shortest_paths.specs.declared.found.Slot.{Slot}
 use Rattle.shortest_paths.specs.declared.found.Found.{Found}
-use Rattle.shortest_paths.specs.Finding.{AreFound, unset, nowhere, vertex_at}
-use Rattle.shortest_paths.specs.Founds.{index_in, FindsMore}
+use Rattle.shortest_paths.specs.Finding.{AreFound, unset, nowhere, vertex_found}
+use Rattle.shortest_paths.specs.Founds.{index_in, FindsMore, AreFoundFirst}
 use Rattle.shortest_paths.proofs.Pigeons.{less_than}
 
 -- the slot of a vertex with the present stamp has its index
@@ -31,31 +35,31 @@ pub unfound : (f : Found) (v : ℕ) → f.len ≤ index_in f v → (get_or f.slo
 unfound f v past is = omega (arith, past, index_in-found f v is, f.found.back v is)
 
 -- a found vertex stands at its index
-pub vertex_at-index : (f : Found) (v : ℕ) → index_in f v < f.len → vertex_at f.spots.items (index_in f v) ≡ v
-vertex_at-index f v inside = ⊎_elim
-    (λ is. ap (vertex_at f.spots.items) (index_in-found f v is) ∙ f.found.same v is)
+pub vertex_found-index : (f : Found) (v : ℕ) → index_in f v < f.len → vertex_found f.spots.items (index_in f v) ≡ v
+vertex_found-index f v inside = ⊎_elim
+    (λ is. ap (vertex_found f.spots.items) (index_in-found f v is) ∙ f.found.same v is)
     (λ other. absurd (omega (arith, inside, index_in-other f v other, f.found.room)))
     (cases_eq (get_or f.slots.items v unset).stamp f.present)
 
 -- two found vertices have different indices
 pub index_in-differ : (f : Found) (u v : ℕ) → index_in f u < f.len → index_in f u ≡ index_in f v → u ≡ v
 index_in-differ f u v inside same =
-    sym (vertex_at-index f u inside) ∙ ap (vertex_at f.spots.items) same ∙ vertex_at-index f v (subst (λ i. i < f.len) same inside)
+    sym (vertex_found-index f u inside) ∙ ap (vertex_found f.spots.items) same ∙ vertex_found-index f v (subst (λ i. i < f.len) same inside)
 
 -- a found vertex is one of the grid
 pub found_vertex : (f : Found) (v : ℕ) → index_in f v < f.len → IsVertex f.size v
-found_vertex f v inside = subst (IsVertex f.size) (vertex_at-index f v inside) (f.found.standing (index_in f v) inside).vertex
+found_vertex f v inside = subst (IsVertex f.size) (vertex_found-index f v inside) (f.found.standing (index_in f v) inside).vertex
 
 -- the vertex at an index has it
-pub index_in-at : (f : Found) (i : ℕ) → i < f.len → index_in f (vertex_at f.spots.items i) ≡ i
+pub index_in-at : (f : Found) (i : ℕ) → i < f.len → index_in f (vertex_found f.spots.items i) ≡ i
 index_in-at f i inside =
     let slot = f.found.indexed i inside in
-    index_in-found f (vertex_at f.spots.items i) (ap (λ (x : Slot). x.stamp) slot) ∙ ap (λ (x : Slot). x.index) slot
+    index_in-found f (vertex_found f.spots.items i) (ap (λ (x : Slot). x.stamp) slot) ∙ ap (λ (x : Slot). x.index) slot
 
 -- one that isn't found finds room
 pub room_for : (f : Found) (v : ℕ) → IsVertex f.size v → (get_or f.slots.items v unset).stamp ≢ f.present → f.len < vertices f.size
 room_for f v vertex new =
-    less_than (vertices f.size) f.len (vertex_at f.spots.items) v vertex (λ j high. (f.found.standing j high).vertex)
+    less_than (vertices f.size) f.len (vertex_found f.spots.items) v vertex (λ j high. (f.found.standing j high).vertex)
     (λ i j low high same. sym (index_in-at f i low) ∙ ap (index_in f) same ∙ index_in-at f j high)
     (λ j high same. new (subst (λ u. (get_or f.slots.items u unset).stamp ≡ f.present) same (ap (λ (x : Slot). x.stamp) (f.found.indexed j high))))
 
@@ -71,7 +75,7 @@ AreFound-more s slots spots len present to is at new room =
     let slot_there : (u : ℕ) → u ≢ v → get_or (set slots v slot) u unset ≡ get_or slots u unset = λ u other. get_or-set_other slots v u slot unset other in
     let spot_here : (i : ℕ) → i ≡ len → get_or (set spots len to) i nowhere ≡ to = λ i here. subst (λ j. get_or (set spots len to) j nowhere ≡ to) (sym here) (get_or-set_same spots len to nowhere in_spots) in
     let spot_there : (i : ℕ) → i ≢ len → get_or (set spots len to) i nowhere ≡ get_or spots i nowhere = λ i other. get_or-set_other spots len i to nowhere other in
-    let apart : (i : ℕ) → i < len → vertex_at spots i ≢ v = λ i low same. new (subst (λ u. (get_or slots u unset).stamp ≡ present) same (ap (λ (x : Slot). x.stamp) (is.indexed i low))) in
+    let apart : (i : ℕ) → i < len → vertex_found spots i ≢ v = λ i low same. new (subst (λ u. (get_or slots u unset).stamp ≡ present) same (ap (λ (x : Slot). x.stamp) (is.indexed i low))) in
     record {
       slot_count = length-set slots v slot ∙ is.slot_count;
       spot_count = length-set spots len to ∙ is.spot_count;
@@ -95,11 +99,11 @@ AreFound-more s slots spots len present to is at new room =
           omega (arith, ap (λ (x : Slot). x.index) same, is.back u (ap (λ (x : Slot). x.stamp) (sym same) ∙ stamped)))
           (cases_eq u v);
       same = λ u stamped. ⊎_elim
-          (λ here. ap (vertex_at (set spots len to)) (ap (λ (x : Slot). x.index) (slot_here u here)) ∙ ap (λ (x : Spot). x.vertex.0) (spot_here len refl) ∙ sym here)
+          (λ here. ap (vertex_found (set spots len to)) (ap (λ (x : Slot). x.index) (slot_here u here)) ∙ ap (λ (x : Spot). x.vertex.0) (spot_here len refl) ∙ sym here)
           (λ other.
           let same = slot_there u other in
           let old = ap (λ (x : Slot). x.stamp) (sym same) ∙ stamped in
-          ap (vertex_at (set spots len to)) (ap (λ (x : Slot). x.index) same) ∙ ap (λ (x : Spot). x.vertex.0) (spot_there _ (λ at_len. omega (arith, at_len, is.back u old))) ∙ is.same u old)
+          ap (vertex_found (set spots len to)) (ap (λ (x : Slot). x.index) same) ∙ ap (λ (x : Spot). x.vertex.0) (spot_there _ (λ at_len. omega (arith, at_len, is.back u old))) ∙ is.same u old)
           (cases_eq u v);
       stamps = λ u. ⊎_elim
           (λ here. omega (arith, ap (λ (x : Slot). x.stamp) (slot_here u here)))
@@ -120,3 +124,20 @@ FindsMore-trans a b d first second = record {
       (λ other. omega (arith, first.more, second.others v (omega (arith, other.0, b.found.room))))
       (found_cases b v);
 }
+
+-- what was found first stays so
+pub still_found : (listed : List Vertex) (count : ℕ) (old new : Found) → AreFoundFirst listed count old → FindsMore old new → AreFoundFirst listed count new
+still_found listed count old new first more = record {
+  room = omega (arith, first.room, more.more);
+  in_list = λ v low. ⊎_elim
+      (λ found. first.in_list v (omega (arith, low, more.kept v found)))
+      (λ past. absurd (omega (arith, low, first.room, more.others v past)))
+      (cases_lt (index_in old v) old.len);
+  first = λ v is. let low = first.first v is in omega (arith, low, more.kept v (omega (arith, low, first.room)));
+}
+
+-- a vertex of a list with its place
+pub listed_spot : (s t : Size) (terminals : List Vertex) (i : ℕ) (d : Vertex) (x : Spot) → All (λ (v : Vertex). IsVertex t v.0) terminals → t ≡ s → i < length terminals → x ≡ spot_at s (get_or terminals i d).0 → IsSpot s x
+listed_spot s t terminals i d x all same low is =
+    let vertex = subst (λ (r : Size). IsVertex r (get_or terminals i d).0) same (All-get_or (λ (v : Vertex). IsVertex t v.0) terminals i d low all) in
+    subst (IsSpot s) (sym is) (spot_at-is s (get_or terminals i d).0 vertex)

@@ -19,11 +19,11 @@ use Rattle.shortest_paths.specs.Floors.{floor_distance, floor_rest}
 use Rattle.shortest_paths.specs.Sets.{RisesSlowly}
 
 -- two numbers are at most so far apart
-abbrev AreWithin : ℕ → ℕ → ℕ → Type 0
-AreWithin a b gap = (a ≤ b + gap) × (b ≤ a + gap)
+abbrev pub AreApartBy : ℕ → ℕ → ℕ → Type 0
+AreApartBy a b gap = (a ≤ b + gap) × (b ≤ a + gap)
 
 -- a step more is a floor more at most
-scaled : (m n floor : ℕ) → m ≤ n + 1 → m * floor ≤ n * floor + floor
+pub scaled : (m n floor : ℕ) → m ≤ n + 1 → m * floor ≤ n * floor + floor
 scaled m n floor close = omega (arith, mul-le m floor (n + 1) floor close (omega arith))
 
 -- one step changes the difference to a number by at most one
@@ -35,13 +35,13 @@ one_less c g floor = scaled (abs_diff c g) (abs_diff (c + 1) g) floor (omega ari
 
 -- a step along an axis
 step_along : (floors : Floors) (axis : Axis) (p goal : Place) →
-    AreWithin (floor_distance floors (next_along axis p) goal) (floor_distance floors p goal) (floor_along floors axis)
+    AreApartBy (floor_distance floors (next_along axis p) goal) (floor_distance floors p goal) (floor_along floors axis)
 step_along floors X p goal = (omega (arith, one_more p.col goal.col floors.along_x), omega (arith, one_less p.col goal.col floors.along_x))
 step_along floors Y p goal = (omega (arith, one_more p.row goal.row floors.along_y), omega (arith, one_less p.row goal.row floors.along_y))
 
 -- the step of a piece
 step_of : (s : Size) (floors : Floors) (goal : Place) (p : Piece) →
-    AreWithin (floor_distance floors (end_place s p) goal) (floor_distance floors (place_at s (start_of p)) goal) (floor_of floors p)
+    AreApartBy (floor_distance floors (end_place s p) goal) (floor_distance floors (place_at s (start_of p)) goal) (floor_of floors p)
 step_of s floors goal (Edge e) = step_along floors (edge_axis e.0) (place_at s (edge_start e.0)) goal
 step_of s floors goal (Via v) =
     let here = place_at s v.0 in
@@ -53,7 +53,7 @@ floor_rest-vertex s floors goal v vertex = grind (arith, nat_tests, vertex)
 
 -- the ends of a piece
 ends_within : (s : Size) (floors : Floors) (goal : Place) (p : Piece) (a b : ℕ) → Goes s p a b →
-    AreWithin (floor_rest s floors goal b) (floor_rest s floors goal a) (floor_of floors p)
+    AreApartBy (floor_rest s floors goal b) (floor_rest s floors goal a) (floor_of floors p)
 ends_within s floors goal p a b goes =
     let rest = floor_rest s floors goal in
     let far : Place → ℕ = λ q. floor_distance floors q goal in

@@ -10,9 +10,9 @@ use Rattle.grid_base.specs.Numbers.{vertices, cols, rows, layers, IsVertex, IsPi
 use Rattle.grid_base.specs.Walks.{WalkBetween}
 use Rattle.grid_base.proofs.Pieces.{end_of-vertex}
 use Rattle.grid_base.proofs.Walks.{WalkBetween-refl, WalkBetween-sym, WalkBetween-trans, WalkBetween-piece, WalkBetween-superset, closed_under_walks, walk_vertices}
+use Rattle.grid_base.proofs.Lists.{head_or_rest}
 use Rattle.grid_graph.specs.Weighed.{IsAllowed, NoPieceTwice, AreWithinLimit}
 use Rattle.shortest_paths.specs.Sets.{IsSetOf, weight}
-use Rattle.shortest_paths.proofs.Law.{head_or_rest}
 use Rattle.shortest_paths.proofs.Pigeons.{closed}
 use Rattle.shortest_paths.proofs.Sets.{once_more, weighs_at_most}
 

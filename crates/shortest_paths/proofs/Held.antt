@@ -2,7 +2,7 @@
 use Rattle.std.proofs.Common.{◌≡◌, ◌≢◌, ℕ, ◌+◌, ◌-◌, ◌<◌, ◌⊎◌, List, length, get_or, refl, sym, ◌∙◌, ap, subst, inl, inr, ⊎_elim, arith}
 use Rattle.std.proofs.lemmas.Bool.{cases_eq}
 use Rattle.std.proofs.lemmas.Grind.{common_steps}
-use Rattle.shortest_paths.specs.Heaps.{IsIndexed, HasGap, Holds, IsFilled}
+use Rattle.shortest_paths.specs.Heaps.{IsIndexed, HasGap, Holds, FillsGap}
 use Rattle.shortest_paths.specs.Held.{IsLeastHeld}
 use Rattle.shortest_paths.specs.declared.heap.Heap.{Heap}
 use Rattle.shortest_paths.proofs.Order.{root_least}
@@ -39,11 +39,11 @@ gap_inside ks vs ps len v place is inside here = record {
   other = λ j low other same. other (places_differ ks vs ps len is j place low inside (same ∙ sym here));
 }
 
-pub inserted_kept : (ks vs new_ks new_vs : List ℕ) (len v key : ℕ) → IsFilled ks vs new_ks new_vs (len + 1) len v key → (u k : ℕ) → Holds ks vs len u k → Holds new_ks new_vs (len + 1) u k
+pub inserted_kept : (ks vs new_ks new_vs : List ℕ) (len v key : ℕ) → FillsGap ks vs new_ks new_vs (len + 1) len v key → (u k : ℕ) → Holds ks vs len u k → Holds new_ks new_vs (len + 1) u k
 inserted_kept ks vs new_ks new_vs len v key is u k held =
     is.kept u k (record { place = held.place; inside = omega arith; elsewhere = λ same. omega (arith, held.inside); vertex = held.vertex; valued = held.valued })
 
-pub inserted_only : (ks vs new_ks new_vs : List ℕ) (len v key : ℕ) → ((j : ℕ) → j < len → get_or vs j 0 ≢ v) → IsFilled ks vs new_ks new_vs (len + 1) len v key →
+pub inserted_only : (ks vs new_ks new_vs : List ℕ) (len v key : ℕ) → ((j : ℕ) → j < len → get_or vs j 0 ≢ v) → FillsGap ks vs new_ks new_vs (len + 1) len v key →
     (u k : ℕ) → Holds new_ks new_vs (len + 1) u k → ((u ≡ v) × (k ≡ key)) ⊎ ((u ≢ v) × Holds ks vs len u k)
 inserted_only ks vs new_ks new_vs len v key new is u k held = ⊎_elim
     (λ here. inl here)
@@ -52,12 +52,12 @@ inserted_only ks vs new_ks new_vs len v key new is u k held = ⊎_elim
     inr (λ same. new old.place inside (old.vertex ∙ same), record { place = old.place; inside = inside; vertex = old.vertex; valued = old.valued }))
     (is.only u k held)
 
-pub raised_kept : (ks vs new_ks new_vs : List ℕ) (len v place key : ℕ) → get_or vs place 0 ≡ v → IsFilled ks vs new_ks new_vs len place v key →
+pub raised_kept : (ks vs new_ks new_vs : List ℕ) (len v place key : ℕ) → get_or vs place 0 ≡ v → FillsGap ks vs new_ks new_vs len place v key →
     (u k : ℕ) → u ≢ v → Holds ks vs len u k → Holds new_ks new_vs len u k
 raised_kept ks vs new_ks new_vs len v place key here is u k other held =
     is.kept u k (record { place = held.place; inside = held.inside; elsewhere = λ same. other (sym held.vertex ∙ ap (λ j. get_or vs j 0) same ∙ here); vertex = held.vertex; valued = held.valued })
 
-pub raised_only : (ks vs ps new_ks new_vs : List ℕ) (len v place key : ℕ) → IsIndexed ks vs ps len → place < len → get_or vs place 0 ≡ v → IsFilled ks vs new_ks new_vs len place v key →
+pub raised_only : (ks vs ps new_ks new_vs : List ℕ) (len v place key : ℕ) → IsIndexed ks vs ps len → place < len → get_or vs place 0 ≡ v → FillsGap ks vs new_ks new_vs len place v key →
     (u k : ℕ) → Holds new_ks new_vs len u k → ((u ≡ v) × (k ≡ key)) ⊎ ((u ≢ v) × Holds ks vs len u k)
 raised_only ks vs ps new_ks new_vs len v place key indexed inside here is u k held = ⊎_elim
     (λ new. inl new)
@@ -69,7 +69,7 @@ raised_only ks vs ps new_ks new_vs len v place key indexed inside here is u k he
 
 -- the last entry took the place of the first
 pub taken_kept : (ks vs new_ks new_vs : List ℕ) (len first v key : ℕ) → get_or vs 0 0 ≡ first → get_or vs (len - 1) 0 ≡ v → get_or ks (len - 1) 0 ≡ key →
-    IsFilled ks vs new_ks new_vs (len - 1) 0 v key → (u k : ℕ) → u ≢ first → Holds ks vs len u k → Holds new_ks new_vs (len - 1) u k
+    FillsGap ks vs new_ks new_vs (len - 1) 0 v key → (u k : ℕ) → u ≢ first → Holds ks vs len u k → Holds new_ks new_vs (len - 1) u k
 taken_kept ks vs new_ks new_vs len first v key at_root at_v at_key is u k other held = ⊎_elim
     (λ last.
     let same_v : v ≡ u = sym at_v ∙ ap (λ j. get_or vs j 0) (sym last) ∙ held.vertex in
@@ -85,7 +85,7 @@ taken_kept ks vs new_ks new_vs len first v key at_root at_v at_key is u k other 
     (cases_eq held.place (len - 1))
 
 pub taken_only : (ks vs ps new_ks new_vs : List ℕ) (len first v key : ℕ) → IsIndexed ks vs ps len → 0 < len - 1 → get_or vs 0 0 ≡ first → get_or vs (len - 1) 0 ≡ v → get_or ks (len - 1) 0 ≡ key →
-    IsFilled ks vs new_ks new_vs (len - 1) 0 v key → (u k : ℕ) → Holds new_ks new_vs (len - 1) u k → (u ≢ first) × Holds ks vs len u k
+    FillsGap ks vs new_ks new_vs (len - 1) 0 v key → (u k : ℕ) → Holds new_ks new_vs (len - 1) u k → (u ≢ first) × Holds ks vs len u k
 taken_only ks vs ps new_ks new_vs len first v key indexed some at_root at_v at_key is u k held = ⊎_elim
     (λ last. (
       λ same. omega (arith, places_differ ks vs ps len indexed (len - 1) 0 (omega arith) (omega arith) (at_v ∙ sym last.0 ∙ same ∙ sym at_root)),

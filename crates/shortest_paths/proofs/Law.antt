@@ -9,6 +9,7 @@ use Rattle.grid_base.specs.declared.piece.Piece.{Piece}
 use Rattle.grid_base.specs.declared.size.Size.{Size}
 use Rattle.grid_base.specs.Numbers.{Connects}
 use Rattle.grid_base.specs.Walks.{AreLinked, WalkBetween}
+use Rattle.grid_base.proofs.Lists.{head_or_rest}
 use Rattle.grid_base.proofs.Walks.{AreLinked-sym, WalkBetween-refl, WalkBetween-step, WalkBetween-sym, WalkBetween-trans, WalkBetween-link, closed_under_walks, walk_vertices, linked_vertex}
 use Rattle.grid_graph.specs.Weighed.{IsAllowed}
 use Rattle.shortest_paths.specs.Sets.{RisesSlowly, weight}
@@ -19,10 +20,6 @@ one_end s p x y v w first second = ⊎_elim
     (λ there. ⊎_elim (λ goes. inr (sym goes.2 ∙ there.2)) (λ goes. inl (sym goes.1 ∙ there.1)) second)
     (λ back. ⊎_elim (λ goes. inl (sym goes.2 ∙ back.2)) (λ goes. inr (sym goes.1 ∙ back.1)) second)
     first
-
--- a piece connects its ends in either order
-pub connects_back : (s : Size) (p : Piece) (a b : ℕ) → Connects s p a b → Connects s p b a
-connects_back s p a b connects = ⊎_elim (λ there. inr there) (λ back. inl back) connects
 
 -- a walk that uses the piece between two walks that don't
 pub record UsesBetween (s : Size) (F : Piece → Type 0) (p : Piece) (a b : ℕ) : Type 0 where
@@ -72,10 +69,6 @@ first_step s F a b walk =
     let step = AreLinked-sym s F w v link in
     (WalkBetween-step s F v w b step at.0, inr (record { next = w; link = step; rest = at.0 })))
     b a (WalkBetween-refl s F b (walk_vertices s F b a back).0, inl refl) back).1
-
-pub head_or_rest : {X : Type 0} (x : X) (rest : List X) (y : X) → Contains (x ∷ rest) y → (y ≡ x) ⊎ Contains rest y
-head_or_rest x rest y (zero, within, is) = inl (sym is)
-head_or_rest x rest y (suc k, within, is) = inr (k, omega (arith, within), is)
 
 -- a piece of a set and the rest of the set
 pub record Splits (set : List (Piece × ℕ)) (x : Piece × ℕ) : Type 0 where

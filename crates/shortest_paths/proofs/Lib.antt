@@ -9,7 +9,6 @@ pub mod Spreading
 pub mod Distances
 pub mod Backwards
 pub mod FloorSteps
-pub mod Exchange
 pub mod Masks
 pub mod Trees
 pub mod Forests
@@ -22,6 +21,7 @@ pub mod RowSteps
 pub mod Seeding
 pub mod RowTables
 pub mod Parts
-pub mod Growing
-pub mod Reaching
-pub mod LeastRest
+pub mod LedSearches
+pub mod Sources
+pub mod NearestGoals
+pub mod TileSets

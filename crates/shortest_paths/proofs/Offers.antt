@@ -3,18 +3,13 @@ use Rattle.std.proofs.Common.{◌≡◌, ◌≢◌, ℕ, ◌+◌, ◌<◌, ◌�
 use Rattle.std.proofs.lemmas.Bool.{cases_eq}
 use Rattle.grid_base.specs.declared.piece.Piece.{Piece}
 use Rattle.grid_base.specs.declared.size.Size.{Size}
-use Rattle.grid_base.specs.Numbers.{IsVertex, Connects}
-use Rattle.grid_base.proofs.Pieces.{neighbours_from_connects}
+use Rattle.grid_base.specs.Numbers.{Connects}
 use Rattle.grid_graph.specs.Weighed.{Weighs}
 use Rattle.shortest_paths.specs.declared.row.Row.{Row}
 use Rattle.shortest_paths.specs.Founds.{FindsMore}
 use Rattle.shortest_paths.specs.Rows.{number_in, IsWaiting, total}
-use Rattle.shortest_paths.specs.Runs.{IsSearch, TakesOffer, GoesOn}
+use Rattle.shortest_paths.specs.Runs.{IsSearch, TakesOffer, Advances}
 use Rattle.shortest_paths.specs.Stamped.{far}
-
--- the far end of a piece is a vertex
-pub end_vertex : (s : Size) (p : Piece) (a b : ℕ) → Connects s p a b → IsVertex s b
-end_vertex s p a b connects = (neighbours_from_connects s p a b connects).1
 
 -- one vertex got a lower number, and waits with it
 pub record IsLowered (old new : Row) (to number key : ℕ) : Type 0 where
@@ -67,7 +62,7 @@ lowered_taken old new to number key is = record {
 
 -- an offer by a piece from a vertex that has a number
 pub offered_goes_on : (s : Size) (pieces : List (Piece × ℕ)) (old new : Row) (from to reached k : ℕ) (p : Piece) → TakesOffer old new to (reached + k) → number_in old from ≡ reached → reached < far → Weighs pieces p k → Connects s p from to →
-    GoesOn s pieces old new
+    Advances s pieces old new
 offered_goes_on s pieces old new from to reached k p is at numbered weighs connects = record {
   fell = record {
     found = is.found;

@@ -8,13 +8,13 @@ use Rattle.grid_base.specs.declared.size.Size.{Size}
 use Rattle.grid_base.specs.declared.vertex.Vertex.{Vertex}
 use Rattle.grid_base.specs.Walks.{Joins}
 use Rattle.grid_base.proofs.Walks.{walk_vertices}
+use Rattle.grid_base.proofs.Pieces.{connects_back}
 use Rattle.grid_graph.specs.Weighed.{IsAllowed, AreWithinLimit}
 use Rattle.shortest_paths.specs.Masks.{single, all_of, WithVertex}
 use Rattle.shortest_paths.specs.Searches.{IsBehind}
 use Rattle.shortest_paths.specs.Sets.{IsSetOf, IsLeastWeight, weight}
 use Rattle.shortest_paths.specs.Tables.{IsHoldingTable, IsFamily, IsSplit, IsAlone, IsPrunedTable, IsPrunedLabel, IsLabel, IsReachedExactly, IsFromNeighbour, IsFromParts, rest_of, answer_at, completed}
 use Rattle.shortest_paths.proofs.Forests.{light_part}
-use Rattle.shortest_paths.proofs.Law.{connects_back}
 use Rattle.shortest_paths.proofs.Masks.{parts_rest, parts_sum, parts_turned}
 use Rattle.shortest_paths.proofs.Tables.{holds_for_sets}
 

@@ -7,7 +7,7 @@ use Rattle.grid_base.specs.Numbers.{vertices}
 use Rattle.shortest_paths.specs.declared.found.Found.{Found}
 use Rattle.shortest_paths.specs.declared.heap.Heap.{Heap}
 use Rattle.shortest_paths.specs.Founds.{index_in, FindsMore}
-use Rattle.shortest_paths.specs.Held.{IsHeld, capacity}
+use Rattle.shortest_paths.specs.Held.{IsHeld, heap_room}
 use Rattle.shortest_paths.specs.RowParts.{ArePartsOfRow}
 use Rattle.shortest_paths.specs.Stamped.{far}
 use Rattle.shortest_paths.proofs.Finding.{index_in-differ}
@@ -22,7 +22,7 @@ pub record IsEntered (old new : Found) (v i : ℕ) : Type 0 where
 
 -- the heap holds this key at an index, and otherwise what it held
 pub record IsLoweredAt (old new : Heap) (i key : ℕ) : Type 0 where
-  pub room : capacity new ≡ capacity old
+  pub room : heap_room new ≡ heap_room old
   pub kept : (u k : ℕ) → u ≢ i → IsHeld old u k → IsHeld new u k
   pub only : (u k : ℕ) → IsHeld new u k → ((u ≡ i) × (k ≡ key)) ⊎ ((u ≢ i) × IsHeld old u k)
 

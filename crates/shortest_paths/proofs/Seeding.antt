@@ -25,7 +25,7 @@ use Rattle.shortest_paths.proofs.Spreading.{still_answered}
 kept_past : (rows : KeptRows) (mask i : ℕ) → kept_len rows mask ≤ i → kept_in rows mask i ≡ far
 kept_past rows mask i past = let test : ltb i (kept_len rows mask) ≡ false = le-ltb _ _ past in rw test refl
 
-kept_cases : (rows : KeptRows) (mask i : ℕ) → kept_in rows mask i < far → i < kept_len rows mask
+pub kept_cases : (rows : KeptRows) (mask i : ℕ) → kept_in rows mask i < far → i < kept_len rows mask
 kept_cases rows mask i has = ⊎_elim (λ inside. inside) (λ past. absurd (omega (arith, has, kept_past rows mask i past))) (cases_lt i (kept_len rows mask))
 
 -- kept numbers stay where more vertices are found

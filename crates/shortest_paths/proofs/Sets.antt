@@ -13,9 +13,9 @@ use Rattle.grid_base.specs.Walks.{WalkBetween, Joins}
 use Rattle.grid_base.proofs.Walks.{WalkBetween-refl, walk_vertices}
 use Rattle.grid_base.proofs.Joined.{Joins-from_one}
 use Rattle.grid_base.specs.Lists.{At}
+use Rattle.grid_base.proofs.Lists.{head_or_rest}
 use Rattle.grid_graph.specs.Weighed.{Weighs, IsAllowed, NoPieceTwice, WeighsOnlyPieces, AreWithinLimit}
 use Rattle.shortest_paths.specs.Sets.{IsSetOf, IsLeastWeight, IsEither, weight}
-use Rattle.shortest_paths.proofs.Law.{head_or_rest}
 use Rattle.shortest_paths.proofs.Pigeons.{at_most}
 
 pub piece_cases : (p q : Piece) → (p ≡ q) ⊎ (p ≢ q)

@@ -10,15 +10,15 @@ use Rattle.grid_base.specs.Numbers.{Connects}
 use Rattle.grid_base.specs.Spots.{IsSpot, spot_at, spotted, spot_steps}
 use Rattle.grid_base.proofs.Neighbours.{connects_step, steps_lead, step_read}
 use Rattle.grid_base.proofs.Spots.{spot_at-is}
+use Rattle.grid_base.proofs.Pieces.{end_vertex}
 use Rattle.grid_graph.specs.Weighed.{Weighs}
 use Rattle.std.proofs.lemmas.Option.{get_or_from_slice_get, same_Some}
 use Rattle.shortest_paths.specs.declared.row.Row.{Row}
 use Rattle.shortest_paths.specs.Founds.{FindsMore}
 use Rattle.shortest_paths.specs.Paths.{IsPath}
 use Rattle.shortest_paths.specs.Rows.{number_in}
-use Rattle.shortest_paths.specs.Runs.{IsAnswered, IsSpreadWithin, FallsFrom, GoesOn}
+use Rattle.shortest_paths.specs.Runs.{IsAnswered, IsSpreadWithin, FallsFrom, Advances}
 use Rattle.shortest_paths.proofs.Finding.{FindsMore-refl, FindsMore-trans}
-use Rattle.shortest_paths.proofs.Offers.{end_vertex}
 
 -- a step of the list of the six, with its place
 pub record IsSpotStep (s : Size) (from i : ℕ) (to : Spot) (by : Piece) : Type 0 where
@@ -130,11 +130,11 @@ FallsFrom-trans s pieces a b d first second = record {
       (second.behind v has);
 }
 
-pub GoesOn-refl : (s : Size) (pieces : List (Piece × ℕ)) (r : Row) → GoesOn s pieces r r
-GoesOn-refl s pieces r = record { fell = FallsFrom-same s pieces r r (FindsMore-refl r.found) (λ v. refl); changed = λ v. inl refl; kept = λ v waits. waits; less = omega arith }
+pub Advances-refl : (s : Size) (pieces : List (Piece × ℕ)) (r : Row) → Advances s pieces r r
+Advances-refl s pieces r = record { fell = FallsFrom-same s pieces r r (FindsMore-refl r.found) (λ v. refl); changed = λ v. inl refl; kept = λ v waits. waits; less = omega arith }
 
-pub GoesOn-trans : (s : Size) (pieces : List (Piece × ℕ)) (a b d : Row) → GoesOn s pieces a b → GoesOn s pieces b d → GoesOn s pieces a d
-GoesOn-trans s pieces a b d first second = record {
+pub Advances-trans : (s : Size) (pieces : List (Piece × ℕ)) (a b d : Row) → Advances s pieces a b → Advances s pieces b d → Advances s pieces a d
+Advances-trans s pieces a b d first second = record {
   fell = FallsFrom-trans s pieces a b d first.fell second.fell;
   changed = λ v. ⊎_elim
       (λ same. ⊎_elim (λ still. inl (same ∙ still)) (λ waits. inr (second.kept v waits)) (first.changed v))

@@ -16,12 +16,13 @@ use Rattle.grid_base.specs.Numbers.{IsVertex, Connects, start_of}
 use Rattle.grid_base.specs.Walks.{AreLinked, WalkBetween, Joins}
 use Rattle.grid_base.proofs.Chosen.{Contains-filter, left_by_filter}
 use Rattle.grid_base.proofs.Walks.{WalkBetween-refl, WalkBetween-trans, WalkBetween-piece, closed_under_walks, linked_vertex, walk_vertices}
+use Rattle.grid_base.proofs.Pieces.{connects_back}
 use Rattle.grid_graph.specs.Weighed.{Weighs, IsAllowed}
 use Rattle.shortest_paths.specs.Masks.{bit, single, all_of, AreParts, WithVertex}
 use Rattle.shortest_paths.specs.Sets.{IsSetOf, weight}
 use Rattle.shortest_paths.specs.Tables.{IsHoldingTable}
 use Rattle.shortest_paths.proofs.Forests.{IsForest, forest, one_mark, mark_joins}
-use Rattle.shortest_paths.proofs.Law.{Splits, connects_back, first_step, one_end, parted, splits}
+use Rattle.shortest_paths.proofs.Law.{Splits, first_step, one_end, parted, splits}
 use Rattle.shortest_paths.proofs.Masks.{IsDivided, bit-small, divided, parts_sum, shared_sum, some_bit, two_parts}
 
 -- a set joins a vertex with each terminal of a mask

@@ -12,11 +12,11 @@ use Rattle.grid_base.specs.Numbers.{IsVertex, Connects}
 use Rattle.grid_base.specs.Walks.{WalkBetween}
 use Rattle.grid_base.proofs.Joined.{Joins-from_one, Joins-alone}
 use Rattle.grid_base.proofs.Walks.{WalkBetween-piece, WalkBetween-superset}
+use Rattle.grid_base.proofs.Lists.{head_or_rest}
 use Rattle.grid_graph.specs.Weighed.{Weighs, IsAllowed}
 use Rattle.shortest_paths.specs.Masks.{bit, single, AreParts, IsInMask, WithVertex}
 use Rattle.shortest_paths.specs.Sets.{IsSetOf, weight}
 use Rattle.shortest_paths.specs.Tables.{HasTree}
-use Rattle.shortest_paths.proofs.Law.{head_or_rest}
 use Rattle.shortest_paths.proofs.Masks.{bit-single, bit-small}
 use Rattle.shortest_paths.proofs.Sets.{extended, no_pieces}
 

@@ -1,6 +1,8 @@
 -- What was found.
-use Rattle.std.specs.Prelude.{ℕ, ◌≡◌, ◌<◌, ◌≤◌, ◌==◌, get_or, cond}
+use Rattle.std.specs.Prelude.{ℕ, ◌≡◌, ◌<◌, ◌≤◌, ◌==◌, List, get_or, cond}
+use Rattle.grid_base.specs.declared.vertex.Vertex.{Vertex}
 use Rattle.grid_base.specs.Numbers.{vertices}
+use Rattle.grid_base.specs.Walks.{InVertices}
 use Rattle.shortest_paths.specs.declared.found.Found.{Found}
 use Rattle.shortest_paths.specs.Finding.{unset}
 
@@ -14,3 +16,9 @@ pub record FindsMore (old new : Found) : Type 0 where
   pub more : old.len ≤ new.len
   pub kept : (v : ℕ) → index_in old v < old.len → index_in new v ≡ index_in old v
   pub others : (v : ℕ) → old.len ≤ index_in old v → old.len ≤ index_in new v
+
+-- so many vertices were found first, and they are those of the list
+pub record AreFoundFirst (listed : List Vertex) (count : ℕ) (f : Found) : Type 0 where
+  pub room : count ≤ f.len
+  pub in_list : (v : ℕ) → index_in f v < count → InVertices listed v
+  pub first : (v : ℕ) → InVertices listed v → index_in f v < count

@@ -40,7 +40,7 @@ pub record HoldsBeside (ks vs : List ℕ) (len gap v key : ℕ) : Type 0 where
   pub valued : slice_index ks place ≡ key
 
 -- the heap got the vertex v with this key, and holds otherwise what it held beside the gap
-pub record IsFilled (ks vs new_ks new_vs : List ℕ) (len gap v key : ℕ) : Type 0 where
+pub record FillsGap (ks vs new_ks new_vs : List ℕ) (len gap v key : ℕ) : Type 0 where
   pub placed : Holds new_ks new_vs len v key
   pub kept : (u k : ℕ) → HoldsBeside ks vs len gap u k → Holds new_ks new_vs len u k
   pub only : (u k : ℕ) → Holds new_ks new_vs len u k → ((u ≡ v) × (k ≡ key)) ⊎ HoldsBeside ks vs len gap u k

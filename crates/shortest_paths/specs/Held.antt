@@ -8,8 +8,8 @@ abbrev pub IsHeld : Heap → ℕ → ℕ → Type 0
 IsHeld h v key = Holds h.keys.items h.vertices.items h.len v key
 
 -- the heap has room for the vertices below this number
-abbrev pub capacity : Heap → ℕ
-capacity h = length h.keys.items
+abbrev pub heap_room : Heap → ℕ
+heap_room h = length h.keys.items
 
 -- the vertex v is in the heap with a key that none is below
 pub record IsLeastHeld (h : Heap) (v : ℕ) : Type 0 where

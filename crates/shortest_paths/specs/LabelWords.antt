@@ -12,8 +12,8 @@ use Rattle.shortest_paths.specs.Stamped.{most, far}
 use Rattle.shortest_paths.specs.Tables.{answer_at}
 
 -- the size of the grid that they are of
-abbrev pub size_of : Labels → Size
-size_of l = size_in l.row
+abbrev pub labels_size : Labels → Size
+labels_size l = size_in l.row
 
 -- how many sets of terminals they have room for
 abbrev pub masks_of : Labels → ℕ
@@ -24,12 +24,12 @@ abbrev pub source_of : Labels → ℕ
 source_of l = l.source.0
 
 -- the number of a vertex
-abbrev pub number_of : Labels → ℕ → ℕ
-number_of l v = number_in l.row v
+abbrev pub labels_number : Labels → ℕ → ℕ
+labels_number l v = number_in l.row v
 
 -- the same as an answer
 abbrev pub distance_of : Labels → ℕ → Option ℕ
-distance_of l v = answer_at far (number_of l v)
+distance_of l v = answer_at far (labels_number l v)
 
 -- the number of a mask at a vertex
 abbrev pub label_of : Labels → ℕ → ℕ → ℕ
@@ -41,5 +41,5 @@ HasDistance s pieces l v = IsDistance s pieces (source_of l) v (distance_of l v)
 
 -- each number leads back to the source, by neighbours whose numbers are smaller by a piece's weight
 pub record LeadsBack (s : Size) (pieces : List (Piece × ℕ)) (l : Labels) : Type 0 where
-  pub size : size_of l ≡ s
-  pub behind : (v : ℕ) → number_of l v ≤ most → (v ≡ source_of l) ⊎ IsBehind s pieces (number_of l) v
+  pub size : labels_size l ≡ s
+  pub behind : (v : ℕ) → labels_number l v ≤ most → (v ≡ source_of l) ⊎ IsBehind s pieces (labels_number l) v

@@ -19,5 +19,7 @@ pub mod Keeping
 pub mod Kept
 pub mod LabelParts
 pub mod NoFamilies
-pub mod Growths
-pub mod Aheads
+pub mod LedSearches
+pub mod Sources
+pub mod Starts
+pub mod Nearest

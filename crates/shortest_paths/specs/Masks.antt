@@ -3,6 +3,18 @@ use Rattle.std.specs.Prelude.{ℕ, ◌≡◌, ◌<◌, ◌+◌, ◌-◌, ◌/◌
 use Rattle.grid_base.specs.declared.vertex.Vertex.{Vertex}
 use Rattle.grid_base.specs.Lists.{At}
 
+-- tables over the sets of terminals are made for nets of up to so many: these get least trees and exact bounds
+abbrev pub few_terminals : ℕ
+few_terminals = 5
+
+-- the masks of so few terminals without their root
+abbrev pub rooted_masks : ℕ
+rooted_masks = 15
+
+-- the masks of so few terminals but that of them all
+abbrev pub proper_masks : ℕ
+proper_masks = 30
+
 -- 1 where the mask has the terminal at this place, else 0
 abbrev pub bit : ℕ → ℕ → ℕ
 bit mask place = mask / 2 ^ place % 2

@@ -3,13 +3,13 @@ use Rattle.std.specs.Prelude.{ℕ, ◌≡◌, ◌<◌, ◌≤◌, List, length, 
 use Rattle.grid_base.specs.Numbers.{vertices}
 use Rattle.shortest_paths.specs.declared.found.Found.{Found}
 use Rattle.shortest_paths.specs.declared.heap.Heap.{Heap}
-use Rattle.shortest_paths.specs.Held.{IsHeld, capacity}
+use Rattle.shortest_paths.specs.Held.{IsHeld, heap_room}
 use Rattle.shortest_paths.specs.Stamped.{far}
 
 -- a number by index for each found vertex, up to `far`, and `far` beyond them; what waits was found
 pub record ArePartsOfRow (found : Found) (numbers : List ℕ) (heap : Heap) : Type 0 where
   pub count : length numbers ≡ vertices found.size
-  pub room : capacity heap ≡ vertices found.size
+  pub room : heap_room heap ≡ vertices found.size
   pub limits : (i : ℕ) → get_or numbers i far ≤ far
   pub beyond : (i : ℕ) → found.len ≤ i → get_or numbers i far ≡ far
   pub waiting : (i key : ℕ) → IsHeld heap i key → i < found.len

@@ -55,7 +55,7 @@ pub record FallsFrom (s : Size) (pieces : List (Piece × ℕ)) (old new : Row) :
   pub behind : (v : ℕ) → number_in new v < far → (number_in new v ≡ number_in old v) ⊎ IsBehind s pieces (number_in new) v
 
 -- numbers that fell along paths, where what fell waits
-pub record GoesOn (s : Size) (pieces : List (Piece × ℕ)) (old new : Row) : Type 0 where
+pub record Advances (s : Size) (pieces : List (Piece × ℕ)) (old new : Row) : Type 0 where
   pub fell : FallsFrom s pieces old new
   pub changed : (v : ℕ) → (number_in new v ≡ number_in old v) ⊎ Waits new v
   pub kept : (v : ℕ) → Waits old v → Waits new v

@@ -37,5 +37,5 @@ abbrev pub IsLow : Size → List (Piece × ℕ) → ℕ → (ℕ → ℕ) → �
 IsLow s pieces source num v = (set : List (Piece × ℕ)) → IsSetOf pieces set → WalkBetween s (IsAllowed set) source v → num v ≤ weight set
 
 -- no neighbour of v by an allowed piece has a number that v could lower
-abbrev pub IsSpread : Size → List (Piece × ℕ) → (ℕ → ℕ) → ℕ → Type 0
-IsSpread s pieces num v = (p : Piece) (k u : ℕ) → Weighs pieces p k → Connects s p v u → num u ≤ num v + k
+abbrev pub IsRelaxed : Size → List (Piece × ℕ) → (ℕ → ℕ) → ℕ → Type 0
+IsRelaxed s pieces num v = (p : Piece) (k u : ℕ) → Weighs pieces p k → Connects s p v u → num u ≤ num v + k

@@ -14,7 +14,7 @@ pub record Link : Type 0 where
   pub distance : ℕ
 
 -- one of the links is that of a and b
-pub record AreLinked (links : List Link) (a b : ℕ) : Type 0 where
+pub record AreLinkEnds (links : List Link) (a b : ℕ) : Type 0 where
   pub link : Link
   pub listed : Contains links link
   pub ends : ((link.one ≡ a) × (link.other ≡ b)) ⊎ ((link.one ≡ b) × (link.other ≡ a))
@@ -22,7 +22,7 @@ pub record AreLinked (links : List Link) (a b : ℕ) : Type 0 where
 -- links lead from a through these vertices, and end at b
 abbrev pub LeadTo : List Link → ℕ → List ℕ → ℕ → Type 0
 LeadTo links a [] b = a ≡ b
-LeadTo links a (next ∷ way) b = AreLinked links a next × LeadTo links next way b
+LeadTo links a (next ∷ way) b = AreLinkEnds links a next × LeadTo links next way b
 
 -- a spanning tree by distances: so many links of the terminals, one fewer than there are terminals, that lead from each to each
 pub record IsSpanningTree (s : Size) (pieces : List (Piece × ℕ)) (terminals : List Vertex) (links : List Link) : Type 0 where
@@ -34,17 +34,3 @@ pub record IsSpanningTree (s : Size) (pieces : List (Piece × ℕ)) (terminals :
 -- its weight: the sum of the distances
 abbrev pub links_weight : List Link → ℕ
 links_weight links = sum_by (λ link. link.distance) links
-
--- links lead from v to one of the vertices of R
-pub record LedTo (links : List Link) (R : ℕ → Type 0) (v : ℕ) : Type 0 where
-  pub goal : ℕ
-  pub way : List ℕ
-  pub reached : R goal
-  pub leads : LeadTo links v way goal
-
--- what the growth of a tree keeps of the links: those that still lead each vertex of T to one of R, which is reached
-pub record IsExchanged (T : ℕ → Type 0) (links : List Link) (R : ℕ → Type 0) (total : ℕ) : Type 0 where
-  pub kept : List Link
-  pub light : total + links_weight kept ≤ links_weight links
-  pub only : (link : Link) → Contains kept link → Contains links link
-  pub led : (v : ℕ) → T v → LedTo kept R v

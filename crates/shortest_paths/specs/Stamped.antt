@@ -8,3 +8,7 @@ most = 2 ^ 61 - 1
 -- stands for the number of a vertex that has none, above all others
 abbrev pub far : ℕ
 far = 2 ^ 61
+
+-- no key of a search is greater: a number, and what is still to go at least
+abbrev pub max_key : ℕ
+max_key = 2 ^ 62

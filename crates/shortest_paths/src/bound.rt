@@ -5,11 +5,12 @@ use grid_base::{Place, Vertex};
 /// A lower bound of what is still to go from each vertex, which no allowed piece lets fall by more than its weight. A
 /// search takes the vertices in the order of their number and this bound together, so a good bound leads it to its goal.
 pub trait Bound {
-    ghost use Rattle.std.specs.Prelude.{◌≡◌, ◌≤◌, ◌^◌, ℕ, List};
+    ghost use Rattle.std.specs.Prelude.{◌≡◌, ◌≤◌, ℕ, List};
     ghost use Rattle.grid_base.specs.declared.piece.Piece.{Piece};
     ghost use Rattle.grid_base.specs.declared.size.Size.{Size};
     ghost use Rattle.grid_base.specs.Numbers.{IsVertex, place_at};
     ghost use Rattle.shortest_paths.specs.Sets.{RisesSlowly};
+    ghost use Rattle.shortest_paths.specs.Stamped.{far};
 
     ghost size: { Self → Size };
 
@@ -22,7 +23,7 @@ pub trait Bound {
         requires vertex { IsVertex (size self.now) v.0 }
         requires place { place ≡ place_at (size self.now) v.0 }
         ensures value { result ≡ rest self.now v.0 }
-        ensures limit { result ≤ 2 ^ 61 };
+        ensures limit { result ≤ far };
 
     ghost slow: { (x : Self) → RisesSlowly (size x) (pieces x) (rest x) };
 }

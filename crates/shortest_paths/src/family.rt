@@ -5,12 +5,13 @@ use grid_base::{Place, Vertex};
 /// A lower bound for each set of terminals and each vertex, of what joins them: numbers of a table that holds. A search
 /// for the trees of some terminals leaves out what is too heavy together with the bound for the others.
 pub trait Family {
-    ghost use Rattle.std.specs.Prelude.{◌≡◌, ◌<◌, ◌≤◌, ◌^◌, ℕ, List};
+    ghost use Rattle.std.specs.Prelude.{◌≡◌, ◌<◌, ◌≤◌, ℕ, List};
     ghost use Rattle.grid_base.specs.declared.piece.Piece.{Piece};
     ghost use Rattle.grid_base.specs.declared.size.Size.{Size};
     ghost use Rattle.grid_base.specs.declared.vertex.Vertex.{Vertex as Terminal};
     ghost use Rattle.grid_base.specs.Numbers.{IsVertex, place_at};
     ghost use Rattle.shortest_paths.specs.Masks.{all_of};
+    ghost use Rattle.shortest_paths.specs.Stamped.{far};
     ghost use Rattle.shortest_paths.specs.Tables.{IsFamily};
 
     ghost size: { Self → Size };
@@ -28,7 +29,7 @@ pub trait Family {
         requires vertex { IsVertex (size self.now) v.0 }
         requires place { place ≡ place_at (size self.now) v.0 }
         ensures value { result ≡ low self.now mask v.0 }
-        ensures limit { result ≤ 2 ^ 61 };
+        ensures limit { result ≤ far };
 
     ghost holds: { (x : Self) → IsFamily (size x) (pieces x) (terminals x) (low x) };
 }

@@ -6,8 +6,8 @@ ghost use Rattle.grid_graph.specs.Limits.{max_weight};
 ghost use Rattle.shortest_paths.specs.Floors.{floor_rest};
 ghost use Rattle.shortest_paths.specs.Sets.{RisesSlowly};
 
-use crate::apart::apart;
 use crate::bound::Bound;
+use crate::grid_distances::apart;
 use grid_base::{Place, Size, Vertex};
 use grid_graph::{Floors, MAX_WEIGHT, Weights};
 

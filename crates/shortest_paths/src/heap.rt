@@ -23,12 +23,12 @@ pub(crate) struct Heap {
 impl Heap {
     ghost use Rattle.std.specs.Prelude.{◌≡◌, ◌≢◌, ◌<◌, ◌≤◌, ◌+◌, ◌⊎◌, ℕ, true, false, Some, None, IfOk, IfSome, IfNone, slice_index};
     ghost use Rattle.grid_base.specs.Limits.{max_vertices};
-    ghost use Rattle.shortest_paths.specs.Held.{IsHeld, IsLeastHeld, capacity};
+    ghost use Rattle.shortest_paths.specs.Held.{IsHeld, IsLeastHeld, heap_room};
 
     /// An empty heap with room for the vertices below this number.
     pub(crate) fn new(alloc: Global, vertices: u32) -> Result<Heap, NoMemory>
         requires { vertices ≤ max_vertices }
-        ensures room { IfOk result (λ h. capacity h ≡ vertices) }
+        ensures room { IfOk result (λ h. heap_room h ≡ vertices) }
         ensures empty { IfOk result (λ h. h.len ≡ 0) }
     {
         let room = vertices as usize;
@@ -45,7 +45,7 @@ impl Heap {
 
     /// Takes all out.
     pub(crate) fn clear(&mut self)
-        ensures room { capacity self.new ≡ capacity self.old }
+        ensures room { heap_room self.new ≡ heap_room self.old }
         ensures empty { self.new.len ≡ 0 }
         ensures none { (v key : ℕ) → ¬ IsHeld self.new v key }
     {
@@ -54,9 +54,9 @@ impl Heap {
 
     /// Puts a vertex in with this key, or lowers its key to this.
     pub(crate) fn lower(&mut self, index: u32, key: u64)
-        requires vertex { index < capacity self.old }
+        requires vertex { index < heap_room self.old }
         requires lower { (k : ℕ) → IsHeld self.old index k → key ≤ k }
-        ensures room { capacity self.new ≡ capacity self.old }
+        ensures room { heap_room self.new ≡ heap_room self.old }
         ensures count { self.new.len ≤ self.old.len + 1 }
         ensures placed { IsHeld self.new index key }
         ensures kept { (u k : ℕ) → u ≢ index → IsHeld self.old u k → IsHeld self.new u k }
@@ -76,17 +76,15 @@ impl Heap {
         self.len == 0
     }
 
-    /// The lesser of a key and that of the vertex, if it is in the heap.
-    pub(crate) fn lesser(&self, index: u32, key: u64) -> u64
-        requires vertex { index < capacity self.now }
-        ensures one { (result ≡ key) ⊎ IsHeld self.now index result }
-        ensures less { result ≤ key }
-        ensures held { (k : ℕ) → IsHeld self.now index k → result ≤ k }
+    /// The key of a vertex, if it is in the heap.
+    pub(crate) fn key(&self, index: u32) -> Option<u64>
+        requires vertex { index < heap_room self.now }
+        ensures some { IfSome result (λ key. IsHeld self.now index key) }
+        ensures only { IfSome result (λ key. (k : ℕ) → IsHeld self.now index k → key ≤ k) }
+        ensures none { result ≡ None → (key : ℕ) → ¬ IsHeld self.now index key }
     {
-        match self.place_of(index) {
-            Some(place) => key.min(self.keys[place]),
-            None => key,
-        }
+        let place = self.place_of(index)?;
+        Some(self.keys[place])
     }
 
     /// The least key.
@@ -104,7 +102,7 @@ impl Heap {
     /// Takes a vertex of least key out.
     pub(crate) fn take(&mut self) -> u32
         requires { 0 < self.old.len }
-        ensures room { capacity self.new ≡ capacity self.old }
+        ensures room { heap_room self.new ≡ heap_room self.old }
         ensures count { self.new.len + 1 ≡ self.old.len }
         ensures least { IsLeastHeld self.old result }
         ensures kept { (u k : ℕ) → u ≢ result → IsHeld self.old u k → IsHeld self.new u k }
@@ -130,7 +128,7 @@ impl Heap {
 
     /// The place of a vertex that is in the heap.
     fn place_of(&self, index: u32) -> Option<usize>
-        requires { index < capacity self.now }
+        requires { index < heap_room self.now }
         ensures place { IfSome result (λ p. (p < self.now.len) × (slice_index self.now.vertices.items p ≡ index)) }
         ensures none { result ≡ None → (j : ℕ) → j < self.now.len → slice_index self.now.vertices.items j ≢ index }
     {
@@ -147,7 +145,7 @@ impl Heap {
         requires inside { place < self.old.len }
         requires vertex { slice_index self.old.vertices.items place ≡ index }
         requires lower { key ≤ slice_index self.old.keys.items place }
-        ensures room { capacity self.new ≡ capacity self.old }
+        ensures room { heap_room self.new ≡ heap_room self.old }
         ensures count { self.new.len ≡ self.old.len }
         ensures placed { IsHeld self.new index key }
         ensures kept { (u k : ℕ) → u ≢ index → IsHeld self.old u k → IsHeld self.new u k }
@@ -166,9 +164,9 @@ impl Heap {
 
     /// Puts in a vertex that isn't there.
     fn insert(&mut self, index: u32, key: u64)
-        requires vertex { index < capacity self.old }
+        requires vertex { index < heap_room self.old }
         requires other { (j : ℕ) → j < self.old.len → slice_index self.old.vertices.items j ≢ index }
-        ensures room { capacity self.new ≡ capacity self.old }
+        ensures room { heap_room self.new ≡ heap_room self.old }
         ensures count { self.new.len ≡ self.old.len + 1 }
         ensures placed { IsHeld self.new index key }
         ensures kept { (u k : ℕ) → IsHeld self.old u k → IsHeld self.new u k }

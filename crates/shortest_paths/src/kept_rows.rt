@@ -23,10 +23,11 @@ impl KeptRows {
     ghost use Rattle.std.specs.Prelude.{◌≡◌, ◌≢◌, ◌<◌, ◌≤◌, ◌+◌, ◌*◌, ℕ, IfOk, length, get_or, cond, ltb};
     ghost use Rattle.grid_base.specs.Limits.{max_vertices};
     ghost use Rattle.shortest_paths.specs.Kept.{kept_in, kept_len, masks_in};
+    ghost use Rattle.shortest_paths.specs.Masks.{proper_masks};
 
     /// Empty rows for this many masks, each with room for so many numbers.
     pub(crate) fn new(alloc: Global, masks: u32, room: u32) -> Result<KeptRows, NoMemory>
-        requires masks { masks ≤ 30 }
+        requires masks { masks ≤ proper_masks }
         requires room { room ≤ max_vertices }
         ensures room { IfOk result (λ k. k.room ≡ room) }
         ensures masks { IfOk result (λ k. masks_in k ≡ masks) }
@@ -70,6 +71,27 @@ impl KeptRows {
         } else {
             FAR
         }
+    }
+
+    /// A number of indices below which stand all at which both masks have a number.
+    pub(crate) fn shared_len(&self, one: u32, other: u32) -> u32
+        requires one { 0 < one }
+        requires one_room { one ≤ masks_in self.now }
+        requires other { 0 < other }
+        requires other_room { other ≤ masks_in self.now }
+        ensures within { result ≤ kept_len self.now one }
+        ensures shared { (i : ℕ) → kept_in self.now one i < far → kept_in self.now other i < far → i < result }
+    {
+        self.row_len(one).min(self.row_len(other))
+    }
+
+    /// How many numbers the row of a mask has.
+    fn row_len(&self, mask: u32) -> u32
+        requires some { 0 < mask }
+        requires room { mask ≤ masks_in self.now }
+        ensures { result ≡ kept_len self.now mask }
+    {
+        self.lens[(mask - 1) as usize]
     }
 
     /// Stores the row of a mask.

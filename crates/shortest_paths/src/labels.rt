@@ -4,20 +4,19 @@ ghost use Rattle.shortest_paths.specs.LabelParts.{ArePartsOfLabels};
 
 use crate::bound::Bound;
 use crate::family::Family;
-use crate::grow::grow;
 use crate::kept_rows::KeptRows;
 use crate::no_bound::NoBound;
 use crate::no_family::NoFamily;
 use crate::rest_of::RestOf;
 use crate::row::{FAR, MOST, Row};
-use crate::search::{exhaust, offer, settle, settle_each};
+use crate::search::{exhaust, offer, settle, settle_each, start_each};
 use crate::seeds::seed;
 use grid_base::{NoMemory, Piece, Size, Spot, Vertex, steps};
-use grid_graph::{FlooredWeights, Weights};
+use grid_graph::Weights;
 use std::alloc::Global;
 
 /// Above each number with what is still to go: no offer is refused for this limit.
-const NO_LIMIT: u64 = 1 << 62;
+pub(crate) const NO_LIMIT: u64 = 1 << 62;
 
 /// Numbers of the vertices of a grid by the latest search: after `distances` or `distance_between` distances from a
 /// source, after `subsets` or `pruned` least weights of trees.
@@ -25,9 +24,9 @@ const NO_LIMIT: u64 = 1 << 62;
 /// After `distances` other vertices than those asked for may have a number too, which is at least their distance.
 #[derive(Drop)]
 pub struct Labels {
-    source: Vertex,
-    row: Row,
-    rows: KeptRows,
+    pub(crate) source: Vertex,
+    pub(crate) row: Row,
+    pub(crate) rows: KeptRows,
     pub ghost parts: { ArePartsOfLabels row rows },
 }
 
@@ -35,15 +34,13 @@ impl Labels {
     ghost use Rattle.std.specs.Prelude.{◌≡◌, ◌≢◌, ◌<◌, ◌≤◌, ◌+◌, ◌-◌, ◌↔◌, ◌⊎◌, ℕ, List, [], All, IfOk, IfSome, IsSome, IsTrue, length};
     ghost use Rattle.grid_base.specs.declared.piece.Piece.{Piece};
     ghost use Rattle.grid_base.specs.Numbers.{IsVertex, Connects};
-    ghost use Rattle.grid_base.specs.Walks.{Joins, InPieces, InVertices, JoinsList};
-    ghost use Rattle.grid_graph.specs.Weighed.{IsAllowed};
-    ghost use Rattle.shortest_paths.specs.Growths.{AreLight};
-    ghost use Rattle.shortest_paths.specs.Spanning.{Link, IsSpanningTree, links_weight};
-    ghost use Rattle.shortest_paths.specs.LabelWords.{size_of, masks_of, source_of, number_of, distance_of, label_of, HasDistance, LeadsBack};
-    ghost use Rattle.shortest_paths.specs.Masks.{all_of, all_but_root};
-    ghost use Rattle.shortest_paths.specs.Paths.{IsPath, IsStepBack, Reaches, NoneWeighsNothing};
+    ghost use Rattle.shortest_paths.specs.LabelWords.{labels_size, masks_of, source_of, labels_number, distance_of, label_of, HasDistance, LeadsBack};
+    ghost use Rattle.shortest_paths.specs.Masks.{proper_masks, few_terminals, all_of, all_but_root};
+    ghost use Rattle.shortest_paths.specs.Paths.{IsPath, IsStepBack, IsPieceBack, NoneWeighsNothing};
     ghost use Rattle.shortest_paths.specs.Rows.{number_in, IsWaiting};
     ghost use Rattle.shortest_paths.specs.Runs.{IsSearch};
+    ghost use Rattle.shortest_paths.specs.Searches.{IsLow};
+    ghost use Rattle.shortest_paths.specs.Sources.{IsFromAny};
     ghost use Rattle.shortest_paths.specs.Stamped.{most, far};
     ghost use Rattle.shortest_paths.specs.Tables.{IsPrunedTable, IsLabel, IsReachedExactly, answer_at};
 
@@ -51,8 +48,8 @@ impl Labels {
     /// there shall be room.
     pub fn new(alloc: Global, size: Size, masks: u32) -> Result<Labels, NoMemory>
         requires least { 1 ≤ masks }
-        requires most { masks ≤ 30 }
-        ensures size { IfOk result (λ l. size_of l ≡ size) }
+        requires most { masks ≤ proper_masks }
+        ensures size { IfOk result (λ l. labels_size l ≡ size) }
         ensures masks { IfOk result (λ l. masks_of l ≡ masks) }
     {
         let row = Row::new(alloc, size)?;
@@ -66,7 +63,7 @@ impl Labels {
 
     /// The size of the grid that they are of.
     pub fn size(&self) -> Size
-        ensures { result ≡ size_of self.now }
+        ensures { result ≡ labels_size self.now }
     {
         self.row.size()
     }
@@ -81,10 +78,10 @@ impl Labels {
     /// Searches from a source until the distance of each vertex of `stop` is known, or of all vertices where `stop` is
     /// empty.
     pub fn distances<W: Weights>(&mut self, weights: &W, source: Vertex, stop: &[Vertex])
-        requires size { size_of self.old ≡ W.size weights.now }
+        requires size { labels_size self.old ≡ W.size weights.now }
         requires source { IsVertex (W.size weights.now) source.0 }
         requires stop { All (λ v. IsVertex (W.size weights.now) v.0) stop.now }
-        ensures size { size_of self.new ≡ size_of self.old }
+        ensures size { labels_size self.new ≡ labels_size self.old }
         ensures masks { masks_of self.new ≡ masks_of self.old }
         ensures source { source_of self.new ≡ source.0 }
         ensures stops { All (λ v. HasDistance (W.size weights.now) (W.pieces weights.now) self.new v.0) stop.now }
@@ -108,12 +105,12 @@ impl Labels {
         source: Vertex,
         goal: Vertex,
     )
-        requires size { size_of self.old ≡ W.size weights.now }
+        requires size { labels_size self.old ≡ W.size weights.now }
         requires bound_size { B.size bound.now ≡ W.size weights.now }
         requires bound { B.pieces bound.now ≡ W.pieces weights.now }
         requires source { IsVertex (W.size weights.now) source.0 }
         requires goal { IsVertex (W.size weights.now) goal.0 }
-        ensures size { size_of self.new ≡ size_of self.old }
+        ensures size { labels_size self.new ≡ labels_size self.old }
         ensures masks { masks_of self.new ≡ masks_of self.old }
         ensures source { source_of self.new ≡ source.0 }
         ensures goal { HasDistance (W.size weights.now) (W.pieces weights.now) self.new goal.0 }
@@ -123,9 +120,34 @@ impl Labels {
         settle(&mut self.row, weights, bound, NO_LIMIT, goal);
     }
 
+    /// Searches from several sources at once until the goal's distance from the nearest of them is known, led by a bound
+    /// of what is still to go. Each other vertex with a number has one too that is a path's from a source, or more.
+    pub fn distance_from_any<W: Weights, B: Bound>(
+        &mut self,
+        weights: &W,
+        bound: &B,
+        sources: &[Vertex],
+        goal: Vertex,
+    )
+        requires size { labels_size self.old ≡ W.size weights.now }
+        requires bound_size { B.size bound.now ≡ W.size weights.now }
+        requires bound { B.pieces bound.now ≡ W.pieces weights.now }
+        requires sources { All (λ v. IsVertex (W.size weights.now) v.0) sources.now }
+        requires goal { IsVertex (W.size weights.now) goal.0 }
+        ensures size { labels_size self.new ≡ labels_size self.old }
+        ensures masks { masks_of self.new ≡ masks_of self.old }
+        ensures low { All (λ source. IsLow (W.size weights.now) (W.pieces weights.now) source.0 (labels_number self.new) goal.0) sources.now }
+        ensures from { (v : ℕ) → labels_number self.new v < far → IsFromAny (W.size weights.now) (W.pieces weights.now) sources.now v (labels_number self.new v) }
+    {
+        self.rows.forget();
+        self.row.forget();
+        start_each(&mut self.row, bound, NO_LIMIT, sources);
+        settle(&mut self.row, weights, bound, NO_LIMIT, goal);
+    }
+
     /// The distance of a vertex that the latest search asked for; `None` where no walk of allowed pieces leads there.
     pub fn distance(&self, v: Vertex) -> Option<u64>
-        requires { IsVertex (size_of self.now) v.0 }
+        requires { IsVertex (labels_size self.now) v.0 }
         ensures { result ≡ distance_of self.now v.0 }
     {
         let number = self.row.number(v);
@@ -157,10 +179,10 @@ impl Labels {
     fn step_back<W: Weights>(&self, weights: &W, here: Vertex) -> Option<(Vertex, Piece)>
         requires back { LeadsBack (W.size weights.now) (W.pieces weights.now) self.now }
         requires vertex { IsVertex (W.size weights.now) here.0 }
-        requires found { number_of self.now here.0 ≤ most }
+        requires found { labels_number self.now here.0 ≤ most }
         requires other { here.0 ≢ source_of self.now }
         ensures found { IsSome result }
-        ensures step { IfSome result (λ x. IsStepBack (W.size weights.now) (W.pieces weights.now) (number_of self.now) here.0 x.0.0 x.1) }
+        ensures step { IfSome result (λ x. IsStepBack (W.size weights.now) (W.pieces weights.now) (labels_number self.now) here.0 x.0.0 x.1) }
     {
         let number = self.row.number(here);
         for step in &steps(self.row.size(), here) {
@@ -175,8 +197,8 @@ impl Labels {
 
     /// Whether a vertex gets at most this number from a neighbour, by the piece between.
     fn reaches<W: Weights>(&self, weights: &W, before: Vertex, by: Piece, number: u64) -> bool
-        requires { IsVertex (size_of self.now) before.0 }
-        ensures { IsTrue result ↔ Reaches (W.pieces weights.now) by (number_of self.now before.0) number }
+        requires { IsVertex (labels_size self.now) before.0 }
+        ensures { IsTrue result ↔ IsPieceBack (W.pieces weights.now) by (labels_number self.now before.0) number }
     {
         weights.allows(by) && self.row.number(before) + weights.weight(by) <= number
     }
@@ -186,7 +208,7 @@ impl Labels {
     pub fn label(&self, mask: u32, v: Vertex) -> Option<u64>
         requires some { 0 < mask }
         requires mask { mask ≤ masks_of self.now }
-        requires vertex { IsVertex (size_of self.now) v.0 }
+        requires vertex { IsVertex (labels_size self.now) v.0 }
         ensures { result ≡ answer_at far (label_of self.now mask v.0) }
     {
         let index = self.row.index_of(v)?;
@@ -204,17 +226,17 @@ impl Labels {
         last: u32,
         limit: u64,
     )
-        requires size { size_of self.old ≡ W.size weights.now }
+        requires size { labels_size self.old ≡ W.size weights.now }
         requires family_size { F.size family.now ≡ W.size weights.now }
         requires family { F.pieces family.now ≡ W.pieces weights.now }
         requires family_terminals { F.terminals family.now ≡ terminals.now }
         requires terminals { All (λ v. IsVertex (W.size weights.now) v.0) terminals.now }
         requires some { 1 ≤ length terminals.now }
-        requires few { length terminals.now ≤ 5 }
+        requires few { length terminals.now ≤ few_terminals }
         requires room { last ≤ masks_of self.old }
         requires last { last < all_of terminals.now }
         requires limit { limit ≤ most }
-        ensures size { size_of self.new ≡ size_of self.old }
+        ensures size { labels_size self.new ≡ labels_size self.old }
         ensures masks { masks_of self.new ≡ masks_of self.old }
         ensures table { IsPrunedTable (W.size weights.now) (W.pieces weights.now) terminals.now last (F.low family.now) limit far (label_of self.new) }
     {
@@ -234,17 +256,17 @@ impl Labels {
         mask: u32,
         limit: u64,
     )
-        requires size { size_of self.old ≡ W.size weights.now }
+        requires size { labels_size self.old ≡ W.size weights.now }
         requires family_size { F.size family.now ≡ W.size weights.now }
         requires family_terminals { F.terminals family.now ≡ terminals.now }
         requires terminals { All (λ v. IsVertex (W.size weights.now) v.0) terminals.now }
-        requires few { length terminals.now ≤ 5 }
+        requires few { length terminals.now ≤ few_terminals }
         requires some { 0 < mask }
         requires room { mask ≤ masks_of self.old }
         requires last { mask < all_of terminals.now }
         requires limit { limit ≤ most }
         requires table { IsPrunedTable (W.size weights.now) (W.pieces weights.now) terminals.now (mask - 1) (F.low family.now) limit far (label_of self.old) }
-        ensures size { size_of self.new ≡ size_of self.old }
+        ensures size { labels_size self.new ≡ labels_size self.old }
         ensures masks { masks_of self.new ≡ masks_of self.old }
         ensures table { IsPrunedTable (W.size weights.now) (W.pieces weights.now) terminals.now mask (F.low family.now) limit far (label_of self.new) }
     {
@@ -261,12 +283,12 @@ impl Labels {
 
     /// Finds the labels of all sets of the terminals without the last one, which is the root, at all vertices.
     pub fn subsets<W: Weights>(&mut self, weights: &W, terminals: &[Vertex])
-        requires size { size_of self.old ≡ W.size weights.now }
+        requires size { labels_size self.old ≡ W.size weights.now }
         requires terminals { All (λ v. IsVertex (W.size weights.now) v.0) terminals.now }
         requires some { 1 ≤ length terminals.now }
-        requires few { length terminals.now ≤ 5 }
+        requires few { length terminals.now ≤ few_terminals }
         requires room { all_but_root terminals.now ≤ masks_of self.old }
-        ensures size { size_of self.new ≡ size_of self.old }
+        ensures size { labels_size self.new ≡ labels_size self.old }
         ensures masks { masks_of self.new ≡ masks_of self.old }
         ensures table { IsPrunedTable (W.size weights.now) (W.pieces weights.now) terminals.now (all_but_root terminals.now) (λ _ _. 0) most far (label_of self.new) }
         ensures reached { (mask v : ℕ) → 0 < mask → mask ≤ all_but_root terminals.now → label_of self.new mask v < far → IsReachedExactly (W.size weights.now) (W.pieces weights.now) terminals.now (label_of self.new) mask v }
@@ -277,38 +299,16 @@ impl Labels {
         self.pruned(weights, &family, terminals, last, MOST);
     }
 
-    /// The pieces of a tree that joins the terminals, by a search from the first of them that takes in the nearest other
-    /// one, with the whole way to it, until all are in. A piece may be listed twice.
-    pub fn grow<W: FlooredWeights>(
-        &mut self,
-        weights: &W,
-        terminals: &[Vertex],
-    ) -> Result<Vec<Piece>, NoMemory>
-        requires size { size_of self.old ≡ W.size weights.now }
-        requires terminals { All (λ v. IsVertex (W.size weights.now) v.0) terminals.now }
-        requires some { 1 ≤ length terminals.now }
-        requires joined { Joins (W.size weights.now) (IsAllowed (W.pieces weights.now)) (InVertices terminals.now) }
-        requires positive { NoneWeighsNothing (W.pieces weights.now) }
-        ensures allowed { IfOk result (λ grown. (p : Piece) → InPieces grown.items p → IsAllowed (W.pieces weights.now) p) }
-        ensures joins { IfOk result (λ grown. JoinsList (W.size weights.now) grown.items terminals.now) }
-        ensures light { IfOk result (λ grown. (links : List Link) → IsSpanningTree (W.size weights.now) (W.pieces weights.now) terminals.now links → AreLight (W.pieces weights.now) grown.items (links_weight links)) }
-        ensures size { size_of self.new ≡ size_of self.old }
-        ensures masks { masks_of self.new ≡ masks_of self.old }
-    {
-        self.rows.forget();
-        grow(&mut self.row, weights, terminals)
-    }
-
     /// Begins a search: the source has the number 0 and waits, and no other vertex has a number.
     fn start<B: Bound>(&mut self, bound: &B, source: Vertex)
-        requires size { B.size bound.now ≡ size_of self.old }
-        requires source { IsVertex (size_of self.old) source.0 }
-        ensures size { size_of self.new ≡ size_of self.old }
+        requires size { B.size bound.now ≡ labels_size self.old }
+        requires source { IsVertex (labels_size self.old) source.0 }
+        ensures size { labels_size self.new ≡ labels_size self.old }
         ensures masks { masks_of self.new ≡ masks_of self.old }
         ensures source { source_of self.new ≡ source.0 }
         ensures search { IsSearch (B.rest bound.now) NO_LIMIT self.new.row }
-        ensures begins { number_of self.new source.0 ≡ 0 }
-        ensures others { (v : ℕ) → v ≢ source.0 → number_of self.new v ≡ far }
+        ensures begins { labels_number self.new source.0 ≡ 0 }
+        ensures others { (v : ℕ) → v ≢ source.0 → labels_number self.new v ≡ far }
         ensures waits { (key : ℕ) × IsWaiting self.new.row source.0 key }
     {
         self.source = source;

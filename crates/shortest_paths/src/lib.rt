@@ -20,6 +20,8 @@
 //! labels.distance_between(&weights, &bound, source, goal);
 //! ```
 //!
+//! A vertex is joined to a tree, or to any other vertices, by `distance_from_any`, which begins at all of them.
+//!
 //! The same search finds least trees of up to five terminals, one row of numbers for each set of them (Dreyfus and Wagner
 //! 1971), without what a `Family` of lower bounds shows to be too heavy; `subsets` leaves nothing out:
 //!
@@ -28,11 +30,13 @@
 //! let least = labels.label(last, root);
 //! ```
 //!
-//! For more terminals a tree grows from one of them by one search, which takes in the nearest other one each time and goes
-//! on from the whole tree:
+//! A caller may lead a search of its own: it gives vertices numbers, and takes them out in the order of the keys under which
+//! they wait:
 //!
 //! ```text
-//! let pieces = labels.grow(&weights, &terminals)?;
+//! labels.begin(&[]);
+//! labels.lower(source, 0, 0);
+//! while let Some(at) = labels.next() { .. }
 //! ```
 //!
 //! It stands on `grid_base` for vertices and pieces and on `grid_graph` for `Weights`. A search takes no memory and
@@ -41,22 +45,20 @@
 //! Promised: the distance of two vertices is the least weight over all sets of allowed pieces that join them, and `None`
 //! exactly where no set does; a path is a walk of allowed pieces whose weights sum to the distance. A label is the least
 //! weight over all sets that join a vertex and some terminals, and `None` exactly where each such set is too heavy or there
-//! is none. A tree that was grown joins its terminals, and weighs no more than a spanning tree of them by distances. Of any
-//! table over sets of terminals, whoever made it, it is a law that where the table holds none of its numbers is above a
-//! joining set's weight.
+//! is none. Of any table over sets of terminals, whoever made it, it is a law that where the table holds none of its numbers
+//! is above a joining set's weight; and of least weights, that where vias weigh nothing they are those between tiles.
 #![tactic(auto)]
 
-mod ahead;
-mod apart;
 mod bound;
 mod family;
 mod floor_bound;
 mod found;
-mod grow;
+mod grid_distances;
 mod heap;
 mod kept_rows;
 mod labels;
 mod laws;
+mod led_search;
 mod nearest;
 mod no_bound;
 mod no_family;
@@ -65,13 +67,14 @@ mod row;
 mod search;
 mod seeds;
 mod sift;
-mod step_back;
-mod way_back;
 
 pub use bound::Bound;
 pub use family::Family;
 pub use floor_bound::FloorBound;
+pub use grid_distances::apart;
 pub use labels::Labels;
-pub use laws::{holding_tables_bound_sets, pruned_tables_hold_completed};
+pub use laws::{
+    holding_tables_bound_sets, least_weights_are_those_of_tiles, pruned_tables_hold_completed,
+};
 pub use no_bound::NoBound;
 pub use no_family::NoFamily;

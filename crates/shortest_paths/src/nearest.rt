@@ -1,113 +1,82 @@
-//! A bound by the grid distance to the nearest of some terminals.
+//! The nearest of some vertices.
 
-ghost use Rattle.std.specs.Prelude.{◌≡◌, ◌<◌, ◌≤◌, ℕ, All, IfSome, length, get_or};
-ghost use Rattle.grid_base.specs.Numbers.{IsInside};
-ghost use Rattle.grid_graph.specs.Floors.{AreFloors, AreWithin};
-ghost use Rattle.shortest_paths.specs.Aheads.{least_rest, StandsIn};
-ghost use Rattle.shortest_paths.specs.Sets.{RisesSlowly};
+ghost use Rattle.std.specs.Prelude.{◌≡◌, ◌<◌, ◌≤◌, ◌↔◌, ℕ, None, IfSome, IsTrue};
+ghost use Rattle.grid_base.specs.Numbers.{IsVertex};
+ghost use Rattle.shortest_paths.specs.Nearest.{NoneIsNearer, IsFoundGoal, DoGoalsWait};
+ghost use Rattle.shortest_paths.specs.Rows.{size_in, number_in};
+ghost use Rattle.shortest_paths.specs.Runs.{IsSearch, IsSettled, FallsFrom};
+ghost use Rattle.shortest_paths.specs.Stamped.{far};
 
-use crate::ahead::Ahead;
-use crate::apart::apart;
-use crate::bound::Bound;
-use crate::row::FAR;
-use grid_base::{NoMemory, Place, Size, Spot, Vertex};
-use grid_graph::{FlooredWeights, Floors, Weights};
-use std::alloc::Global;
+use crate::labels::{Labels, NO_LIMIT};
+use crate::no_bound::NoBound;
+use crate::row::Row;
+use crate::search::{offer, spread};
+use grid_base::{Spot, Vertex};
+use grid_graph::Weights;
 
-/// The grid distance to the nearest of the places that are left, where each step weighs at least the floor of its
-/// direction.
-#[derive(Drop)]
-pub(crate) struct Nearest<'a, W: Weights> {
-    pub weights: &'a W,
-    size: Size,
-    floors: Floors,
-    left: Vec<Place>,
-    pub ghost sized: { size ≡ W.size weights.now },
-    pub ghost within: { AreWithin floors },
-    pub ghost inside: { All (IsInside size) left.items },
-    pub ghost below: { AreFloors floors (W.pieces weights.now) },
-    pub ghost near: { (v : ℕ) → StandsIn size left.items v → least_rest size floors left.items v ≡ 0 },
-    pub ghost slow: { RisesSlowly size (W.pieces weights.now) (least_rest size floors left.items) },
-}
-
-impl<'a, W: Weights> Nearest<'a, W> {
-    ghost use Rattle.std.specs.Prelude.{◌≡◌, ℕ, IfOk, All};
+impl Labels {
+    ghost use Rattle.std.specs.Prelude.{◌≡◌, All};
     ghost use Rattle.grid_base.specs.Numbers.{IsVertex};
-    ghost use Rattle.grid_base.specs.Walks.{InVertices};
-    ghost use Rattle.grid_graph.specs.Floors.{AreFloors, AreWithin};
-    ghost use Rattle.shortest_paths.specs.Aheads.{StandsIn};
+    ghost use Rattle.shortest_paths.specs.LabelWords.{labels_size, masks_of};
+    ghost use Rattle.shortest_paths.specs.Nearest.{IsNearestDistance};
 
-    /// What is still to go to the nearest of the terminals.
-    pub(crate) fn new(
-        alloc: Global,
-        weights: &'a W,
-        size: Size,
-        floors: Floors,
-        terminals: &[Vertex],
-    ) -> Result<Nearest<'a, W>, NoMemory>
-        requires size { size ≡ W.size weights.now }
-        requires within { AreWithin floors }
-        requires floors { AreFloors floors (W.pieces weights.now) }
-        requires terminals { All (λ v. IsVertex size v.0) terminals.now }
-        ensures size { IfOk result (λ x. x.size ≡ size) }
-        ensures pieces { IfOk result (λ x. W.pieces x.weights.now ≡ W.pieces weights.now) }
-        ensures left { IfOk result (λ x. (v : ℕ) → InVertices terminals.now v → StandsIn x.size x.left.items v) }
+    /// The distance of a vertex to the nearest of these, but for itself. The search ends with the first of them that it
+    /// takes out; `None` stands where no set of allowed pieces leads to any.
+    pub fn distance_to_nearest<W: Weights>(
+        &mut self,
+        weights: &W,
+        source: Vertex,
+        goals: &[Vertex],
+    ) -> Option<u64>
+        requires size { labels_size self.old ≡ W.size weights.now }
+        requires source { IsVertex (W.size weights.now) source.0 }
+        requires goals { All (λ v. IsVertex (W.size weights.now) v.0) goals.now }
+        ensures nearest { IsNearestDistance (W.size weights.now) (W.pieces weights.now) goals.now source.0 result }
+        ensures size { labels_size self.new ≡ labels_size self.old }
+        ensures masks { masks_of self.new ≡ masks_of self.old }
     {
-        let mut left = Vec::new(alloc);
-        for terminal in terminals {
-            left.push(size.place_of(*terminal))?;
-        }
-        Ok(Nearest {
-            weights,
-            size,
-            floors,
-            left,
-        })
+        let count = self.begin(goals);
+        let bound = NoBound { weights };
+        let from = Spot::of(self.row.size(), source);
+        offer(&mut self.row, &bound, NO_LIMIT, from, 0);
+        let goal = next_goal(&mut self.row, weights, count, source)?;
+        Some(self.row.number(goal))
     }
 }
 
-impl<'a, W: Weights> Bound for Nearest<'a, W> {
-    ghost use Rattle.shortest_paths.specs.Aheads.{least_rest};
-
-    ghost size = { λ x. x.size };
-
-    ghost pieces = { λ x. W.pieces x.weights.now };
-
-    ghost rest = { λ x. least_rest x.size x.floors x.left.items };
-
-    ghost slow = { λ x. x.slow };
-
-    fn rest(&self, _v: Vertex, place: Place) -> u64 {
-        let mut least = FAR;
-        for goal in &self.left {
-            least = least.min(apart(self.size, self.floors, place, *goal));
-        }
-        least
-    }
-}
-
-impl<'a, W: Weights> Ahead for Nearest<'a, W> {
-    ghost use Rattle.shortest_paths.specs.Aheads.{StandsIn};
-
-    ghost left = { λ x v. StandsIn x.size x.left.items v };
-
-    ghost near = { λ x. x.near };
-
-    fn reach(&mut self, at: Spot) {
-        if let Some(i) = position_of(self.left.as_slice(), at.place) {
-            self.left.remove(i);
-        }
-    }
-}
-
-/// Where a place stands in a list.
-fn position_of(places: &[Place], place: Place) -> Option<usize>
-    ensures { IfSome result (λ i. (i < length places.now) × (get_or places.now i place ≡ place)) }
+/// Goes on with a search until a goal is taken out: one of the first so many vertices that were found, and not the source.
+fn next_goal<W: Weights>(row: &mut Row, weights: &W, count: u32, source: Vertex) -> Option<Vertex>
+    requires size { size_in row.old ≡ W.size weights.now }
+    requires search { IsSearch (λ _. 0) NO_LIMIT row.old }
+    requires settled { IsSettled (W.size weights.now) (W.pieces weights.now) (λ _. 0) NO_LIMIT row.old }
+    requires count { count ≤ row.old.found.len }
+    requires waits { DoGoalsWait row.old count source.0 }
+    requires source { number_in row.old source.0 ≡ 0 }
+    ensures fell { FallsFrom (W.size weights.now) (W.pieces weights.now) row.old row.new }
+    ensures goal { IfSome result (λ v. IsFoundGoal row.new count source.0 v.0) }
+    ensures number { IfSome result (λ v. number_in row.new v.0 < far) }
+    ensures nearest { IfSome result (λ v. NoneIsNearer (W.size weights.now) (W.pieces weights.now) source.0 (IsFoundGoal row.new count source.0) (number_in row.new v.0)) }
+    ensures none { result ≡ None → NoneIsNearer (W.size weights.now) (W.pieces weights.now) source.0 (IsFoundGoal row.new count source.0) far }
 {
-    for i in 0..places.len() {
-        if places[i] == place {
-            return Some(i);
+    let bound = NoBound { weights };
+    while row.is_waiting() {
+        let at = row.take();
+        if is_goal(row, count, source, at.vertex) {
+            return Some(at.vertex);
         }
+        spread(row, weights, &bound, NO_LIMIT, at);
     }
     None
+}
+
+/// Whether a vertex is one of the first so many that were found, and not the source.
+fn is_goal(row: &Row, count: u32, source: Vertex, v: Vertex) -> bool
+    requires vertex { IsVertex (size_in row.now) v.0 }
+    requires count { count ≤ row.now.found.len }
+    ensures { IsTrue result ↔ IsFoundGoal row.now count source.0 v.0 }
+{
+    match row.index_of(v) {
+        Some(index) => index < count && v != source,
+        None => false,
+    }
 }

@@ -27,7 +27,7 @@ pub(crate) struct Row {
 }
 
 impl Row {
-    ghost use Rattle.std.specs.Prelude.{◌≡◌, ◌≢◌, ◌<◌, ◌≤◌, ◌+◌, ◌⊎◌, ℕ, true, false, IfOk, IfSome, IfNone, take};
+    ghost use Rattle.std.specs.Prelude.{◌≡◌, ◌≢◌, ◌<◌, ◌≤◌, ◌+◌, ◌⊎◌, ℕ, true, false, None, IfOk, IfSome, IfNone, take};
     ghost use Rattle.grid_base.specs.Numbers.{IsVertex, vertices};
     ghost use Rattle.grid_base.specs.Spots.{IsSpot};
     ghost use Rattle.shortest_paths.specs.Founds.{index_in, FindsMore};
@@ -147,17 +147,15 @@ impl Row {
         }
     }
 
-    /// The lesser of a key and that of the vertex, if it waits.
-    pub(crate) fn lesser_key(&self, v: Vertex, key: u64) -> u64
+    /// The key under which a vertex waits.
+    pub(crate) fn key(&self, v: Vertex) -> Option<u64>
         requires { IsVertex (size_in self.now) v.0 }
-        ensures one { (result ≡ key) ⊎ IsWaiting self.now v.0 result }
-        ensures less { result ≤ key }
-        ensures waits { (k : ℕ) → IsWaiting self.now v.0 k → result ≤ k }
+        ensures some { IfSome result (λ key. IsWaiting self.now v.0 key) }
+        ensures only { IfSome result (λ key. (k : ℕ) → IsWaiting self.now v.0 k → key ≤ k) }
+        ensures none { result ≡ None → (key : ℕ) → ¬ IsWaiting self.now v.0 key }
     {
-        match self.found.index_of(v) {
-            Some(index) => self.heap.lesser(index, key),
-            None => key,
-        }
+        let index = self.found.index_of(v)?;
+        self.heap.key(index)
     }
 
     /// Finds a vertex, if it isn't found yet, and gives it no number.

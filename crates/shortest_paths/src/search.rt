@@ -1,12 +1,13 @@
 //! One search for all: vertices are taken out in the order of their keys, and offer numbers to their neighbours.
 
-ghost use Rattle.std.specs.Prelude.{◌≡◌, ◌<◌, ◌≤◌, ◌+◌, ◌^◌, ℕ, true, false, All};
+ghost use Rattle.std.specs.Prelude.{◌≡◌, ◌<◌, ◌≤◌, ◌+◌, ℕ, true, false, All};
 ghost use Rattle.grid_base.specs.Numbers.{IsVertex};
 ghost use Rattle.grid_base.specs.Spots.{IsSpot};
 ghost use Rattle.shortest_paths.specs.Rows.{size_in, number_in, IsWaiting, work_left};
-ghost use Rattle.shortest_paths.specs.Runs.{IsSearch, IsSettled, IsSpreadWithin, IsAnswered, TakesOffer, FallsFrom, GoesOn};
+ghost use Rattle.shortest_paths.specs.Runs.{IsSearch, IsSettled, IsSpreadWithin, IsAnswered, TakesOffer, FallsFrom, Advances};
 ghost use Rattle.shortest_paths.specs.Searches.{IsLow};
-ghost use Rattle.shortest_paths.specs.Stamped.{far};
+ghost use Rattle.shortest_paths.specs.Starts.{IsStarted};
+ghost use Rattle.shortest_paths.specs.Stamped.{far, max_key};
 
 use crate::bound::Bound;
 use crate::row::Row;
@@ -19,17 +20,35 @@ pub(crate) fn offer<B: Bound>(row: &mut Row, bound: &B, limit: u64, to: Spot, of
     requires size { B.size bound.now ≡ size_in row.old }
     requires search { IsSearch (B.rest bound.now) limit row.old }
     requires to { IsSpot (size_in row.old) to }
-    requires small { offered ≤ 2 ^ 62 }
+    requires small { offered ≤ max_key }
     ensures search { IsSearch (B.rest bound.now) limit row.new }
     ensures taken { TakesOffer row.old row.new to.vertex.0 offered }
     ensures answered { IsAnswered (number_in row.new) (B.rest bound.now) limit to.vertex.0 offered }
-    ensures free { offered + 2 ^ 61 ≤ limit → number_in row.new to.vertex.0 ≤ offered }
+    ensures free { offered + far ≤ limit → number_in row.new to.vertex.0 ≤ offered }
 {
     if offered < row.number(to.vertex) {
         let key = offered + bound.rest(to.vertex, to.place);
         if key <= limit {
             row.lower(to, offered, key);
         }
+    }
+}
+
+/// Offers 0 to each source of a search that nothing has a number in.
+pub(crate) fn start_each<B: Bound>(row: &mut Row, bound: &B, limit: u64, sources: &[Vertex])
+    requires size { B.size bound.now ≡ size_in row.old }
+    requires limit { max_key ≤ limit }
+    requires sources { All (λ v. IsVertex (size_in row.old) v.0) sources.now }
+    requires none { (v : ℕ) → number_in row.old v ≡ far }
+    requires idle { (v key : ℕ) → ¬ IsWaiting row.old v key }
+    ensures size { size_in row.new ≡ size_in row.old }
+    ensures search { IsSearch (B.rest bound.now) limit row.new }
+    ensures started { IsStarted sources.now row.new }
+    ensures zero { All (λ v. number_in row.new v.0 ≡ 0) sources.now }
+{
+    for source in sources {
+        let from = Spot::of(row.size(), *source);
+        offer(row, bound, limit, from, 0);
     }
 }
 
@@ -47,7 +66,7 @@ pub(crate) fn spread<W: Weights, B: Bound>(
     requires from { IsSpot (W.size weights.now) from }
     requires number { number_in row.old from.vertex.0 < far }
     ensures search { IsSearch (B.rest bound.now) limit row.new }
-    ensures goes_on { GoesOn (W.size weights.now) (W.pieces weights.now) row.old row.new }
+    ensures goes_on { Advances (W.size weights.now) (W.pieces weights.now) row.old row.new }
     ensures spread { IsSpreadWithin (W.size weights.now) (W.pieces weights.now) (B.rest bound.now) limit (number_in row.new) from.vertex.0 }
 {
     let reached = row.number(from.vertex);
@@ -95,7 +114,7 @@ pub(crate) fn exhaust<W: Weights, B: Bound>(row: &mut Row, weights: &W, bound: &
 /// Whether the number of the goal, from which this is still to go, may fall.
 fn is_open(row: &Row, goal: Vertex, rest: u64) -> bool
     requires goal { IsVertex (size_in row.now) goal.0 }
-    requires rest { rest ≤ 2 ^ 61 }
+    requires rest { rest ≤ far }
     ensures open { result ≡ true → 0 < row.now.heap.len }
     ensures closed { result ≡ false → (v key : ℕ) → IsWaiting row.now v key → number_in row.now goal.0 + rest ≤ key }
 {
@@ -118,7 +137,7 @@ pub(crate) fn settle<W: Weights, B: Bound>(
     requires search { IsSearch (B.rest bound.now) limit row.old }
     requires settled { IsSettled (W.size weights.now) (W.pieces weights.now) (B.rest bound.now) limit row.old }
     requires bound { B.pieces bound.now ≡ W.pieces weights.now }
-    requires limit { 2 ^ 62 ≤ limit }
+    requires limit { max_key ≤ limit }
     requires goal { IsVertex (W.size weights.now) goal.0 }
     ensures search { IsSearch (B.rest bound.now) limit row.new }
     ensures settled { IsSettled (W.size weights.now) (W.pieces weights.now) (B.rest bound.now) limit row.new }
@@ -145,7 +164,7 @@ pub(crate) fn settle_each<W: Weights, B: Bound>(
     requires search { IsSearch (B.rest bound.now) limit row.old }
     requires settled { IsSettled (W.size weights.now) (W.pieces weights.now) (B.rest bound.now) limit row.old }
     requires bound { B.pieces bound.now ≡ W.pieces weights.now }
-    requires limit { 2 ^ 62 ≤ limit }
+    requires limit { max_key ≤ limit }
     requires goals { All (λ v. IsVertex (W.size weights.now) v.0) goals.now }
     ensures fell { FallsFrom (W.size weights.now) (W.pieces weights.now) row.old row.new }
     ensures low { (source : ℕ) → number_in row.old source ≡ 0 → All (λ v. IsLow (W.size weights.now) (W.pieces weights.now) source (number_in row.new) v.0) goals.now }

@@ -6,7 +6,7 @@ ghost use Rattle.grid_base.specs.Numbers.{IsVertex};
 ghost use Rattle.shortest_paths.specs.declared.kept_rows.KeptRows.{KeptRows as Kept};
 ghost use Rattle.shortest_paths.specs.Founds.{FindsMore};
 ghost use Rattle.shortest_paths.specs.Kept.{masks_in, kept_len};
-ghost use Rattle.shortest_paths.specs.Masks.{AreParts};
+ghost use Rattle.shortest_paths.specs.Masks.{few_terminals, AreParts};
 ghost use Rattle.shortest_paths.specs.Rows.{size_in, number_in, IsWaiting};
 ghost use Rattle.shortest_paths.specs.RowWork.{IsSeeded, AreOffered, IsSumOffered, AreSplitsOffered, table_of};
 ghost use Rattle.shortest_paths.specs.Runs.{IsSearch};
@@ -30,7 +30,7 @@ pub(crate) fn seed<B: Bound>(
     requires size { B.size bound.now ≡ size_in row.old }
     requires kept { (m : ℕ) → kept_len rows.now m ≤ row.old.found.len }
     requires terminals { All (λ v. IsVertex (size_in row.old) v.0) terminals.now }
-    requires few { length terminals.now ≤ 5 }
+    requires few { length terminals.now ≤ few_terminals }
     requires some { 0 < mask }
     requires mask { mask ≤ masks_in rows.now }
     requires none { (v : ℕ) → number_in row.old v ≡ far }
@@ -52,7 +52,7 @@ pub(crate) fn seed<B: Bound>(
 fn seed_alone<B: Bound>(row: &mut Row, bound: &B, terminals: &[Vertex], mask: u32, limit: u64)
     requires size { B.size bound.now ≡ size_in row.old }
     requires terminals { All (λ v. IsVertex (size_in row.old) v.0) terminals.now }
-    requires few { length terminals.now ≤ 5 }
+    requires few { length terminals.now ≤ few_terminals }
     requires search { IsSearch (B.rest bound.now) limit row.old }
     ensures search { IsSearch (B.rest bound.now) limit row.new }
     ensures found { FindsMore row.old.found row.new.found }
@@ -91,7 +91,7 @@ fn seed_split<B: Bound>(row: &mut Row, rows: &KeptRows, bound: &B, one: u32, mas
     ensures seeded { (terminals : List Terminal) → IsSeeded rows.now terminals mask (B.rest bound.now) limit row.old → IsSeeded rows.now terminals mask (B.rest bound.now) limit row.new }
     ensures offered { (v : ℕ) → IsSumOffered (table_of rows.now row.new) one (mask - one) (B.rest bound.now) limit (number_in row.new) v }
 {
-    for index in 0..row.len() {
+    for index in 0..rows.shared_len(one, mask - one) {
         let first = rows.number(one, index);
         let second = rows.number(mask - one, index);
         if first < FAR && second < FAR {

@@ -1,7 +1,7 @@
 //! Moving a gap of a heap to where an entry belongs.
 
 ghost use Rattle.std.specs.Prelude.{◌≡◌, ◌<◌, ◌≤◌, ◌≢◌, ◌+◌, ℕ, length, slice_index, slice_set};
-ghost use Rattle.shortest_paths.specs.Heaps.{IsIndexed, HasGap, Holds, HoldsBeside, IsFilled, AreOrdered, MayRise, MaySink};
+ghost use Rattle.shortest_paths.specs.Heaps.{IsIndexed, HasGap, Holds, HoldsBeside, FillsGap, AreOrdered, MayRise, MaySink};
 
 /// An entry has up to so many others below it.
 pub(crate) const CHILDREN: usize = 4;
@@ -19,7 +19,7 @@ pub(crate) fn sift_up(
     requires gap { HasGap keys.old vertices.old places.old len gap vertex }
     requires order { MayRise keys.old len gap key }
     ensures indexed { IsIndexed keys.new vertices.new places.new len }
-    ensures filled { IsFilled keys.old vertices.old keys.new vertices.new len gap vertex key }
+    ensures filled { FillsGap keys.old vertices.old keys.new vertices.new len gap vertex key }
     ensures ordered { AreOrdered keys.new len }
 {
     if gap > 0 {
@@ -46,7 +46,7 @@ pub(crate) fn sift_down(
     requires gap { HasGap keys.old vertices.old places.old len gap vertex }
     requires order { MaySink keys.old len gap key }
     ensures indexed { IsIndexed keys.new vertices.new places.new len }
-    ensures filled { IsFilled keys.old vertices.old keys.new vertices.new len gap vertex key }
+    ensures filled { FillsGap keys.old vertices.old keys.new vertices.new len gap vertex key }
     ensures ordered { AreOrdered keys.new len }
 {
     let first = CHILDREN * gap + 1;
@@ -114,7 +114,7 @@ fn put(
 )
     requires { HasGap keys.old vertices.old places.old len gap vertex }
     ensures indexed { IsIndexed keys.new vertices.new places.new len }
-    ensures filled { IsFilled keys.old vertices.old keys.new vertices.new len gap vertex key }
+    ensures filled { FillsGap keys.old vertices.old keys.new vertices.new len gap vertex key }
     ensures keys { keys.new ≡ slice_set keys.old gap key }
 {
     keys[gap] = key;

@@ -6,7 +6,7 @@ use Rattle.grid_graph.specs.Weighed.{IsAllowed}
 use Rattle.shortest_paths.specs.Rows.{number_in, size_in}
 use Rattle.shortest_paths.specs.Runs.{TakesOffer, IsAnswered}
 use Rattle.shortest_paths.proofs.Offers.{offered_goes_on, offered_from}
-use Rattle.shortest_paths.proofs.Spreading.{OfferedBelow, spot_step, no_step, GoesOn-refl, GoesOn-trans, offered_none, offered_more, offered_past, offered_all}
+use Rattle.shortest_paths.proofs.Spreading.{OfferedBelow, spot_step, no_step, Advances-refl, Advances-trans, offered_none, offered_more, offered_past, offered_all}
 use Rattle.shortest_paths.proofs.search.spread.Goals as goal
 use Rattle.shortest_paths.proofs.search.spread.Goals.{in-Some+then-allows, in-Some+else-allows, in_default}
 
@@ -16,7 +16,7 @@ loop-step-init g c =
     let pieces = g.W.Weights.pieces c.args.weights.now in
     record {
       search = c.requires.search;
-      goes_on = GoesOn-refl s pieces c.args.row.now;
+      goes_on = Advances-refl s pieces c.args.row.now;
       from = sym c.number-reached.ensures.number;
       offered = offered_none s pieces (g.B.Bound.rest c.args.bound.now) c.args.limit (number_in c.args.row.now) c.args.from.vertex.0 c.number-reached.result;
     }
@@ -52,7 +52,7 @@ loop-step-preserved g c =
           let taken : TakesOffer old new to.0 (reached + allowed.0) = subst (λ k. TakesOffer old new to.0 (reached + k)) weight after.taken in
           rw w.row-is (record {
             search = after.search;
-            goes_on = GoesOn-trans s pieces c.args.row.now old new before.goes_on (offered_goes_on s pieces old new from to.0 reached allowed.0 w.in-Some.by taken before.from (omega (arith, c.requires.number, c.number-reached.ensures.number)) allowed.1 step.connects);
+            goes_on = Advances-trans s pieces c.args.row.now old new before.goes_on (offered_goes_on s pieces old new from to.0 reached allowed.0 w.in-Some.by taken before.from (omega (arith, c.requires.number, c.number-reached.ensures.number)) allowed.1 step.connects);
             from = offered_from old new from to.0 reached allowed.0 taken before.from;
             offered = offered_more s pieces rest limit (number_in old) (number_in new) from reached here to w.in-Some.by before.offered taken.falls step.step
                 (λ k weighs. subst (λ (n : ℕ). IsAnswered (number_in new) rest limit to.0 (reached + n)) (w.weight.ensures.value k weighs) after.answered);

@@ -1,13 +1,13 @@
 use Rattle.std.proofs.Common.{◌≡◌}
 use Rattle.shortest_paths.specs.Rows.{number_in}
-use Rattle.shortest_paths.specs.Runs.{IsSearch, GoesOn}
+use Rattle.shortest_paths.specs.Runs.{IsSearch, Advances}
 use Rattle.shortest_paths.proofs.Spreading.{OfferedBelow}
 use Rattle.shortest_paths.proofs.search.spread.Given as goal
 
 abbrev pub invariant-loop-step : goal.invariant-loop-step
 invariant-loop-step g l = record {
   search : IsSearch (g.B.Bound.rest l.bound) l.limit l.row;
-  goes_on : GoesOn (g.W.Weights.size l.weights) (g.W.Weights.pieces l.weights) l.initial.row l.row;
+  goes_on : Advances (g.W.Weights.size l.weights) (g.W.Weights.pieces l.weights) l.initial.row l.row;
   from : number_in l.row l.fn.from.vertex.0 ≡ l.reached;
   offered : OfferedBelow (g.W.Weights.size l.weights) (g.W.Weights.pieces l.weights) (g.B.Bound.rest l.bound) l.limit (number_in l.row) l.fn.from.vertex.0 l.reached l.step-index;
 }

@@ -1,4 +1,4 @@
-use Rattle.std.proofs.Common.{◌≡◌, ◌+◌, ◌-◌, ◌≤◌, ◌⊎◌, ℕ, sym, ◌∙◌, ap, subst, inl, inr, ⊎_elim, arith}
+use Rattle.std.proofs.Common.{◌≡◌, ◌+◌, ◌-◌, ◌<◌, ◌≤◌, ◌⊎◌, ℕ, sym, ◌∙◌, ap, subst, inl, inr, ⊎_elim, arith}
 use Rattle.std.proofs.lemmas.Bool.{cases_eq}
 use Rattle.shortest_paths.specs.Founds.{index_in}
 use Rattle.shortest_paths.specs.Kept.{kept_in, kept_len}
@@ -11,6 +11,9 @@ use Rattle.shortest_paths.proofs.Seeding.{seeded_offer, sum_offered_on, kept_sam
 use Rattle.shortest_paths.proofs.seeds.seed_split.Goals as goal
 use Rattle.shortest_paths.proofs.seeds.seed_split.Goals.{then-first-lt-FAR+then-second-lt-FAR, else-first-lt-FAR, else-first-lt-FAR-via-then-first-lt-FAR+else-second-lt-FAR, else-first-lt-FAR-via-else-first-lt-FAR}
 
+pub spot-at-requires : goal.spot-at-requires
+spot-at-requires g c = omega (arith, c.loop-index-test.true, c.shared_len-index-end.ensures.within, c.requires.kept c.args.one, c.loop-index.invariant.found.more)
+
 pub loop-index-preserved : goal.loop-index-preserved
 loop-index-preserved g c =
     let rows = c.args.rows.now in
@@ -21,8 +24,9 @@ loop-index-preserved g c =
     let initial = c.args.row.now in
     let old = c.loop-index.row in
     let before = c.loop-index.invariant in
+    let found : c.loop-index.index < initial.found.len = omega (arith, c.loop-index-test.true, c.shared_len-index-end.ensures.within, c.requires.kept first) in
     let kept : (m : ℕ) → kept_len rows m ≤ old.found.len = λ m. omega (arith, c.requires.kept m, before.found.more) in
-    let here : (v : ℕ) → index_in initial.found v ≡ c.loop-index.index → index_in old.found v ≡ c.loop-index.index = λ v at. before.found.kept v (omega (arith, at, c.loop-index-test.true)) ∙ at in
+    let here : (v : ℕ) → index_in initial.found v ≡ c.loop-index.index → index_in old.found v ≡ c.loop-index.index = λ v at. before.found.kept v (omega (arith, at, found)) ∙ at in
     elim c.if-first-lt-FAR.branch [
       | then-first-lt-FAR+then-second-lt-FAR w ↦
           let after = w.offer.ensures in
@@ -47,7 +51,7 @@ loop-index-preserved g c =
                 seeded_offer rows terminals c.args.mask rest limit old new to (c.number-first.result + c.number-second.result) after.taken after.search w.spot-at.ensures.spot.vertex (inr sum) (before.seeded terminals seeded);
             offered = λ v inside. ⊎_elim
                 (λ last.
-                let same : v ≡ to = index_in-differ old.found v to (omega (arith, here v last, c.loop-index-test.true, before.found.more)) (here v last ∙ sym at) in
+                let same : v ≡ to = index_in-differ old.found v to (omega (arith, here v last, found, before.found.more)) (here v last ∙ sym at) in
                 let one_new = kept_same rows old.found new.found first to after.taken.found (kept first) in
                 let other_new = kept_same rows old.found new.found second to after.taken.found (kept second) in
                 let sum : c.number-first.result + c.number-second.result ≡ table_of rows new first to + table_of rows new second to = omega (arith, one_here, other_here, one_new, other_new) in
@@ -74,3 +78,16 @@ loop-index-preserved g c =
                 (cases_eq (index_in initial.found v) c.loop-index.index);
           })
     ]
+
+pub returns-clause-offered : goal.returns-clause-offered
+returns-clause-offered g c = λ v has_one has_other.
+    let rows = c.args.rows.now in
+    let first = c.args.one in
+    let second = c.args.mask - c.args.one in
+    let initial = c.args.row.now in
+    let row = c.loop-index.row in
+    let before = c.loop-index.invariant in
+    let one_same = kept_same rows initial.found row.found first v before.found (c.requires.kept first) in
+    let other_same = kept_same rows initial.found row.found second v before.found (c.requires.kept second) in
+    let inside = c.shared_len-index-end.ensures.shared (index_in initial.found v) (omega (arith, one_same, has_one)) (omega (arith, other_same, has_other)) in
+    before.offered v (omega (arith, inside)) has_one has_other

@@ -5,14 +5,14 @@ use Rattle.grid_base.specs.declared.piece.Piece.{Piece}
 use Rattle.grid_base.specs.declared.vertex.Vertex.{Vertex}
 use Rattle.grid_base.specs.Numbers.{IsVertex}
 use Rattle.grid_base.proofs.Walks.{WalkBetween-sym}
+use Rattle.grid_base.proofs.Pieces.{end_vertex}
 use Rattle.grid_graph.specs.Weighed.{IsAllowed}
-use Rattle.shortest_paths.specs.LabelWords.{number_of}
+use Rattle.shortest_paths.specs.LabelWords.{labels_number}
 use Rattle.shortest_paths.specs.Paths.{IsPath, IsStepBack}
 use Rattle.shortest_paths.proofs.Backwards.{path_more, path_back, path_set}
 use Rattle.shortest_paths.proofs.Distances.{answer_found, distance_least}
 use Rattle.shortest_paths.proofs.Pruned.{answer_at-some}
 use Rattle.shortest_paths.specs.Stamped.{far}
-use Rattle.shortest_paths.proofs.Offers.{end_vertex}
 use Rattle.shortest_paths.proofs.Sets.{joins_ends}
 use Rattle.shortest_paths.proofs.labels.Labels.path_to.Goals as goal
 
@@ -20,7 +20,7 @@ pub loop-here-smaller : goal.loop-here-smaller
 loop-here-smaller g c =
     let s = g.W.Weights.size c.args.weights.now in
     let pieces = g.W.Weights.pieces c.args.weights.now in
-    let num = number_of c.args.self.now in
+    let num = labels_number c.args.self.now in
     let back : IsStepBack s pieces num c.loop-here.here.0 c.unwrap-by.result.0.0 c.unwrap-by.result.1 =
     subst (λ (o : Option (Vertex × Piece)). IfSome o (λ x. IsStepBack s pieces num c.loop-here.here.0 x.0.0 x.1)) c.unwrap-by.ensures c.step_back.ensures.step in
     omega (arith, back.less, c.requires.positive c.unwrap-by.result.1 back.weight back.step.weighs)
@@ -29,7 +29,7 @@ pub loop-here-preserved : goal.loop-here-preserved
 loop-here-preserved g c =
     let s = g.W.Weights.size c.args.weights.now in
     let pieces = g.W.Weights.pieces c.args.weights.now in
-    let num = number_of c.args.self.now in
+    let num = labels_number c.args.self.now in
     let before = c.loop-here.invariant in
     let by = c.unwrap-by.result.1 in
     let back : IsStepBack s pieces num c.loop-here.here.0 c.unwrap-by.result.0.0 by =
@@ -48,7 +48,7 @@ loop-here-preserved g c =
 pub loop-here-init : goal.loop-here-init
 loop-here-init g c = record {
   vertex = c.requires.vertex;
-  found = answer_found (number_of c.args.self.now c.args.v.0) c.requires.joined;
+  found = answer_found (labels_number c.args.self.now c.args.v.0) c.requires.joined;
   walked = (0, rw c.new-path.ensures.items (refl, refl), omega arith);
 }
 
@@ -57,7 +57,7 @@ returns g c =
     let s = g.W.Weights.size c.args.weights.now in
     let pieces = g.W.Weights.pieces c.args.weights.now in
     let source = c.args.self.now.source.0 in
-    let n = number_of c.args.self.now c.args.v.0 in
+    let n = labels_number c.args.self.now c.args.v.0 in
     let found = answer_found n c.requires.joined in
     let walked = c.loop-here.invariant.walked in
     let home : c.loop-here.here.0 ≡ source = grind (arith, nat_tests, c.loop-here-test.ensures) in

@@ -4,9 +4,9 @@ use Rattle.grid_base.specs.declared.size.Size.{Size}
 use Rattle.grid_base.specs.Numbers.{Connects}
 use Rattle.grid_base.specs.Neighbours.{steps}
 use Rattle.grid_base.proofs.Neighbours.{step_read, steps_lead}
-use Rattle.shortest_paths.specs.LabelWords.{number_of}
+use Rattle.grid_base.proofs.Pieces.{end_vertex}
+use Rattle.shortest_paths.specs.LabelWords.{labels_number}
 use Rattle.shortest_paths.proofs.Backwards.{NoneReachesBelow, read_step, none_more, none_past, some_reaches}
-use Rattle.shortest_paths.proofs.Offers.{end_vertex}
 use Rattle.shortest_paths.proofs.labels.Labels.step_back.Goals as goal
 use Rattle.shortest_paths.proofs.labels.Labels.step_back.Goals.{in-Some+else-reaches, in_default}
 
@@ -35,7 +35,7 @@ pub loop-step-preserved : goal.loop-step-preserved
 loop-step-preserved g c =
     let s = g.W.Weights.size c.args.weights.now in
     let pieces = g.W.Weights.pieces c.args.weights.now in
-    let num = number_of c.args.self.now in
+    let num = labels_number c.args.self.now in
     let table : c.steps.result ≡ steps s c.args.here.0 = c.steps.ensures ∙ ap (λ (x : Size). steps x c.args.here.0) (c.size.ensures ∙ c.requires.back.size) in
     elim c.match-step.branch [
       | in-Some+else-reaches w ↦
@@ -51,7 +51,7 @@ pub returns-clause-found : goal.returns-clause-found
 returns-clause-found g c =
     let s = g.W.Weights.size c.args.weights.now in
     let pieces = g.W.Weights.pieces c.args.weights.now in
-    let num = number_of c.args.self.now in
+    let num = labels_number c.args.self.now in
     let all : c.loop-step.step-index ≡ 6 = omega arith in
     ⊎_elim
     (λ first. absurd (c.requires.other first))

@@ -1,6 +1,6 @@
-use Rattle.shortest_paths.specs.LabelWords.{number_of}
+use Rattle.shortest_paths.specs.LabelWords.{labels_number}
 use Rattle.shortest_paths.proofs.Backwards.{NoneReachesBelow}
 use Rattle.shortest_paths.proofs.labels.Labels.step_back.Given as goal
 
 abbrev pub invariant-loop-step : goal.invariant-loop-step
-invariant-loop-step g l = NoneReachesBelow (g.W.Weights.size l.weights) (g.W.Weights.pieces l.weights) (number_of l.self) l.fn.here.0 l.number l.step-index
+invariant-loop-step g l = NoneReachesBelow (g.W.Weights.size l.weights) (g.W.Weights.pieces l.weights) (labels_number l.self) l.fn.here.0 l.number l.step-index

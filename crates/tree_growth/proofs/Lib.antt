@@ -1,0 +1,4 @@
+pub mod Exchange
+pub mod Growing
+pub mod Reaching
+pub mod LeastRest
