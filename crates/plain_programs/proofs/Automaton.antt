@@ -19,14 +19,14 @@ use Rattle.text_scan.proofs.Texts.{left_past}
 use Rattle.route_text.specs.declared.block.Block.{Block}
 use Rattle.route_text.specs.declared.point.Point.{Point}
 use Rattle.route_text.specs.declared.segment.Segment.{Segment}
-use Rattle.route_text.specs.Blocks.{mark_at, coordinate_at, token_number_at, point_at, segment_at, segments_at, begins_number, further_at, block_at, is_over, blocks_at}
-use Rattle.route_text.specs.Reads.{Read}
+use Rattle.route_text.specs.Blocks.{mark_at, coordinate_at, token_number_at, point_at, segment_at, segments_at, begins_number, further_at, block_at, is_at_end, blocks_at}
+use Rattle.route_text.specs.Reads.{RouteRead}
 use Rattle.route_text.proofs.Takes.{next_segment_takes, next_block_takes}
 use Rattle.plain_programs.specs.declared.plain_blocks.Part.{Part}
 use Rattle.plain_programs.specs.declared.plain_blocks.Part.TheVariants.{Name, Id, Further, Segments}
 use Rattle.plain_programs.specs.declared.plain_blocks.Taken.{Taken}
 use Rattle.plain_programs.specs.PlainBlocks.{at, segment_row, row_at, segments_left, blocks_behind, left_among, left_at}
-use Rattle.plain_programs.specs.PlainNumbers.{number_within}
+use Rattle.plain_programs.specs.PlainNumbers.{word_as_number}
 use Rattle.plain_programs.proofs.WordNumbers.{word_is_number, word_is_no_number}
 
 -- a byte that is left
@@ -54,18 +54,18 @@ module _ (r : Reading) (b : ℕ) (bs : List ℕ) (here : left r ≡ b ∷ bs) wh
     byte_here = ap (λ (q : Reading). slice_get (left q) 0) blanks_here ∙ ap (λ (bytes : List ℕ). slice_get bytes 0) here
 
 -- parts up to an end, where the reading stands before or behind a blank
-same_parts_left : {A : Type 0} (ended : Reading → Bool) (looked : Reading → Reading) (part : Reading → Read A) → ((r : Reading) → Takes 1 r (part (looked r))) →
+same_parts_left : {A : Type 0} (ended : Reading → Bool) (looked : Reading → Reading) (part : Reading → RouteRead A) → ((r : Reading) → Takes 1 r (part (looked r))) →
     (r q : Reading) → ended q ≡ ended r → looked q ≡ looked r → parts_until ended looked part q ≡ parts_until ended looked part r
 same_parts_left {A} ended looked part takes r q ends looks = ⊎_elim
     (λ (over : ended r ≡ true). parts-none ended looked part takes q (ends ∙ over) ∙ ap (λ (after : Reading). Ok ([], after)) looks ∙ sym (parts-none ended looked part takes r over))
     (λ (more : ended r ≡ false). parts-one ended looked part takes q (ends ∙ more)
-    ∙ ap (λ (read : Read A). read >>= λ (one : A × Reading). parts_until ended looked part one.1 >>= λ (rest : List A × Reading). Ok (one.0 ∷ rest.0, rest.1)) (ap part looks)
+    ∙ ap (λ (read : RouteRead A). read >>= λ (one : A × Reading). parts_until ended looked part one.1 >>= λ (rest : List A × Reading). Ok (one.0 ∷ rest.0, rest.1)) (ap part looks)
     ∙ sym (parts-one ended looked part takes r more))
     (cases_Bool (ended r))
 
 module _ (r : Reading) (b : ℕ) (bs : List ℕ) (here : left r ≡ b ∷ bs) (blank : is_blank b ≡ true) where
   blocks_behind_blank : blocks_at (past 1 r) ≡ blocks_at r
-  blocks_behind_blank = same_parts_left is_over past_blanks block_at next_block_takes r (past 1 r)
+  blocks_behind_blank = same_parts_left is_at_end past_blanks block_at next_block_takes r (past 1 r)
       (ap (λ (p : ℕ). is_none (slice_get (drop p r.text) 0)) (blank_place r b bs here blank)) (ap (λ (p : ℕ). at r.text p) (blank_place r b bs here blank))
 
   segments_behind_blank : segments_at (past 1 r) ≡ segments_at r
@@ -85,19 +85,19 @@ module _ (r : Reading) (b : ℕ) (bs : List ℕ) (here : left r ≡ b ∷ bs) (b
 -- a blank is no part of what is left
 pub left_behind_blank : (part : Part) (t : Taken) (r : Reading) (b : ℕ) (bs : List ℕ) → left r ≡ b ∷ bs → is_blank b ≡ true → left_at part t (past 1 r) ≡ left_at part t r
 left_behind_blank Name t r b bs here blank =
-    ap (λ (read : Read (List Block)). read >>= λ (more : List Block × Reading). Ok (t.blocks.items ++ more.0, more.1)) (blocks_behind_blank r b bs here blank)
+    ap (λ (read : RouteRead (List Block)). read >>= λ (more : List Block × Reading). Ok (t.blocks.items ++ more.0, more.1)) (blocks_behind_blank r b bs here blank)
 left_behind_blank Id t r b bs here blank =
-    ap (λ (read : Read ℤ). blocks_behind t.blocks.items (read >>= λ (id : ℤ × Reading). further_at id.1 >>= λ (further : Unit {0} × Reading). segments_left t.name.items (nat_abs id.0) t.segments.items further.1))
+    ap (λ (read : RouteRead ℤ). blocks_behind t.blocks.items (read >>= λ (id : ℤ × Reading). further_at id.1 >>= λ (further : Unit {0} × Reading). segments_left t.name.items (nat_abs id.0) t.segments.items further.1))
     (token_number_behind_blank r b bs here blank (pos 0) (pos max_id))
 left_behind_blank Further t r b bs here blank =
-    ap (λ (read : Read (Unit {0})). blocks_behind t.blocks.items (read >>= λ (further : Unit {0} × Reading). segments_left t.name.items t.id t.segments.items further.1))
+    ap (λ (read : RouteRead (Unit {0})). blocks_behind t.blocks.items (read >>= λ (further : Unit {0} × Reading). segments_left t.name.items t.id t.segments.items further.1))
     (further_behind_blank r b bs here blank)
 left_behind_blank (Segments row) t r b bs here blank = among row.now
   where
     among : (row : List ℕ) → left_among row t (past 1 r) ≡ left_among row t r
-    among [] = ap (λ (read : Read (List Segment)). blocks_behind t.blocks.items (read >>= λ (more : List Segment × Reading). Ok (record { name = t.name.items; id = t.id; segments = t.segments.items ++ more.0 }, more.1)))
+    among [] = ap (λ (read : RouteRead (List Segment)). blocks_behind t.blocks.items (read >>= λ (more : List Segment × Reading). Ok (record { name = t.name.items; id = t.id; segments = t.segments.items ++ more.0 }, more.1)))
         (segments_behind_blank r b bs here blank)
-    among (mark ∷ row) = ap (λ (read : Read Segment). blocks_behind t.blocks.items (read >>= λ (segment : Segment × Reading). segments_left t.name.items t.id (t.segments.items ++ segment.0 ∷ []) segment.1))
+    among (mark ∷ row) = ap (λ (read : RouteRead Segment). blocks_behind t.blocks.items (read >>= λ (segment : Segment × Reading). segments_left t.name.items t.id (t.segments.items ++ segment.0 ∷ []) segment.1))
         (row_behind_blank r b bs here blank mark row t.segment)
 
 -- ---- a segment as a row of marks and numbers
@@ -112,7 +112,7 @@ pub then-then : {A B D F : Type 0} (read : Result A F) (f : A → Result B F) (g
 then-then (Ok x) f g h same = same x
 then-then (Err refusal) f g h same = refl
 
-point_row : (k : Point × Reading → Read Segment) (row : List ℕ) (s : Segment) (r : Reading) → ((p : Point) (q : Reading) → k (p, q) ≡ row_at row (record { from = s.to; to = p }) q) →
+point_row : (k : Point × Reading → RouteRead Segment) (row : List ℕ) (s : Segment) (r : Reading) → ((p : Point) (q : Reading) → k (p, q) ≡ row_at row (record { from = s.to; to = p }) q) →
     (point_at r >>= k) ≡ row_at (40 ∷ 35 ∷ 44 ∷ 35 ∷ 44 ∷ 35 ∷ 41 ∷ row) s r
 unfolding point_at
 point_row k row s r same =
@@ -181,21 +181,21 @@ module _ (text : List ℕ) (place : ℕ) (inside : place < length text) (other :
     token = token_in_run run (λ same. omega (arith, word_grows))
 
     module _ (lo hi : ℤ) where
-      pub number_taken : (z : ℤ) → number_within lo hi (slice_range text place end) ≡ Some z → token_number_at lo hi (at text place) ≡ Ok (z, at text end)
+      pub number_taken : (z : ℤ) → word_as_number lo hi (slice_range text place end) ≡ Some z → token_number_at lo hi (at text place) ≡ Ok (z, at text end)
       number_taken z is = rw (leads, token, (word_is_number lo hi z place (slice_range text place end) is).0) refl
 
-      pub number_refused : number_within lo hi (slice_range text place end) ≡ None → token_number_at lo hi (at text place) ≡ Err place
+      pub number_refused : word_as_number lo hi (slice_range text place end) ≡ None → token_number_at lo hi (at text place) ≡ Err place
       number_refused none =
           let no = word_is_no_number lo hi place (slice_range text place end) none in
           rw (leads, token, no.refused) (ap (λ (p : ℕ). Err p) no.stands)
 
-    pub further_taken : (z : ℤ) → begins_number (Some (get_or text place 0)) ≡ true → number_within (neg_ℤ (pos max_number)) (pos max_number) (slice_range text place end) ≡ Some z → further_at (at text place) ≡ Ok (tt, at text end)
+    pub further_taken : (z : ℤ) → begins_number (Some (get_or text place 0)) ≡ true → word_as_number (neg_ℤ (pos max_number)) (pos max_number) (slice_range text place end) ≡ Some z → further_at (at text place) ≡ Ok (tt, at text end)
     unfolding further_at
-    further_taken z begins is = rw (byte_at, begins) (ap (λ (read : Read ℤ). read >>= λ (number : ℤ × Reading). Ok (tt, number.1)) (number_taken (neg_ℤ (pos max_number)) (pos max_number) z is))
+    further_taken z begins is = rw (byte_at, begins) (ap (λ (read : RouteRead ℤ). read >>= λ (number : ℤ × Reading). Ok (tt, number.1)) (number_taken (neg_ℤ (pos max_number)) (pos max_number) z is))
 
-    pub further_refused : begins_number (Some (get_or text place 0)) ≡ true → number_within (neg_ℤ (pos max_number)) (pos max_number) (slice_range text place end) ≡ None → further_at (at text place) ≡ Err place
+    pub further_refused : begins_number (Some (get_or text place 0)) ≡ true → word_as_number (neg_ℤ (pos max_number)) (pos max_number) (slice_range text place end) ≡ None → further_at (at text place) ≡ Err place
     unfolding further_at
-    further_refused begins none = rw (byte_at, begins) (ap (λ (read : Read ℤ). read >>= λ (number : ℤ × Reading). Ok (tt, number.1)) (number_refused (neg_ℤ (pos max_number)) (pos max_number) none))
+    further_refused begins none = rw (byte_at, begins) (ap (λ (read : RouteRead ℤ). read >>= λ (number : ℤ × Reading). Ok (tt, number.1)) (number_refused (neg_ℤ (pos max_number)) (pos max_number) none))
 
   -- a number of a segment
   module _ (end : ℕ) (ends : end ≡ place + (sign_len (drop place text) + prefix_len is_ascii_digit (unsigned (drop place text)))) (within : end ≤ length text) where
@@ -208,13 +208,13 @@ module _ (text : List ℕ) (place : ℕ) (inside : place < length text) (other :
         ∙ ap (front_number lo hi (length text) place) here
         ∙ ap (λ (bytes : List ℕ). token_number lo hi (record { place = place; bytes = bytes })) (ap number_front (sym here) ∙ front)
 
-    pub coordinate_taken : (z : ℤ) → number_within (neg_ℤ (pos max_number)) (pos max_number) (slice_range text place end) ≡ Some z → coordinate_at (at text place) ≡ Ok (z, at text end)
+    pub coordinate_taken : (z : ℤ) → word_as_number (neg_ℤ (pos max_number)) (pos max_number) (slice_range text place end) ≡ Some z → coordinate_at (at text place) ≡ Ok (z, at text end)
     coordinate_taken z is =
         let word = word_is_number (neg_ℤ (pos max_number)) (pos max_number) z place (slice_range text place end) is in
         ap (λ read. refused_as fault_place read >>= λ (number : ℤ). Ok (number, past_number (at text place))) (next_read (neg_ℤ (pos max_number)) (pos max_number) ∙ word.0)
         ∙ ap (λ (after : Reading). Ok (z, after)) (number_leads (at text place) place end (sym place_here) within ends (ap is_number front ∙ word.1))
 
-    pub coordinate_refused : number_within (neg_ℤ (pos max_number)) (pos max_number) (slice_range text place end) ≡ None → coordinate_at (at text place) ≡ Err place
+    pub coordinate_refused : word_as_number (neg_ℤ (pos max_number)) (pos max_number) (slice_range text place end) ≡ None → coordinate_at (at text place) ≡ Err place
     coordinate_refused none =
         let no = word_is_no_number (neg_ℤ (pos max_number)) (pos max_number) place (slice_range text place end) none in
         ap (λ read. refused_as fault_place read >>= λ (number : ℤ). Ok (number, past_number (at text place))) (next_read (neg_ℤ (pos max_number)) (pos max_number) ∙ no.refused)

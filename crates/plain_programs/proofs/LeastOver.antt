@@ -7,12 +7,12 @@ use Rattle.grid_base.specs.declared.piece.Piece.{Piece}
 use Rattle.grid_base.specs.declared.piece.Piece.TheVariants.{Edge, Via}
 use Rattle.grid_base.specs.declared.size.Size.{Size}
 use Rattle.grid_base.specs.Numbers.{edge_axis}
+use Rattle.grid_base.proofs.Lists.{head_or_rest}
 use Rattle.grid_graph.specs.declared.floors.Floors.{Floors}
 use Rattle.grid_graph.specs.Flat.{tile_edge_of, AreLeastOver}
 use Rattle.grid_graph.specs.Floors.{floor_along, AreFloors}
 use Rattle.grid_graph.specs.Limits.{max_weight}
 use Rattle.grid_graph.specs.Weighed.{Weighs}
-use Rattle.shortest_paths.proofs.Law.{head_or_rest}
 use Rattle.plain_programs.specs.LeastOver.{is_over, least_over}
 
 -- one more piece lowers it to the piece's weight, or leaves it

@@ -8,9 +8,9 @@ use Rattle.grid_base.specs.declared.piece.Piece.{Piece}
 use Rattle.grid_base.specs.declared.size.Size.{Size}
 use Rattle.grid_base.specs.Walks.{Joins, InPieces}
 use Rattle.grid_base.proofs.Joined.{Joins-superset}
+use Rattle.grid_base.proofs.Lists.{head_or_rest, Contains-rest}
 use Rattle.grid_graph.specs.Weighed.{IsAllowed, WeighsOnlyPieces, AreWithinLimit}
 use Rattle.shortest_paths.specs.Sets.{IsLeastWeight, AreApart, weight}
-use Rattle.shortest_paths.proofs.Law.{head_or_rest}
 use Rattle.shortest_paths.proofs.Sets.{piece_cases, no_pieces, extended, weight-most}
 use Rattle.plain_programs.specs.LeastSets.{apart, IsChosen, JoinsBeside, IsLeastBeside}
 use Rattle.plain_programs.proofs.Marks.{in_pushed}
@@ -27,9 +27,6 @@ entry_cases x y = ⊎_elim
 in_head : (x : Piece × ℕ) (xs : List (Piece × ℕ)) (y : Piece × ℕ) → y ≡ x → Contains (x ∷ xs) y
 in_head x xs y same = (0, omega arith, sym same)
 
-in_rest : (x : Piece × ℕ) (xs : List (Piece × ℕ)) (y : Piece × ℕ) → Contains xs y → Contains (x ∷ xs) y
-in_rest x xs y at = (suc at.0, omega (arith, at.1), at.2)
-
 -- what is left of a list without an element
 record IsWithout (x : Piece × ℕ) (xs : List (Piece × ℕ)) : Type 0 where
   rest : List (Piece × ℕ)
@@ -42,7 +39,7 @@ record IsWithout (x : Piece × ℕ) (xs : List (Piece × ℕ)) : Type 0 where
 without_head : (x y : Piece × ℕ) (xs : List (Piece × ℕ)) → y ≡ x → IsWithout x xs → IsWithout x (y ∷ xs)
 without_head x y xs same less = record {
   rest = less.rest;
-  kept = λ z at. in_rest y xs z (less.kept z at);
+  kept = λ z at. Contains-rest y xs z (less.kept z at);
   others = less.others;
   all = λ z at. ⊎_elim (λ here. inl (here ∙ same)) (λ behind. less.all z behind) (head_or_rest y xs z at);
   lighter = omega (arith, less.lighter, sum_by-cons (λ (z : Piece × ℕ). z.1) y xs);
@@ -55,9 +52,9 @@ with_head x y xs other less =
     let by_rest = sum_by-cons (λ (z : Piece × ℕ). z.1) y less.rest in
     record {
       rest = y ∷ less.rest;
-      kept = λ z at. ⊎_elim (λ here. in_head y xs z here) (λ behind. in_rest y xs z (less.kept z behind)) (head_or_rest y less.rest z at);
+      kept = λ z at. ⊎_elim (λ here. in_head y xs z here) (λ behind. Contains-rest y xs z (less.kept z behind)) (head_or_rest y less.rest z at);
       others = λ z at. ⊎_elim (λ here is. other (sym here ∙ is)) (λ behind. less.others z behind) (head_or_rest y less.rest z at);
-      all = λ z at. ⊎_elim (λ here. inr (in_head y less.rest z here)) (λ behind. ⊎_elim (λ is. inl is) (λ left. inr (in_rest y less.rest z left)) (less.all z behind)) (head_or_rest y xs z at);
+      all = λ z at. ⊎_elim (λ here. inr (in_head y less.rest z here)) (λ behind. ⊎_elim (λ is. inl is) (λ left. inr (Contains-rest y less.rest z left)) (less.all z behind)) (head_or_rest y xs z at);
       lighter = omega (arith, less.lighter, by, by_rest);
       lacks = ⊎_elim
           (λ none. inl (λ at. ⊎_elim (λ here. other (sym here)) (λ behind. none behind) (head_or_rest y xs x at)))
@@ -127,7 +124,7 @@ lightest_of_two s chosen x pieces T a b without_it with_it part from joins =
 joins_without : (s : Size) (chosen : List Piece) (x : Piece × ℕ) (pieces : List (Piece × ℕ)) (T : ℕ → Type 0) (limit n : ℕ) → limit ≤ n → JoinsBeside s chosen pieces T limit → JoinsBeside s chosen (x ∷ pieces) T n
 joins_without s chosen x pieces T limit n le has = record {
   set = has.set;
-  is_set = record { allowed = λ y at. in_rest x pieces y (has.is_set.allowed y at); once = has.is_set.once };
+  is_set = record { allowed = λ y at. Contains-rest x pieces y (has.is_set.allowed y at); once = has.is_set.once };
   joins = has.joins;
   light = omega (arith, le, has.light);
 }
@@ -135,7 +132,7 @@ joins_without s chosen x pieces T limit n le has = record {
 -- the set with the piece that was chosen beside it
 joins_with : (s : Size) (chosen : List Piece) (x : Piece × ℕ) (pieces : List (Piece × ℕ)) (T : ℕ → Type 0) (limit n : ℕ) → limit + x.1 ≤ n → JoinsBeside s (chosen ++ x.0 ∷ []) pieces T limit → JoinsBeside s chosen (x ∷ pieces) T n
 joins_with s chosen x pieces T limit n le has =
-    let more = extended (x ∷ pieces) has.set x.0 x.1 (record { allowed = λ y at. in_rest x pieces y (has.is_set.allowed y at); once = has.is_set.once }) (in_head x pieces x refl) in
+    let more = extended (x ∷ pieces) has.set x.0 x.1 (record { allowed = λ y at. Contains-rest x pieces y (has.is_set.allowed y at); once = has.is_set.once }) (in_head x pieces x refl) in
     record {
       set = more.new;
       is_set = more.is_set;
@@ -192,7 +189,7 @@ pub first_in : (xs : List (Piece × ℕ)) (d : Piece × ℕ) → false ≡ (leng
 first_in xs d long = subst (λ (ys : List (Piece × ℕ)). Contains ys (get_or xs 0 d)) (sym (first_and_rest xs d long)) (in_head (get_or xs 0 d) (behind_first xs) (get_or xs 0 d) refl)
 
 pub behind_in : (xs : List (Piece × ℕ)) (d y : Piece × ℕ) → false ≡ (length xs == 0) → Contains (behind_first xs) y → Contains xs y
-behind_in xs d y long at = subst (λ (ys : List (Piece × ℕ)). Contains ys y) (sym (first_and_rest xs d long)) (in_rest (get_or xs 0 d) (behind_first xs) y at)
+behind_in xs d y long at = subst (λ (ys : List (Piece × ℕ)). Contains ys y) (sym (first_and_rest xs d long)) (Contains-rest (get_or xs 0 d) (behind_first xs) y at)
 
 pub behind_shorter : (xs : List (Piece × ℕ)) → false ≡ (length xs == 0) → length (behind_first xs) < length xs
 behind_shorter [] long = cc

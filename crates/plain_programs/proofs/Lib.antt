@@ -1,7 +1,6 @@
 pub mod Automaton
 pub mod LeastOver
 pub mod LeastSets
-pub mod ListedPieces
 pub mod Lowering
 pub mod Marks
 pub mod Repeats

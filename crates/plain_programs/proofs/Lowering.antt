@@ -7,13 +7,12 @@ use Rattle.grid_base.specs.declared.piece.Piece.{Piece}
 use Rattle.grid_base.specs.declared.size.Size.{Size}
 use Rattle.grid_base.specs.Numbers.{vertices, IsVertex, Connects}
 use Rattle.grid_base.specs.Walks.{WalkBetween}
-use Rattle.grid_base.proofs.Pieces.{neighbours_from_connects}
+use Rattle.grid_base.proofs.Pieces.{connects_back, end_vertex}
 use Rattle.grid_base.proofs.Walks.{WalkBetween-refl, WalkBetween-superset, WalkBetween-trans, WalkBetween-piece}
 use Rattle.grid_graph.specs.Weighed.{Weighs, IsAllowed, WeighsOnlyPieces, AreWithinLimit}
-use Rattle.plain_programs.specs.LowerNumbers.{unreached, number_in, distance_by, IsLowerNumber, IsSlack}
+use Rattle.plain_programs.specs.LowerNumbers.{unreached, listed_number, distance_by, IsLowerNumber, IsSlack}
 use Rattle.shortest_paths.specs.Searches.{HasSet}
 use Rattle.shortest_paths.specs.Sets.{IsSetOf, IsDistance, RisesSlowly, weight}
-use Rattle.shortest_paths.proofs.Distances.{falls_or_rises}
 use Rattle.shortest_paths.proofs.Law.{rises_by_weight}
 use Rattle.shortest_paths.proofs.Sets.{extended, no_pieces, ends_joined, least_found, weight-most}
 
@@ -24,13 +23,13 @@ pub record AreReached (s : Size) (pieces : List (Piece × ℕ)) (source : ℕ) (
   pub joined : (v : ℕ) → num v < unreached → HasSet s pieces source v (num v)
 
 -- the source alone has a number
-pub start_reached : (s : Size) (pieces : List (Piece × ℕ)) (source : ℕ) (numbers : List ℕ) → IsVertex s source → numbers ≡ set (replicate (vertices s) unreached) source 0 → AreReached s pieces source (number_in numbers)
+pub start_reached : (s : Size) (pieces : List (Piece × ℕ)) (source : ℕ) (numbers : List ℕ) → IsVertex s source → numbers ≡ set (replicate (vertices s) unreached) source 0 → AreReached s pieces source (listed_number numbers)
 start_reached s pieces source numbers vertex is =
     let all = replicate (vertices s) unreached in
-    let num = number_in numbers in
+    let num = listed_number numbers in
     let long = length-replicate (vertices s) unreached in
-    let start : num source ≡ 0 = ap (λ xs. number_in xs source) is ∙ get_or-set_same all source 0 unreached (omega (arith, long)) in
-    let others : (v : ℕ) → v ≢ source → num v ≡ unreached = λ v other. ap (λ xs. number_in xs v) is ∙ get_or-set_other all source v 0 unreached other ∙ ⊎_elim
+    let start : num source ≡ 0 = ap (λ xs. listed_number xs source) is ∙ get_or-set_same all source 0 unreached (omega (arith, long)) in
+    let others : (v : ℕ) → v ≢ source → num v ≡ unreached = λ v other. ap (λ xs. listed_number xs v) is ∙ get_or-set_other all source v 0 unreached other ∙ ⊎_elim
     (λ low. get_or-replicate (vertices s) v unreached unreached low)
     (λ past. get_or_past all v unreached (omega (arith, long)))
     (cases_lt v (vertices s)) in
@@ -59,19 +58,16 @@ further s pieces source from to d k p has weighs connects =
       light = omega (arith, more.light, has.light);
     }
 
-end_vertex : (s : Size) (p : Piece) (a b : ℕ) → Connects s p a b → IsVertex s b
-end_vertex s p a b connects = (neighbours_from_connects s p a b connects).1
-
 -- a vertex that can be lowered is one
 pub lower_vertex : (s : Size) (pieces : List (Piece × ℕ)) (num : ℕ → ℕ) (to number : ℕ) → IsLowerNumber s pieces num to number → IsVertex s to
 lower_vertex s pieces num to number lower = end_vertex s lower.piece lower.from to lower.connects
 
 -- what is reached stays so when a vertex gets a lower number
-pub lower_reached : (s : Size) (pieces : List (Piece × ℕ)) (source : ℕ) (numbers : List ℕ) (to number : ℕ) → length numbers ≡ vertices s → AreReached s pieces source (number_in numbers) →
-    IsLowerNumber s pieces (number_in numbers) to number → AreReached s pieces source (number_in (set numbers to number))
+pub lower_reached : (s : Size) (pieces : List (Piece × ℕ)) (source : ℕ) (numbers : List ℕ) (to number : ℕ) → length numbers ≡ vertices s → AreReached s pieces source (listed_number numbers) →
+    IsLowerNumber s pieces (listed_number numbers) to number → AreReached s pieces source (listed_number (set numbers to number))
 lower_reached s pieces source numbers to number long reached lower =
-    let num = number_in numbers in
-    let new = number_in (set numbers to number) in
+    let num = listed_number numbers in
+    let new = listed_number (set numbers to number) in
     let there : new to ≡ number = get_or-set_same numbers to number unreached (omega (arith, long, lower_vertex s pieces num to number lower)) in
     let others : (v : ℕ) → v ≢ to → new v ≡ num v = λ v other. get_or-set_other numbers to v number unreached other in
     let has : HasSet s pieces source to number =
@@ -90,10 +86,10 @@ lower_reached s pieces source numbers to number long reached lower =
 
 -- an end of a piece that gets a lower number from the other end
 pub lower_end : (s : Size) (p : Piece) (weight : ℕ) (numbers : List ℕ) (a b : ℕ) → Connects s p a b → length numbers ≡ vertices s → get_or numbers a 0 + weight < get_or numbers b 0 →
-    (pieces : List (Piece × ℕ)) → Weighs pieces p weight → IsLowerNumber s pieces (number_in numbers) b (get_or numbers a 0 + weight)
+    (pieces : List (Piece × ℕ)) → Weighs pieces p weight → IsLowerNumber s pieces (listed_number numbers) b (get_or numbers a 0 + weight)
 lower_end s p weight numbers a b connects long less pieces weighs =
-    let at_a : get_or numbers a 0 ≡ number_in numbers a = get_or_default numbers a 0 unreached (omega (arith, long, end_vertex s p b a (falls_or_rises s p a b connects))) in
-    let at_b : get_or numbers b 0 ≡ number_in numbers b = get_or_default numbers b 0 unreached (omega (arith, long, end_vertex s p a b connects)) in
+    let at_a : get_or numbers a 0 ≡ listed_number numbers a = get_or_default numbers a 0 unreached (omega (arith, long, end_vertex s p b a (connects_back s p a b connects))) in
+    let at_b : get_or numbers b 0 ≡ listed_number numbers b = get_or_default numbers b 0 unreached (omega (arith, long, end_vertex s p a b connects)) in
     record {
       from = a;
       piece = p;
@@ -141,5 +137,5 @@ slow_distance s pieces source v num inside small reached slow =
     (cases_lt (num v) unreached)
 
 -- the distance of a vertex in the list
-pub distance_in : (numbers : List ℕ) (distances : List (Option ℕ)) (v : ℕ) → v < length numbers → distances ≡ map distance_by numbers → get_or distances v None ≡ distance_by (number_in numbers v)
+pub distance_in : (numbers : List ℕ) (distances : List (Option ℕ)) (v : ℕ) → v < length numbers → distances ≡ map distance_by numbers → get_or distances v None ≡ distance_by (listed_number numbers v)
 distance_in numbers distances v within is = ap (λ (xs : List (Option ℕ)). get_or xs v None) is ∙ get_or-map distance_by numbers v unreached None within

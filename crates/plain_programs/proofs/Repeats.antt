@@ -1,5 +1,5 @@
 -- Lists of pieces without repeats.
-use Rattle.std.proofs.Common.{◌≡◌, ℕ, ◌<◌, List, false, Option, Some, None, slice_get, get_or, refl, take, length, map, sym, ◌∙◌, ap, subst, ⊎_elim, arith}
+use Rattle.std.proofs.Common.{◌≡◌, ℕ, ◌<◌, List, false, Option, Some, None, get_or, refl, take, length, map, sym, ◌∙◌, ap, subst, ⊎_elim, arith}
 use Rattle.std.specs.Option.{option_map, is_some}
 use Rattle.std.proofs.lemmas.Bool.{cases_lt}
 use Rattle.std.proofs.lemmas.List.{length-map, get_or_default}
@@ -8,7 +8,7 @@ use Rattle.std.proofs.lemmas.Option.{same_Some, slice_get-map, slice_get_within,
 use Rattle.grid_base.specs.declared.piece.Piece.{Piece}
 use Rattle.grid_base.specs.declared.piece.Piece.TheVariants.{Via}
 use Rattle.grid_base.specs.Lists.{At}
-use Rattle.grid_graph.specs.Weighed.{IsAllowed, NoPieceTwice, Weighs}
+use Rattle.grid_graph.specs.Weighed.{IsAllowed, NoPieceTwice}
 
 nothing : Piece × ℕ
 nothing = (Via (record { 0 = 0 }), 0)
@@ -45,15 +45,3 @@ none_from (Some x) is = cc
 pub new_at : (pieces : List (Piece × ℕ)) (i k : ℕ) (d e : Piece × ℕ) → k ≡ i → i < length pieces → ¬ IsAllowed (take i pieces) (get_or pieces i e).0 → ¬ IsAllowed (take k pieces) (get_or pieces k d).0
 new_at pieces i k d e same within new at =
     new (subst (λ (x : Piece × ℕ). IsAllowed (take i pieces) x.0) (get_or_default pieces i d e within) (subst (λ j. IsAllowed (take j pieces) (get_or pieces j d).0) same at))
-
-stands_at : (pieces : List (Piece × ℕ)) (p : Piece) (k : ℕ) → (at : Weighs pieces p k) → slice_get pieces at.0 ≡ Some (p, k)
-stands_at pieces p k at = slice_get-get_or pieces at.0 (p, k) at.1 ∙ ap (λ (x : Piece × ℕ). Some x) at.2
-
-piece_stands : (pieces : List (Piece × ℕ)) (p : Piece) (k : ℕ) → (at : Weighs pieces p k) → At (map (λ x. x.0) pieces) at.0 p
-piece_stands pieces p k at = slice_get-map (λ x. x.0) pieces at.0 ∙ ap (option_map (λ (x : Piece × ℕ). x.0)) (stands_at pieces p k at)
-
--- a piece has one weight
-pub weighs_once : (pieces : List (Piece × ℕ)) (p : Piece) (j k : ℕ) → NoPieceTwice pieces → Weighs pieces p j → Weighs pieces p k → j ≡ k
-weighs_once pieces p j k once first second =
-    let same : first.0 ≡ second.0 = once first.0 second.0 p (piece_stands pieces p j first) (piece_stands pieces p k second) in
-    ap (λ (x : Piece × ℕ). x.1) (same_Some _ _ (sym (stands_at pieces p j first) ∙ ap (slice_get pieces) same ∙ stands_at pieces p k second))

@@ -10,10 +10,10 @@ use Rattle.text_scan.specs.declared.number_fault.NumberFault.{NumberFault}
 use Rattle.text_scan.specs.declared.number_fault.NumberFault.TheVariants.{NotNumber, OutOfRange}
 use Rattle.text_scan.specs.Numbers.{is_sign, unsigned, is_number, is_within, value_of, token_number}
 use Rattle.text_scan.proofs.Digits.{numerals}
-use Rattle.plain_programs.specs.PlainNumbers.{number_within}
+use Rattle.plain_programs.specs.PlainNumbers.{word_as_number}
 
 -- a word that is a number in range is read as that number
-pub word_is_number : (lo hi z : ℤ) (place : ℕ) (word : List ℕ) → number_within lo hi word ≡ Some z → (token_number lo hi (record { place = place; bytes = word }) ≡ Ok z) × (is_number word ≡ true)
+pub word_is_number : (lo hi z : ℤ) (place : ℕ) (word : List ℕ) → word_as_number lo hi word ≡ Some z → (token_number lo hi (record { place = place; bytes = word }) ≡ Ok z) × (is_number word ≡ true)
 word_is_number lo hi z place word is = ⊎_elim
     (λ (number : is_number word ≡ true). ⊎_elim
     (λ (within : is_within lo hi (value_of word) ≡ true). (let same = rw (number, within) at is in rw (number, within) cc, number))
@@ -28,7 +28,7 @@ pub record IsRefusedAt (place : ℕ) (read : Result ℤ NumberFault) : Type 0 wh
   pub refused : read ≡ Err fault
   pub stands : fault_place fault ≡ place
 
-pub word_is_no_number : (lo hi : ℤ) (place : ℕ) (word : List ℕ) → number_within lo hi word ≡ None → IsRefusedAt place (token_number lo hi (record { place = place; bytes = word }))
+pub word_is_no_number : (lo hi : ℤ) (place : ℕ) (word : List ℕ) → word_as_number lo hi word ≡ None → IsRefusedAt place (token_number lo hi (record { place = place; bytes = word }))
 word_is_no_number lo hi place word is = ⊎_elim
     (λ (number : is_number word ≡ true). ⊎_elim
     (λ (within : is_within lo hi (value_of word) ≡ true). let some = rw (number, within) at is in absurd cc)

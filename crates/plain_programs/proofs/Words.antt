@@ -5,7 +5,7 @@ use Rattle.std.proofs.lemmas.List.Sums.{sum_by-cons}
 use Rattle.std.proofs.lemmas.Bool.Decides.{nat_tests}
 use Rattle.std.specs.List.{slice_split, onto_first, sum_by}
 use Rattle.text_scan.specs.Tokens.{Token, is_blank, with_byte, tokens_from}
-use Rattle.plain_programs.specs.Words.{word_at, words_of}
+use Rattle.plain_programs.specs.Words.{part_as_token, words_of}
 
 -- a byte before tokens of which none begins right behind it
 abbrev BeginsFrom : ℕ → List Token → Type 0
@@ -54,19 +54,19 @@ words_are_tokens place (b ∷ bs) =
     ]
 
 -- the words of the parts up to the next one
-pub words_more : (words more : List Token) (place : ℕ) (part : List ℕ) (parts : List (List ℕ)) (all : List Token) → more ≡ words ++ word_at place part → words ++ words_of place (part ∷ parts) ≡ all → more ++ words_of (place + (length part + 1)) parts ≡ all
+pub words_more : (words more : List Token) (place : ℕ) (part : List ℕ) (parts : List (List ℕ)) (all : List Token) → more ≡ words ++ part_as_token place part → words ++ words_of place (part ∷ parts) ≡ all → more ++ words_of (place + (length part + 1)) parts ≡ all
 words_more words more place part parts all is before =
     let next : place + (length part + 1) ≡ place + length part + 1 = omega arith in
-    rw (is, next) (append_assoc words (word_at place part) (words_of (place + length part + 1) parts) ∙ before)
+    rw (is, next) (append_assoc words (part_as_token place part) (words_of (place + length part + 1) parts) ∙ before)
 
 -- a part that is not empty is a word
-pub word_at-nonempty : (place : ℕ) (part : List ℕ) → false ≡ (length part == 0) → word_at place part ≡ record { place = place; bytes = part } ∷ []
-word_at-nonempty place [] long = cc
-word_at-nonempty place (b ∷ bs) long = refl
+pub part_as_token-nonempty : (place : ℕ) (part : List ℕ) → false ≡ (length part == 0) → part_as_token place part ≡ record { place = place; bytes = part } ∷ []
+part_as_token-nonempty place [] long = cc
+part_as_token-nonempty place (b ∷ bs) long = refl
 
-pub word_at-empty : (place : ℕ) (part : List ℕ) → true ≡ (length part == 0) → word_at place part ≡ []
-word_at-empty place [] empty = refl
-word_at-empty place (b ∷ bs) empty = absurd (omega (arith, eqb-true (length (b ∷ bs)) 0 (sym empty)))
+pub part_as_token-empty : (place : ℕ) (part : List ℕ) → true ≡ (length part == 0) → part_as_token place part ≡ []
+part_as_token-empty place [] empty = refl
+part_as_token-empty place (b ∷ bs) empty = absurd (omega (arith, eqb-true (length (b ∷ bs)) 0 (sym empty)))
 
 abbrev one_more : List ℕ → ℕ
 one_more part = length part + 1

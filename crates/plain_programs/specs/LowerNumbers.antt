@@ -10,8 +10,8 @@ abbrev pub unreached : ℕ
 unreached = 3 * 2 ^ 61 + 1
 
 -- the number of a vertex
-abbrev pub number_in : List ℕ → ℕ → ℕ
-number_in numbers v = get_or numbers v unreached
+abbrev pub listed_number : List ℕ → ℕ → ℕ
+listed_number numbers v = get_or numbers v unreached
 
 -- a number as a distance
 abbrev pub distance_by : ℕ → Option ℕ

@@ -8,11 +8,11 @@ abbrev pub token_of : Word → Token
 token_of word = record { place = word.place; bytes = word.bytes.items }
 
 -- the part as a token at this place; none where it is empty
-abbrev pub word_at : ℕ → List ℕ → List Token
-word_at place [] = []
-word_at place (b ∷ bs) = record { place = place; bytes = b ∷ bs } ∷ []
+abbrev pub part_as_token : ℕ → List ℕ → List Token
+part_as_token place [] = []
+part_as_token place (b ∷ bs) = record { place = place; bytes = b ∷ bs } ∷ []
 
 -- the parts that are not empty, where the first stands at this place and a blank between each two
 abbrev pub words_of : ℕ → List (List ℕ) → List Token
 words_of place [] = []
-words_of place (part ∷ parts) = word_at place part ++ words_of (place + length part + 1) parts
+words_of place (part ∷ parts) = part_as_token place part ++ words_of (place + length part + 1) parts

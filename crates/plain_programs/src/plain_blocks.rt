@@ -9,8 +9,8 @@ ghost use Rattle.text_scan.specs.Tokens.{is_blank};
 ghost use Rattle.text_scan.specs.Reading.{Reading};
 ghost use Rattle.route_text.specs.declared.route_error.RouteError.TheVariants.{NoMemory};
 ghost use Rattle.route_text.specs.Blocks.{blocks_of};
-ghost use Rattle.route_text.specs.Reads.{Refuses};
-ghost use Rattle.plain_programs.specs.PlainBlocks.{IsTaken, at, block_of, left_among, left_at_further, left_at_id, left_at_name, left_at_segments, left_in_row, text_left, with_number};
+ghost use Rattle.route_text.specs.Reads.{RefusesRoute};
+ghost use Rattle.plain_programs.specs.PlainBlocks.{ReadsAsBefore, at, block_of, left_among, left_at_further, left_at_id, left_at_name, left_at_segments, left_in_row, text_left, with_next_number};
 
 use crate::plain_numbers::{begins_number, number_end, number_within, word_end};
 use crate::plain_tokens::is_blank;
@@ -56,7 +56,7 @@ struct Taken {
 /// The blocks of the text, or the first place at which it is no list of blocks.
 pub fn blocks_by_automaton(alloc: Global, text: &[u8]) -> Result<Vec<Block>, RouteError>
     ensures blocks { IfOk result (λ blocks. blocks_of text.now ≡ Ok blocks.items) }
-    ensures refusal { IfErr result (λ e. Refuses e (blocks_of text.now)) }
+    ensures refusal { IfErr result (λ e. RefusesRoute e (blocks_of text.now)) }
 {
     let mut taken = nothing_taken(alloc);
     let mut place = 0;
@@ -95,7 +95,7 @@ impl Taken {
     /// Takes what stands at this place, and says where it ends.
     fn take(&mut self, alloc: Global, text: &[u8], place: usize) -> Result<usize, RouteError>
         requires { place < length text.now }
-        ensures taken { IsTaken (text_left self.old (at text.now place)) text.now self.new result }
+        ensures taken { ReadsAsBefore (text_left self.old (at text.now place)) text.now self.new result }
         ensures forward { IfOk result (λ end. (place < end) × (end ≤ length text.now)) }
     {
         if is_blank(text[place]) {
@@ -113,7 +113,7 @@ impl Taken {
     fn take_name(&mut self, alloc: Global, text: &[u8], place: usize) -> Result<usize, RouteError>
         requires inside { place < length text.now }
         requires no_blank { is_blank (slice_index text.now place) ≡ false }
-        ensures taken { IsTaken (left_at_name self.old.blocks.items (at text.now place)) text.now self.new result }
+        ensures taken { ReadsAsBefore (left_at_name self.old.blocks.items (at text.now place)) text.now self.new result }
         ensures forward { IfOk result (λ end. (place < end) × (end ≤ length text.now)) }
     {
         let end = word_end(text, place);
@@ -127,7 +127,7 @@ impl Taken {
     fn take_id(&mut self, text: &[u8], place: usize) -> Result<usize, RouteError>
         requires inside { place < length text.now }
         requires no_blank { is_blank (slice_index text.now place) ≡ false }
-        ensures taken { IsTaken (left_at_id self.old (at text.now place)) text.now self.new result }
+        ensures taken { ReadsAsBefore (left_at_id self.old (at text.now place)) text.now self.new result }
         ensures forward { IfOk result (λ end. (place < end) × (end ≤ length text.now)) }
     {
         let end = word_end(text, place);
@@ -148,7 +148,7 @@ impl Taken {
     ) -> Result<usize, RouteError>
         requires inside { place < length text.now }
         requires no_blank { is_blank (slice_index text.now place) ≡ false }
-        ensures taken { IsTaken (left_at_further self.old (at text.now place)) text.now self.new result }
+        ensures taken { ReadsAsBefore (left_at_further self.old (at text.now place)) text.now self.new result }
         ensures forward { IfOk result (λ end. (place < end) × (end ≤ length text.now)) }
     {
         if !begins_number(text[place]) {
@@ -172,7 +172,7 @@ impl Taken {
     ) -> Result<usize, RouteError>
         requires inside { place < length text.now }
         requires no_blank { is_blank (slice_index text.now place) ≡ false }
-        ensures taken { IsTaken (left_among row.now self.old (at text.now place)) text.now self.new result }
+        ensures taken { ReadsAsBefore (left_among row.now self.old (at text.now place)) text.now self.new result }
         ensures forward { IfOk result (λ end. (place < end) × (end ≤ length text.now)) }
     {
         match row.split_first() {
@@ -191,7 +191,7 @@ impl Taken {
     ) -> Result<usize, RouteError>
         requires inside { place < length text.now }
         requires no_blank { is_blank (slice_index text.now place) ≡ false }
-        ensures taken { IsTaken (left_at_segments self.old (at text.now place)) text.now self.new result }
+        ensures taken { ReadsAsBefore (left_at_segments self.old (at text.now place)) text.now self.new result }
         ensures forward { IfOk result (λ end. (place < end) × (end ≤ length text.now)) }
     {
         let byte = text[place];
@@ -215,7 +215,7 @@ impl Taken {
     ) -> Result<usize, RouteError>
         requires inside { place < length text.now }
         requires no_blank { is_blank (slice_index text.now place) ≡ false }
-        ensures taken { IsTaken (left_in_row self.old (35 ∷ rest.now) (at text.now place)) text.now self.new result }
+        ensures taken { ReadsAsBefore (left_in_row self.old (35 ∷ rest.now) (at text.now place)) text.now self.new result }
         ensures forward { IfOk result (λ end. (place < end) × (end ≤ length text.now)) }
     {
         let end = number_end(text, place);
@@ -238,7 +238,7 @@ impl Taken {
         requires inside { place < length text.now }
         requires no_blank { is_blank (slice_index text.now place) ≡ false }
         requires mark { (mark == 35) ≡ false }
-        ensures taken { IsTaken (left_in_row self.old (mark ∷ rest.now) (at text.now place)) text.now self.new result }
+        ensures taken { ReadsAsBefore (left_in_row self.old (mark ∷ rest.now) (at text.now place)) text.now self.new result }
         ensures forward { IfOk result (λ end. (place < end) × (end ≤ length text.now)) }
     {
         if text[place] != mark {
@@ -279,7 +279,7 @@ impl Taken {
 
 /// The six numbers of a segment, with a new one behind them and without the first.
 fn with_number(segment: Segment, number: i64) -> Segment
-    ensures { result ≡ with_number segment number }
+    ensures { result ≡ with_next_number segment number }
 {
     Segment {
         from: Point {

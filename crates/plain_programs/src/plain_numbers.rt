@@ -7,7 +7,7 @@ ghost use Rattle.std.specs.List.{prefix_len, position_or_len};
 ghost use Rattle.text_scan.specs.Numbers.{sign_len, unsigned, is_number, value_of};
 ghost use Rattle.text_scan.specs.Tokens.{is_blank};
 ghost use Rattle.route_text.specs.Blocks.{begins_number};
-ghost use Rattle.plain_programs.specs.PlainNumbers.{number_within};
+ghost use Rattle.plain_programs.specs.PlainNumbers.{word_as_number};
 
 use crate::plain_tokens::is_blank;
 use std::str;
@@ -61,7 +61,7 @@ pub fn number_end(text: &[u8], start: usize) -> usize
 
 /// The number that the word is, where it is one from `low` to `high`.
 pub fn number_within(word: &[u8], low: i64, high: i64) -> Option<i64>
-    ensures { result ≡ number_within low high word.now }
+    ensures { result ≡ word_as_number low high word.now }
 {
     match number_of(word) {
         Some(number) if low <= number && number <= high => Some(number),

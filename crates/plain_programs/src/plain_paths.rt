@@ -5,7 +5,7 @@ ghost use Rattle.grid_base.specs.declared.piece.Piece.{Piece};
 ghost use Rattle.grid_base.specs.Numbers.{IsVertex, IsPiece, vertices};
 ghost use Rattle.grid_graph.specs.Limits.{max_weight};
 ghost use Rattle.grid_graph.specs.Weighed.{Weighs, WeighsOnlyPieces, AreWithinLimit};
-ghost use Rattle.plain_programs.specs.LowerNumbers.{unreached, number_in, distance_by, IsLowerNumber, IsSlack};
+ghost use Rattle.plain_programs.specs.LowerNumbers.{unreached, listed_number, distance_by, IsLowerNumber, IsSlack};
 ghost use Rattle.shortest_paths.specs.Sets.{IsDistance, RisesSlowly};
 
 use grid_base::{NoMemory, Piece, Size, Vertex};
@@ -54,9 +54,9 @@ fn first_lower(size: Size, pieces: &[(Piece, u64)], numbers: &[u64]) -> Option<(
     requires inside { WeighsOnlyPieces size pieces.now }
     requires light { AreWithinLimit pieces.now }
     requires long { length numbers.now ≡ vertices size }
-    requires limit { (v : ℕ) → number_in numbers.now v ≤ unreached }
-    ensures some { IfSome result (λ x. IsLowerNumber size pieces.now (number_in numbers.now) x.0.0 x.1) }
-    ensures none { result ≡ None → RisesSlowly size pieces.now (number_in numbers.now) }
+    requires limit { (v : ℕ) → listed_number numbers.now v ≤ unreached }
+    ensures some { IfSome result (λ x. IsLowerNumber size pieces.now (listed_number numbers.now) x.0.0 x.1) }
+    ensures none { result ≡ None → RisesSlowly size pieces.now (listed_number numbers.now) }
 {
     for entry in pieces {
         if let Some(lower) = lower_by(size, entry.0, entry.1, numbers) {
@@ -71,9 +71,9 @@ fn lower_by(size: Size, p: Piece, weight: u64, numbers: &[u64]) -> Option<(Verte
     requires piece { IsPiece size p }
     requires light { weight ≤ max_weight }
     requires long { length numbers.now ≡ vertices size }
-    requires limit { (v : ℕ) → number_in numbers.now v ≤ unreached }
-    ensures some { IfSome result (λ x. (pieces : List (Piece × ℕ)) → Weighs pieces p weight → IsLowerNumber size pieces (number_in numbers.now) x.0.0 x.1) }
-    ensures none { result ≡ None → IsSlack size (number_in numbers.now) p weight }
+    requires limit { (v : ℕ) → listed_number numbers.now v ≤ unreached }
+    ensures some { IfSome result (λ x. (pieces : List (Piece × ℕ)) → Weighs pieces p weight → IsLowerNumber size pieces (listed_number numbers.now) x.0.0 x.1) }
+    ensures none { result ≡ None → IsSlack size (listed_number numbers.now) p weight }
 {
     let (near, far) = size.ends_of(p);
     let near_number = numbers[near.0 as usize];

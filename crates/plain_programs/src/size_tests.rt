@@ -9,19 +9,13 @@ use std::alloc::{AllocError, Global};
 use std::test::Fail;
 use tree_set::{Tree, joins};
 
-/// The routes of this many nets that all run along the first three tiles.
-fn routes_of(alloc: Global, nets: u32) -> Result<String, AllocError> {
-    let mut text = String::new(alloc);
-    for k in 0..nets {
-        text.push_str(format!(in alloc; "n {k}\n(5,5,1)-(25,5,1)\n!\n")?.as_str())?;
-    }
-    Ok(text)
-}
+/// A net that runs along the first three tiles.
+const BLOCK: &str = "n 4711\n(5,5,1)-(25,5,1)\n!\n";
 
 #[test]
 fn thousands_of_routes_are_read_as_by_the_automaton(rt: HostRuntime) -> Result<(), Fail> {
     let alloc = rt.alloc();
-    let text = routes_of(alloc, 5000)?;
+    let text = BLOCK.repeat(alloc, 5000)?;
     let read = read_routes(alloc, text.as_bytes());
     assert!(rt; read.is_ok() && same_answer(read, blocks_by_automaton(alloc, text.as_bytes())));
     Ok(())

@@ -4,7 +4,7 @@ ghost use Rattle.std.specs.Prelude.{◌≡◌, All, IfOk, IsTrue, map};
 ghost use Rattle.grid_base.specs.Numbers.{IsVertex};
 ghost use Rattle.grid_base.specs.Walks.{Joins, InVertices};
 ghost use Rattle.grid_graph.specs.Weighed.{IsAllowed};
-ghost use Rattle.shortest_paths.specs.LabelWords.{size_of};
+ghost use Rattle.shortest_paths.specs.LabelWords.{labels_size};
 
 use crate::distance_tests::drawn;
 use crate::known::{are_pieces, are_vertices};
@@ -119,8 +119,8 @@ fn is_light(
     labels: &mut Labels,
 ) -> Result<bool, Fail>
     requires size { weights.now.size ≡ size }
-    requires labels { size_of labels.old ≡ size }
-    ensures labels { size_of labels.new ≡ size }
+    requires labels { labels_size labels.old ≡ size }
+    ensures labels { labels_size labels.new ≡ size }
 {
     if terminals.is_empty() || !are_vertices(size, terminals) {
         return Err(Fail::new("no terminals"));

@@ -4,6 +4,7 @@ ghost use Rattle.std.specs.Prelude.{◌≡◌, ◌≤◌, All, IfOk, IsSome, len
 ghost use Rattle.grid_base.specs.Numbers.{IsVertex};
 ghost use Rattle.grid_base.specs.Walks.{Joins, InVertices};
 ghost use Rattle.grid_graph.specs.Weighed.{IsAllowed};
+ghost use Rattle.shortest_paths.specs.Masks.{few_terminals};
 ghost use Rattle.steiner_exact.specs.TreeLabelWords.{AreTreeLabels};
 
 use crate::distance_tests::{drawn, mixed};
@@ -45,7 +46,7 @@ fn least_by_table(
     requires size { weights.now.size ≡ size }
     requires terminals { All (λ v. IsVertex size v.0) terminals.now }
     requires two { 2 ≤ length terminals.now }
-    requires few { length terminals.now ≤ 5 }
+    requires few { length terminals.now ≤ few_terminals }
     ensures { IfOk result (λ least. IsSome least → Joins size (IsAllowed weights.now.pieces.items) (InVertices terminals.now)) }
 {
     let mut labels = Labels::new(alloc, size, 15)?;

@@ -21,19 +21,11 @@ use Rattle.grid_graph.specs.Limits.{max_weight}
 use Rattle.shortest_paths.specs.Masks.{bit, single, AreParts}
 use Rattle.shortest_paths.specs.Sets.{RisesSlowly}
 use Rattle.shortest_paths.specs.Tables.{IsFamily}
-use Rattle.shortest_paths.proofs.FloorSteps.{sides_within, sum_within}
+use Rattle.shortest_paths.proofs.FloorSteps.{AreApartBy, scaled, sides_within, sum_within}
 use Rattle.steiner_exact.specs.declared.span.Span.{Span}
 use Rattle.steiner_exact.specs.declared.terminal_box.TerminalBox.{TerminalBox}
 use Rattle.steiner_exact.specs.Boxes.{none, span_of, width_with, with_place, box_distance, IsBoxIn, no_box, box_of, first_box, box_low}
 use Rattle.steiner_exact.proofs.BoxSides.{span_none, span_taken, span_passed, width-parts, width-single, width-more, width-less, highest-below}
-
--- two numbers are at most so far apart
-abbrev AreApartBy : ℕ → ℕ → ℕ → Type 0
-AreApartBy a b gap = (a ≤ b + gap) × (b ≤ a + gap)
-
--- a step more is a floor more at most
-scaled : (m n floor : ℕ) → m ≤ n + 1 → m * floor ≤ n * floor + floor
-scaled m n floor close = omega (arith, mul-le m floor (n + 1) floor close (omega arith))
 
 more : (span : Span) (x floor : ℕ) → width_with span (x + 1) * floor ≤ width_with span x * floor + floor
 more span x floor = scaled (width_with span (x + 1)) (width_with span x) floor (width-more span x)

@@ -5,13 +5,13 @@ use Rattle.std.proofs.lemmas.List.FromFn.{get_or-map-range_with_len, length-map-
 use Rattle.std.proofs.lemmas.Bool.{cases_Bool, ltb-true, lt-ltb, and_parts, and_from}
 use Rattle.grid_base.specs.declared.axis.Axis.{Axis}
 use Rattle.grid_base.specs.declared.axis.Axis.TheVariants.{X, Y}
-use Rattle.grid_base.specs.declared.edge.Edge.{Edge as EdgeNumber}
 use Rattle.grid_base.specs.declared.via.Via.{Via as ViaNumber}
 use Rattle.grid_base.specs.declared.piece.Piece.{Piece}
 use Rattle.grid_base.specs.declared.piece.Piece.TheVariants.{Edge, Via}
 use Rattle.grid_base.specs.declared.place.Place.{Place}
 use Rattle.grid_base.specs.declared.size.Size.{Size}
 use Rattle.grid_base.specs.Numbers.{cols, rows, layers, vertices, place_at, next_along, edge_start, edge_axis, IsPiece, IsInside}
+use Rattle.grid_base.proofs.Pieces.{edge-tells}
 use Rattle.grid_base.proofs.Places.{place_at-inside}
 use Rattle.grid_graph.specs.Flat.{tiles, tile_edge_of, IsFlatOf, AreLeastOver}
 use Rattle.grid_graph.specs.Floors.{AreFloors, AreTileFloors}
@@ -24,11 +24,6 @@ use Rattle.steiner_exact.specs.FlatPieces.{goes_on, has_edge, edge_flags, edges_
 
 abbrev edge : ℕ → Piece
 edge e = Edge (record { 0 = e })
-
-pub edge-tells : (j k : ℕ) → edge j ≡ edge k → j ≡ k
-edge-tells j k same =
-    let numbers : EdgeNumber → EdgeNumber → Type 0 = λ a b. a ≡ b in
-    let equal : numbers (record { 0 = j }) (record { 0 = k }) = cc in ap (λ (e : EdgeNumber). e.0) equal
 
 goes_on-inside : (s : Size) (axis : Axis) (p : Place) → IsInside s p → (goes_on s axis p ≡ true) ↔ IsInside s (next_along axis p)
 goes_on-inside s X p inside = ((λ on. (ltb-true _ _ on, inside.1, inside.2)), λ next. lt-ltb _ _ next.0)

@@ -2,7 +2,6 @@ pub mod Attempts
 pub mod BoxSides
 pub mod BoxSteps
 pub mod EdgeLists
-pub mod FlatSteps
 pub mod FoundNumbers
 pub mod LeastSets
 pub mod RowLaws

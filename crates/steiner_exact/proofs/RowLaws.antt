@@ -1,14 +1,11 @@
 -- A table of the flat grid that holds, with the layers to go, is a family of lower bounds of the grid.
-use Rattle.std.proofs.Common.{ℕ, ◌≡◌, ◌+◌, ◌-◌, ◌*◌, ◌^◌, ◌<◌, ◌≤◌, min, List, [], ◌∷◌, length, get_or, option_map, All, refl, sym, ap, subst, ◌∙◌, ⊎_elim, arith}
-use Rattle.std.proofs.lemmas.List.{length-map}
-use Rattle.std.proofs.lemmas.List.Elements.{All-cons, All-nil}
+use Rattle.std.proofs.Common.{ℕ, ◌≡◌, ◌+◌, ◌-◌, ◌*◌, ◌^◌, ◌<◌, ◌≤◌, min, List, length, get_or, All, refl, sym, ap, subst, ⊎_elim, arith}
 use Rattle.std.proofs.lemmas.Nat.{mul-le}
-use Rattle.std.proofs.lemmas.Option.{slice_get-map, slice_get_within, get_or_from_slice_get}
+use Rattle.std.proofs.lemmas.Option.{slice_get_within, get_or_from_slice_get}
 use Rattle.grid_base.specs.declared.piece.Piece.{Piece}
 use Rattle.grid_base.specs.declared.piece.Piece.TheVariants.{Edge, Via}
 use Rattle.grid_base.specs.declared.size.Size.{Size}
 use Rattle.grid_base.specs.declared.vertex.Vertex.{Vertex}
-use Rattle.grid_base.specs.Lists.{At}
 use Rattle.grid_base.specs.Numbers.{layer_of, IsVertex, Connects, IsPiece}
 use Rattle.grid_graph.specs.declared.floors.Floors.{Floors}
 use Rattle.grid_graph.specs.Flat.{tile_of, tile_edge_of, IsFlatOf, AreLeastOver}
@@ -19,27 +16,16 @@ use Rattle.shortest_paths.specs.Masks.{single, all_of}
 use Rattle.shortest_paths.specs.Tables.{IsHoldingTable, IsFamily, IsPrunedTable, completed}
 use Rattle.shortest_paths.proofs.Pruned.{completed_holds}
 use Rattle.steiner_exact.specs.Boxes.{none, span_of, width_with}
-use Rattle.steiner_exact.specs.FlatPieces.{edges_with, tiles_of}
-use Rattle.steiner_exact.specs.RowLows.{layers_with, raised}
+use Rattle.steiner_exact.specs.FlatPieces.{edges_with}
+use Rattle.grid_graph.specs.TilePieces.{tiles_of}
+use Rattle.steiner_exact.specs.RowLows.{layers_with, raised_by_layers}
 use Rattle.steiner_exact.proofs.BoxSides.{width-parts, width-single, width-more, width-less}
 use Rattle.steiner_exact.proofs.BoxSteps.{fits}
 use Rattle.steiner_exact.proofs.EdgeLists.{edges_with-lists}
-use Rattle.steiner_exact.proofs.FlatSteps.{tile_vertex, edge_connects, via_goes}
+use Rattle.grid_graph.proofs.TileLists.{tiles_at, tiles_long}
+use Rattle.grid_graph.proofs.TileSteps.{tile_vertex, edge_connects, via_goes, flat_tiles}
 
--- the terminals' tiles
-pub tiles_at : (s : Size) (terminals : List Vertex) (place : ℕ) (v : Vertex) → At terminals place v → At (tiles_of s terminals) place (record { 0 = tile_of s v.0 })
-tiles_at s terminals place v at =
-    let tile : Vertex → Vertex = λ u. record { 0 = tile_of s u.0 } in slice_get-map tile terminals place ∙ ap (option_map tile) at
-
--- are vertices of the flat grid
-pub tiles_vertices : (flat s : Size) (terminals : List Vertex) → IsFlatOf flat s → All (λ (v : Vertex). IsVertex flat v.0) (tiles_of s terminals)
-tiles_vertices flat s [] is = All-nil (λ (v : Vertex). IsVertex flat v.0)
-tiles_vertices flat s (t ∷ rest) is = All-cons (λ (v : Vertex). IsVertex flat v.0) (record { 0 = tile_of s t.0 }) (tiles_of s rest) (tile_vertex flat s t.0 is) (tiles_vertices flat s rest is)
-
--- and as many as the terminals
-pub tiles_long : (s : Size) (terminals : List Vertex) → length (tiles_of s terminals) ≡ length terminals
-tiles_long s terminals = length-map terminals (λ (v : Vertex). record { 0 = tile_of s v.0 })
-
+-- there are as many sets of tiles as of terminals
 pub tiles_all : (s : Size) (terminals : List Vertex) → all_of (tiles_of s terminals) ≡ all_of terminals
 tiles_all s terminals = ap (λ n. 2 ^ n - 1) (tiles_long s terminals)
 
@@ -71,9 +57,9 @@ pub record IsOverTable (flat s : Size) (pieces : List (Piece × ℕ)) (terminals
   pub floored : AreFloors floors pieces
 
 step_over : (flat s : Size) (pieces : List (Piece × ℕ)) (terminals : List Vertex) (floors : Floors) (over : ℕ → ℕ) (across : ℕ → ℕ → ℕ) → IsOverTable flat s pieces terminals floors over across → (mask : ℕ) → 0 < mask → mask ≤ all_of terminals - 1 →
-    (p : Piece) (k a b : ℕ) → Weighs pieces p k → Connects s p a b → raised s terminals floors.via across mask b ≤ raised s terminals floors.via across mask a + k
+    (p : Piece) (k a b : ℕ) → Weighs pieces p k → Connects s p a b → raised_by_layers s terminals floors.via across mask b ≤ raised_by_layers s terminals floors.via across mask a + k
 step_over flat s pieces terminals floors over across is mask some below (Edge e) k a b weighs connects =
-    let found = edge_connects flat s e.0 a b is.flat_of connects in
+    let found = edge_connects flat s e.0 a b (flat_tiles flat s is.flat_of) connects in
     let tile_edge = tile_edge_of s e.0 in
     let piece : IsPiece flat (Edge (record { 0 = tile_edge })) = ⊎_elim (λ goes. goes.0) (λ goes. goes.0) found.0 in
     let less = is.table.steps mask some below (Edge (record { 0 = tile_edge })) (over tile_edge) (tile_of s a) (tile_of s b) (edges_with-lists flat over tile_edge piece) found.0 in
@@ -97,7 +83,7 @@ nothing_over : (a w via : ℕ) → a ≡ 0 → w ≡ 0 → min (a + w * via) (2 
 nothing_over a w via across none = let layers : w * via ≡ 0 * via = ap (λ n. n * via) none in omega (arith, across, layers)
 
 pub over_family : (flat s : Size) (pieces : List (Piece × ℕ)) (terminals : List Vertex) (floors : Floors) (over : ℕ → ℕ) (across : ℕ → ℕ → ℕ) → All (λ (v : Vertex). IsVertex s v.0) terminals → IsOverTable flat s pieces terminals floors over across →
-    IsFamily s pieces terminals (raised s terminals floors.via across)
+    IsFamily s pieces terminals (raised_by_layers s terminals floors.via across)
 over_family flat s pieces terminals floors over across vertices is = record {
   own = λ place v at below.
       let inside = slice_get_within terminals place v at in
@@ -109,7 +95,7 @@ over_family flat s pieces terminals floors over across vertices is = record {
   steps = λ mask some below p k a b weighs connects. step_over flat s pieces terminals floors over across is mask some below p k a b weighs connects;
   splits = λ one other mask v parts below vertex.
       parts_over (across mask (tile_of s v)) (across one (tile_of s v)) (across other (tile_of s v)) (layers_with s terminals mask v) (layers_with s terminals one v) (layers_with s terminals other v) floors.via
-      (is.table.splits one other mask (tile_of s v) parts below (tile_vertex flat s v is.flat_of))
+      (is.table.splits one other mask (tile_of s v) parts below (tile_vertex flat s v (flat_tiles flat s is.flat_of)))
       (width-parts (layer_of s) terminals one other mask (length terminals) (layer_of s v) parts.shared);
 }
 

@@ -1,5 +1,5 @@
 -- What is read back from a table: at a terminal alone, one piece further on, and at a split.
-use Rattle.std.proofs.Common.{◌≡◌, ℕ, suc, ◌+◌, ◌≤◌, ◌⊎◌, ◌↔◌, List, [], ◌∷◌, ◌++◌, map, refl, sym, ◌∙◌, ap, subst, inl, inr, ⊎_elim, append_assoc, arith}
+use Rattle.std.proofs.Common.{◌≡◌, ℕ, suc, ◌+◌, ◌≤◌, ◌↔◌, List, [], ◌∷◌, ◌++◌, map, refl, sym, ◌∙◌, ap, subst, inl, inr, ⊎_elim, append_assoc, arith}
 use Rattle.std.specs.List.{Contains}
 use Rattle.std.proofs.lemmas.List.{map-append, append-nil}
 use Rattle.std.proofs.lemmas.List.Sums.{sum_by-cons, sum_by-append}
@@ -10,6 +10,7 @@ use Rattle.grid_base.specs.declared.vertex.Vertex.{Vertex}
 use Rattle.grid_base.specs.Lists.{At}
 use Rattle.grid_base.specs.Numbers.{IsVertex, Connects}
 use Rattle.grid_base.specs.Walks.{WalkBetween, InPieces}
+use Rattle.grid_base.proofs.Lists.{head_or_rest}
 use Rattle.grid_base.proofs.Joined.{Joins-from_one, Joins-alone, Joins-superset}
 use Rattle.grid_base.proofs.Walks.{WalkBetween-piece, WalkBetween-superset}
 use Rattle.grid_graph.specs.Weighed.{Weighs, NoPieceTwice}
@@ -40,9 +41,6 @@ read_alone s pieces terminals mask v limit vertex (place, at, is) = record {
   light = omega arith;
 }
 
-first_or_later : {X : Type 0} (x : X) (rest : List X) (y : X) → Contains (x ∷ rest) y → (x ≡ y) ⊎ Contains rest y
-first_or_later x rest y at = ⊎_elim (λ here. inl here) (λ later. inr (In-Contains rest y later)) (Contains-In (x ∷ rest) y at)
-
 -- one piece further on
 pub read_step : (s : Size) (pieces : List (Piece × ℕ)) (terminals : List Vertex) (mask v u x k y : ℕ) (p : Piece) (listed : List Piece) → Connects s p v u → Weighs pieces p k → x + k ≤ y →
     IsRead s pieces terminals mask u x listed → IsRead s pieces terminals mask v y (p ∷ listed)
@@ -54,7 +52,7 @@ read_step s pieces terminals mask v u x k y p listed connects weighs within is =
     record {
       weighed = (p, k) ∷ is.weighed;
       of = ap (λ (ps : List Piece). p ∷ ps) is.of;
-      allowed = λ x at. ⊎_elim (λ here. subst (Contains pieces) here weighs) (λ rest. is.allowed x rest) (first_or_later (p, k) is.weighed x at);
+      allowed = λ x at. ⊎_elim (λ here. subst (Contains pieces) (sym here) weighs) (λ rest. is.allowed x rest) (head_or_rest (p, k) is.weighed x at);
       joins = Joins-from_one s F (WithVertex terminals mask v) u
           (λ w in_tree. ⊎_elim
           (λ same. subst (WalkBetween s F u) (sym same) (WalkBetween-piece s F p u v (0, omega arith, refl) (⊎_elim (λ goes. inr goes) (λ goes. inl goes) connects)))

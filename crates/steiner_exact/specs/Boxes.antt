@@ -6,7 +6,7 @@ use Rattle.grid_base.specs.declared.vertex.Vertex.{Vertex}
 use Rattle.grid_base.specs.Lists.{At}
 use Rattle.grid_base.specs.Numbers.{cols, rows, layers, col_of, row_of, layer_of, place_at}
 use Rattle.grid_graph.specs.declared.floors.Floors.{Floors}
-use Rattle.shortest_paths.specs.Masks.{bit}
+use Rattle.shortest_paths.specs.Masks.{few_terminals, bit}
 use Rattle.steiner_exact.specs.declared.span.Span.{Span}
 use Rattle.steiner_exact.specs.declared.terminal_box.TerminalBox.{TerminalBox}
 
@@ -77,4 +77,4 @@ box_low s floors terminals mask v = box_distance floors (box_of s terminals mask
 
 -- a box for each mask
 abbrev pub AreBoxes : Size → List Vertex → List TerminalBox → Type 0
-AreBoxes s terminals boxes = (mask : ℕ) → mask < 2 ^ 5 → At boxes mask (box_of s terminals mask)
+AreBoxes s terminals boxes = (mask : ℕ) → mask < 2 ^ few_terminals → At boxes mask (box_of s terminals mask)

@@ -7,9 +7,7 @@ use Rattle.grid_base.specs.declared.piece.Piece.{Piece}
 use Rattle.grid_base.specs.declared.piece.Piece.TheVariants.{Edge}
 use Rattle.grid_base.specs.declared.place.Place.{Place}
 use Rattle.grid_base.specs.declared.size.Size.{Size}
-use Rattle.grid_base.specs.declared.vertex.Vertex.{Vertex}
 use Rattle.grid_base.specs.Numbers.{cols, rows, vertices, place_at, edge_start, edge_axis}
-use Rattle.grid_graph.specs.Flat.{tile_of}
 
 -- whether there is a next place along an axis
 abbrev pub goes_on : Size → Axis → Place → Bool
@@ -27,7 +25,3 @@ edge_flags s = map (has_edge s) (range_with_len 0 (2 * vertices s))
 -- all edges of a size, each with the number that f gives it
 abbrev pub edges_with : Size → (ℕ → ℕ) → List (Piece × ℕ)
 edges_with s f = map (λ e. (Edge (record { 0 = e }), f e)) (filter (has_edge s) (range_with_len 0 (2 * vertices s)))
-
--- the tiles of terminals
-abbrev pub tiles_of : Size → List Vertex → List Vertex
-tiles_of s terminals = map (λ v. record { 0 = tile_of s v.0 }) terminals

@@ -3,6 +3,7 @@
 ghost use Rattle.std.specs.Prelude.{◌≡◌, ◌≤◌, All, length};
 ghost use Rattle.grid_base.specs.Numbers.{IsVertex};
 ghost use Rattle.grid_graph.specs.Floors.{AreWithin};
+ghost use Rattle.shortest_paths.specs.Masks.{few_terminals};
 ghost use Rattle.shortest_paths.specs.Tables.{IsFamily};
 ghost use Rattle.steiner_exact.specs.Boxes.{AreBoxes, box_low};
 
@@ -21,7 +22,7 @@ pub struct BoxFamily<'a, W: FlooredWeights> {
     floors: Floors,
     boxes: [TerminalBox; MASKS],
     ghost vertices: { All (λ v. IsVertex size v.0) terminals.now },
-    ghost few: { length terminals.now ≤ 5 },
+    ghost few: { length terminals.now ≤ few_terminals },
     ghost within: { AreWithin floors },
     ghost boxed: { AreBoxes size terminals.now boxes },
     ghost holds: { IsFamily size (W.pieces weights.now) terminals.now (box_low size floors terminals.now) },
@@ -30,12 +31,13 @@ pub struct BoxFamily<'a, W: FlooredWeights> {
 impl<'a, W: FlooredWeights> BoxFamily<'a, W> {
     ghost use Rattle.std.specs.Prelude.{◌≡◌, ◌≤◌, All, length};
     ghost use Rattle.grid_base.specs.Numbers.{IsVertex};
+    ghost use Rattle.shortest_paths.specs.Masks.{few_terminals};
 
     /// The boxes of at most five terminals, which are vertices of this size.
     pub fn new(weights: &'a W, size: Size, terminals: &'a [Vertex]) -> BoxFamily<'a, W>
         requires size { size ≡ W.size weights.now }
         requires terminals { All (λ v. IsVertex size v.0) terminals.now }
-        requires few { length terminals.now ≤ 5 }
+        requires few { length terminals.now ≤ few_terminals }
         ensures size { result.size ≡ size }
         ensures weights { result.weights.now ≡ weights.now }
         ensures terminals { result.terminals.now ≡ terminals.now }

@@ -2,6 +2,7 @@
 
 ghost use Rattle.std.specs.Prelude.{◌≡◌, ◌≤◌, ◌<◌, ◌^◌, All, length};
 ghost use Rattle.grid_base.specs.Numbers.{IsVertex};
+ghost use Rattle.shortest_paths.specs.Masks.{few_terminals};
 ghost use Rattle.steiner_exact.specs.Boxes.{box_of, AreBoxes};
 
 use crate::masks::has_terminal;
@@ -14,7 +15,7 @@ pub(crate) const MASKS: usize = 32;
 /// The box of each mask.
 pub(crate) fn boxes_of(size: Size, terminals: &[Vertex]) -> [TerminalBox; MASKS]
     requires terminals { All (λ v. IsVertex size v.0) terminals.now }
-    requires few { length terminals.now ≤ 5 }
+    requires few { length terminals.now ≤ few_terminals }
     ensures { AreBoxes size terminals.now result }
 {
     let mut boxes = [TerminalBox::NONE; MASKS];
@@ -27,7 +28,7 @@ pub(crate) fn boxes_of(size: Size, terminals: &[Vertex]) -> [TerminalBox; MASKS]
 /// The box of a mask's terminals.
 fn box_of(size: Size, terminals: &[Vertex], mask: u32) -> TerminalBox
     requires terminals { All (λ v. IsVertex size v.0) terminals.now }
-    requires few { length terminals.now ≤ 5 }
+    requires few { length terminals.now ≤ few_terminals }
     ensures { result ≡ box_of size terminals.now mask }
 {
     let mut found = TerminalBox::NONE;

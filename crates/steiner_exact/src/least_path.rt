@@ -3,7 +3,7 @@
 ghost use Rattle.std.specs.Prelude.{◌≡◌, IfOk, length};
 ghost use Rattle.grid_base.specs.Walks.{Joins, InVertices};
 ghost use Rattle.grid_graph.specs.Weighed.{IsAllowed};
-ghost use Rattle.shortest_paths.specs.LabelWords.{size_of, masks_of};
+ghost use Rattle.shortest_paths.specs.LabelWords.{labels_size, masks_of};
 ghost use Rattle.shortest_paths.specs.Paths.{NoneWeighsNothing};
 ghost use Rattle.steiner_exact.specs.LeastSets.{IsLeastTree};
 
@@ -18,12 +18,12 @@ pub(crate) fn least_path<W: FlooredWeights>(
     terminals: &[Vertex],
     labels: &mut Labels,
 ) -> Result<(Tree, u64), NoMemory>
-    requires size { size_of labels.old ≡ W.size weights.now }
+    requires size { labels_size labels.old ≡ W.size weights.now }
     requires two { length terminals.now ≡ 2 }
     requires joined { Joins (W.size weights.now) (IsAllowed (W.pieces weights.now)) (InVertices terminals.now) }
     requires positive { NoneWeighsNothing (W.pieces weights.now) }
     ensures tree { IfOk result (λ found. IsLeastTree (W.size weights.now) (W.pieces weights.now) terminals.now found.0 found.1) }
-    ensures size { size_of labels.new ≡ size_of labels.old }
+    ensures size { labels_size labels.new ≡ labels_size labels.old }
     ensures masks { masks_of labels.new ≡ masks_of labels.old }
 {
     let goal = terminals[1];

@@ -11,7 +11,8 @@
 //! numbers. Both bounds are families of `shortest_paths`, and so is any other that a caller has.
 //!
 //! It stands on `shortest_paths` for tables, on `tree_set` for sets of pieces and on `grid_graph` for weights that know
-//! lower bounds of themselves. A tree takes memory for its own pieces and its terminals, and none that grows with the grid.
+//! lower bounds of themselves. A tree takes memory for its own pieces, its terminals
+//! and the vertices of one guessed tree, and none that grows with the grid.
 //!
 //! Promised: the tree is a set of allowed pieces that joins the terminals, no such set weighs less, and the weight is its
 //! own.
@@ -38,9 +39,13 @@ mod tree_labels;
 mod trees;
 
 pub use box_family::BoxFamily;
+pub use flat_size::flat_of;
 pub use flat_weights::FlatWeights;
+pub use guess::tree_guess;
+pub use root_search::least_at_root;
 pub use row_family::RowFamily;
 pub use span::Span;
 pub use terminal_box::TerminalBox;
+pub use tiles::tiles_of;
 pub use tree_labels::TreeLabels;
 pub use trees::least_tree;

@@ -1,7 +1,7 @@
 //! Masks of terminals, bit by bit.
 
 ghost use Rattle.std.specs.Prelude.{◌≡◌, ◌<◌, ◌≤◌, ◌-◌, ◌^◌, ◌==◌, ◌↔◌, IsTrue};
-ghost use Rattle.shortest_paths.specs.Masks.{bit, single, AreParts};
+ghost use Rattle.shortest_paths.specs.Masks.{few_terminals, bit, single, AreParts};
 
 /// The greatest number of terminals.
 pub(crate) const MOST_TERMINALS: u32 = 5;
@@ -33,7 +33,7 @@ pub(crate) fn single_of(place: u32) -> u32
 /// The mask of all terminals but the last of so many.
 pub(crate) fn all_but_root_of(count: usize) -> u32
     requires some { 1 ≤ count }
-    requires few { count ≤ 5 }
+    requires few { count ≤ few_terminals }
     ensures { result ≡ 2 ^ (count - 1) - 1 }
 {
     single_of(count as u32 - 1) - 1
@@ -41,7 +41,7 @@ pub(crate) fn all_but_root_of(count: usize) -> u32
 
 /// The mask of so many terminals.
 pub(crate) fn all_of(count: usize) -> u32
-    requires { count ≤ 5 }
+    requires { count ≤ few_terminals }
     ensures { result ≡ 2 ^ count - 1 }
 {
     single_of(count as u32) - 1

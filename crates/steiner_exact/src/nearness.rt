@@ -3,7 +3,9 @@
 ghost use Rattle.std.specs.Prelude.{◌≡◌, ◌≤◌, ◌<◌, ◌^◌, All, IfOk, length};
 ghost use Rattle.std.specs.List.Sorted.{IsPermutation};
 ghost use Rattle.grid_base.specs.Numbers.{IsVertex};
+ghost use Rattle.shortest_paths.specs.Masks.{few_terminals};
 
+use crate::masks::has_terminal;
 use grid_base::{NoMemory, Place, Size, Vertex};
 use std::alloc::Global;
 
@@ -16,7 +18,7 @@ pub(crate) fn with_far_root(
 ) -> Result<Vec<Vertex>, NoMemory>
     requires terminals { All (λ v. IsVertex size v.0) terminals.now }
     requires some { 1 ≤ length terminals.now }
-    requires few { length terminals.now ≤ 5 }
+    requires few { length terminals.now ≤ few_terminals }
     ensures { IfOk result (λ ordered. IsPermutation terminals.now ordered.items) }
 {
     let far = farthest(size, terminals);
@@ -41,7 +43,7 @@ fn copy_of(alloc: Global, terminals: &[Vertex]) -> Result<Vec<Vertex>, NoMemory>
 fn farthest(size: Size, terminals: &[Vertex]) -> usize
     requires terminals { All (λ v. IsVertex size v.0) terminals.now }
     requires some { 1 ≤ length terminals.now }
-    requires few { length terminals.now ≤ 5 }
+    requires few { length terminals.now ≤ few_terminals }
     ensures { result < length terminals.now }
 {
     let mut far = 0;
@@ -59,7 +61,7 @@ fn farthest(size: Size, terminals: &[Vertex]) -> usize
 /// The sum of the grid distances of the terminals from a place.
 fn distances_from(size: Size, terminals: &[Vertex], here: Place) -> u64
     requires terminals { All (λ v. IsVertex size v.0) terminals.now }
-    requires few { length terminals.now ≤ 5 }
+    requires few { length terminals.now ≤ few_terminals }
 {
     let mut sum = 0;
     for j in 0..terminals.len() {
@@ -68,24 +70,37 @@ fn distances_from(size: Size, terminals: &[Vertex], here: Place) -> u64
     sum
 }
 
-/// The place of a terminal before this one that is nearest to it by grid distance.
-pub(crate) fn nearest(size: Size, terminals: &[Vertex], i: usize) -> usize
+/// The place of a terminal outside this mask that is nearest by grid distance to those in it.
+pub(crate) fn next_nearest(size: Size, terminals: &[Vertex], joined: u32) -> usize
     requires terminals { All (λ v. IsVertex size v.0) terminals.now }
-    requires some { 0 < i }
-    requires inside { i < length terminals.now }
-    ensures { result < i }
+    requires some { 1 ≤ length terminals.now }
+    requires few { length terminals.now ≤ few_terminals }
+    ensures { result < length terminals.now }
 {
-    let here = size.place_of(terminals[i]);
     let mut near = 0;
     let mut least = u64::MAX;
-    for j in 0..i {
-        let far = grid_distance(here, size.place_of(terminals[j]));
-        if far < least {
+    for j in 0..terminals.len() {
+        let far = distance_to_mask(size, terminals, joined, size.place_of(terminals[j]));
+        if far < least && !has_terminal(joined, j as u32) {
             near = j;
             least = far;
         }
     }
     near
+}
+
+/// The grid distance of a place to the nearest terminal of a mask.
+fn distance_to_mask(size: Size, terminals: &[Vertex], mask: u32, here: Place) -> u64
+    requires terminals { All (λ v. IsVertex size v.0) terminals.now }
+    requires few { length terminals.now ≤ few_terminals }
+{
+    let mut least = u64::MAX;
+    for j in 0..terminals.len() {
+        if has_terminal(mask, j as u32) {
+            least = least.min(grid_distance(here, size.place_of(terminals[j])));
+        }
+    }
+    least
 }
 
 /// The grid distance of two places.

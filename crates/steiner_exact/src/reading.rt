@@ -2,9 +2,10 @@
 
 ghost use Rattle.std.specs.Prelude.{◌≡◌, ◌<◌, ◌≤◌, ◌+◌, ◌-◌, ◌↔◌, ℕ, List, length, None, IfOk, IfSome, IsTrue};
 ghost use Rattle.grid_base.specs.Numbers.{IsVertex};
-ghost use Rattle.shortest_paths.specs.LabelWords.{size_of, masks_of, label_of};
+ghost use Rattle.shortest_paths.specs.LabelWords.{labels_size, masks_of, label_of};
+ghost use Rattle.shortest_paths.specs.Masks.{few_terminals};
 ghost use Rattle.shortest_paths.specs.Stamped.{most};
-ghost use Rattle.shortest_paths.specs.Paths.{IsStepBack, Reaches, NoneWeighsNothing};
+ghost use Rattle.shortest_paths.specs.Paths.{IsStepBack, IsPieceBack, NoneWeighsNothing};
 ghost use Rattle.shortest_paths.specs.Searches.{IsBehind};
 ghost use Rattle.shortest_paths.specs.Tables.{IsAlone, IsSplit};
 ghost use Rattle.tree_set.specs.Order.{IsRising};
@@ -26,9 +27,9 @@ pub(crate) fn read_tree<W: Weights>(
     mask: u32,
     v: Vertex,
 ) -> Result<Tree, NoMemory>
-    requires size { size_of labels.now ≡ W.size weights.now }
+    requires size { labels_size labels.now ≡ W.size weights.now }
     requires positive { NoneWeighsNothing (W.pieces weights.now) }
-    requires few { length terminals.now ≤ 5 }
+    requires few { length terminals.now ≤ few_terminals }
     requires some { 0 < mask }
     requires mask { mask < 32 }
     requires vertex { IsVertex (W.size weights.now) v.0 }
@@ -52,9 +53,9 @@ fn read_part<W: Weights>(
     v: Vertex,
     tree: &mut Vec<Piece>,
 ) -> Result<(), NoMemory>
-    requires size { size_of labels.now ≡ W.size weights.now }
+    requires size { labels_size labels.now ≡ W.size weights.now }
     requires positive { NoneWeighsNothing (W.pieces weights.now) }
-    requires few { length terminals.now ≤ 5 }
+    requires few { length terminals.now ≤ few_terminals }
     requires some { 0 < mask }
     requires mask { mask < 32 }
     requires vertex { IsVertex (W.size weights.now) v.0 }
@@ -80,7 +81,7 @@ fn follow<W: Weights>(
     v: Vertex,
     tree: &mut Vec<Piece>,
 ) -> Result<Vertex, NoMemory>
-    requires size { size_of labels.now ≡ W.size weights.now }
+    requires size { labels_size labels.now ≡ W.size weights.now }
     requires positive { NoneWeighsNothing (W.pieces weights.now) }
     requires some { 0 < mask }
     requires vertex { IsVertex (W.size weights.now) v.0 }
@@ -106,7 +107,7 @@ fn behind<W: Weights>(
     mask: u32,
     here: Vertex,
 ) -> Option<(Vertex, Piece)>
-    requires size { size_of labels.now ≡ W.size weights.now }
+    requires size { labels_size labels.now ≡ W.size weights.now }
     requires some { 0 < mask }
     requires vertex { IsVertex (W.size weights.now) here.0 }
     requires room { mask ≤ masks_of labels.now }
@@ -136,9 +137,9 @@ fn reaches<W: Weights>(
 ) -> bool
     requires some { 0 < mask }
     requires room { mask ≤ masks_of labels.now }
-    requires vertex { IsVertex (size_of labels.now) before.0 }
+    requires vertex { IsVertex (labels_size labels.now) before.0 }
     requires number { number ≤ most }
-    ensures { IsTrue result ↔ Reaches (W.pieces weights.now) by (label_of labels.now mask before.0) number }
+    ensures { IsTrue result ↔ IsPieceBack (W.pieces weights.now) by (label_of labels.now mask before.0) number }
 {
     match labels.label(mask, before) {
         Some(least) => weights.allows(by) && least + weights.weight(by) <= number,
@@ -148,7 +149,7 @@ fn reaches<W: Weights>(
 
 /// Whether the mask is that of a terminal alone, which the vertex is.
 fn is_alone(terminals: &[Vertex], mask: u32, v: Vertex) -> bool
-    requires { length terminals.now ≤ 5 }
+    requires { length terminals.now ≤ few_terminals }
     ensures { IsTrue result ↔ IsAlone terminals.now mask v.0 }
 {
     for place in 0..terminals.len() {
@@ -163,7 +164,7 @@ fn is_alone(terminals: &[Vertex], mask: u32, v: Vertex) -> bool
 fn split_of(labels: &Labels, mask: u32, v: Vertex) -> Option<u32>
     requires some { 0 < mask }
     requires mask { mask < 32 }
-    requires vertex { IsVertex (size_of labels.now) v.0 }
+    requires vertex { IsVertex (labels_size labels.now) v.0 }
     requires room { mask ≤ masks_of labels.now }
     requires kept { label_of labels.now mask v.0 ≤ most }
     ensures some { IfSome result (λ one. IsSplitBy (label_of labels.now) one (mask - one) mask v.0) }
@@ -184,7 +185,7 @@ fn add_up(labels: &Labels, one: u32, other: u32, v: Vertex, number: u64) -> bool
     requires other { 0 < other }
     requires one_room { one ≤ masks_of labels.now }
     requires other_room { other ≤ masks_of labels.now }
-    requires vertex { IsVertex (size_of labels.now) v.0 }
+    requires vertex { IsVertex (labels_size labels.now) v.0 }
     requires number { number ≤ most }
     ensures { IsTrue result ↔ (label_of labels.now one v.0 + label_of labels.now other v.0 ≤ number) }
 {

@@ -2,8 +2,8 @@
 
 ghost use Rattle.std.specs.Prelude.{◌≡◌, ◌≤◌, All, length};
 ghost use Rattle.grid_base.specs.Numbers.{IsVertex};
-ghost use Rattle.shortest_paths.specs.LabelWords.{size_of, masks_of, label_of};
-ghost use Rattle.shortest_paths.specs.Masks.{all_but_root};
+ghost use Rattle.shortest_paths.specs.LabelWords.{labels_size, masks_of, label_of};
+ghost use Rattle.shortest_paths.specs.Masks.{few_terminals, all_but_root};
 ghost use Rattle.shortest_paths.specs.Stamped.{far};
 ghost use Rattle.shortest_paths.specs.Tables.{answer_at};
 ghost use Rattle.steiner_exact.specs.Roots.{root_of};
@@ -14,9 +14,9 @@ use shortest_paths::Labels;
 
 /// The number of all terminals but the root, at the root.
 pub(crate) fn root_label(labels: &Labels, terminals: &[Vertex]) -> Option<u64>
-    requires terminals { All (λ v. IsVertex (size_of labels.now) v.0) terminals.now }
+    requires terminals { All (λ v. IsVertex (labels_size labels.now) v.0) terminals.now }
     requires two { 2 ≤ length terminals.now }
-    requires few { length terminals.now ≤ 5 }
+    requires few { length terminals.now ≤ few_terminals }
     requires room { all_but_root terminals.now ≤ masks_of labels.now }
     ensures { result ≡ answer_at far (label_of labels.now (all_but_root terminals.now) (root_of terminals.now).0) }
 {

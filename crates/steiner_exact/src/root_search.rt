@@ -4,9 +4,9 @@ ghost use Rattle.std.specs.Prelude.{◌≡◌, ◌≤◌, ◌<◌, All, length};
 ghost use Rattle.grid_base.specs.Numbers.{IsVertex};
 ghost use Rattle.grid_base.specs.Walks.{Joins, InVertices};
 ghost use Rattle.grid_graph.specs.Weighed.{IsAllowed};
-ghost use Rattle.shortest_paths.specs.LabelWords.{size_of, masks_of, label_of};
+ghost use Rattle.shortest_paths.specs.LabelWords.{labels_size, masks_of, label_of};
 ghost use Rattle.shortest_paths.specs.Stamped.{most};
-ghost use Rattle.shortest_paths.specs.Masks.{all_but_root};
+ghost use Rattle.shortest_paths.specs.Masks.{few_terminals, all_but_root};
 ghost use Rattle.steiner_exact.specs.Roots.{IsLeastAtRoot, IsAttempt};
 
 use crate::limits::{FIRST_SLACK, MOST};
@@ -18,24 +18,24 @@ use shortest_paths::{Family, Labels};
 
 /// The least weight of a set that joins the terminals, with the table that tells it. The search begins under this limit,
 /// which is raised until there is a set within it.
-pub(crate) fn least_at_root<W: Weights, F: Family>(
+pub fn least_at_root<W: Weights, F: Family>(
     weights: &W,
     family: &F,
     terminals: &[Vertex],
     limit: u64,
     labels: &mut Labels,
 ) -> u64
-    requires size { size_of labels.old ≡ W.size weights.now }
+    requires size { labels_size labels.old ≡ W.size weights.now }
     requires family_size { F.size family.now ≡ W.size weights.now }
     requires family { F.pieces family.now ≡ W.pieces weights.now }
     requires family_terminals { F.terminals family.now ≡ terminals.now }
     requires terminals { All (λ v. IsVertex (W.size weights.now) v.0) terminals.now }
     requires two { 2 ≤ length terminals.now }
-    requires few { length terminals.now ≤ 5 }
+    requires few { length terminals.now ≤ few_terminals }
     requires room { all_but_root terminals.now ≤ masks_of labels.old }
     requires joined { Joins (W.size weights.now) (IsAllowed (W.pieces weights.now)) (InVertices terminals.now) }
     ensures least { IsLeastAtRoot (W.size weights.now) (W.pieces weights.now) terminals.now (label_of labels.new) result }
-    ensures size { size_of labels.new ≡ size_of labels.old }
+    ensures size { labels_size labels.new ≡ labels_size labels.old }
     ensures masks { masks_of labels.new ≡ masks_of labels.old }
 {
     let mut within = limit.min(MOST);
@@ -57,18 +57,18 @@ fn attempt<W: Weights, F: Family>(
     limit: u64,
     labels: &mut Labels,
 ) -> Option<u64>
-    requires size { size_of labels.old ≡ W.size weights.now }
+    requires size { labels_size labels.old ≡ W.size weights.now }
     requires family_size { F.size family.now ≡ W.size weights.now }
     requires family { F.pieces family.now ≡ W.pieces weights.now }
     requires family_terminals { F.terminals family.now ≡ terminals.now }
     requires terminals { All (λ v. IsVertex (W.size weights.now) v.0) terminals.now }
     requires two { 2 ≤ length terminals.now }
-    requires few { length terminals.now ≤ 5 }
+    requires few { length terminals.now ≤ few_terminals }
     requires room { all_but_root terminals.now ≤ masks_of labels.old }
     requires joined { Joins (W.size weights.now) (IsAllowed (W.pieces weights.now)) (InVertices terminals.now) }
     requires limit { limit ≤ most }
     ensures found { IsAttempt (W.size weights.now) (W.pieces weights.now) terminals.now limit (label_of labels.new) result }
-    ensures size { size_of labels.new ≡ size_of labels.old }
+    ensures size { labels_size labels.new ≡ labels_size labels.old }
     ensures masks { masks_of labels.new ≡ masks_of labels.old }
 {
     let last = all_but_root_of(terminals.len());

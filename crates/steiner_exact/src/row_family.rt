@@ -4,11 +4,12 @@ ghost use Rattle.std.specs.Prelude.{◌≡◌, ◌≤◌, ◌-◌, All, length};
 ghost use Rattle.grid_base.specs.Numbers.{IsVertex};
 ghost use Rattle.grid_graph.specs.Flat.{IsFlatOf};
 ghost use Rattle.grid_graph.specs.Limits.{max_weight};
-ghost use Rattle.shortest_paths.specs.LabelWords.{size_of, masks_of, label_of};
+ghost use Rattle.shortest_paths.specs.LabelWords.{labels_size, masks_of, label_of};
+ghost use Rattle.shortest_paths.specs.Masks.{proper_masks, few_terminals};
 ghost use Rattle.shortest_paths.specs.Stamped.{most, far};
 ghost use Rattle.shortest_paths.specs.Tables.{IsFamily};
 ghost use Rattle.steiner_exact.specs.Boxes.{AreBoxes};
-ghost use Rattle.steiner_exact.specs.FlatPieces.{tiles_of};
+ghost use Rattle.grid_graph.specs.TilePieces.{tiles_of};
 ghost use Rattle.steiner_exact.specs.RowLows.{row_low};
 
 use crate::boxes::{MASKS, boxes_of};
@@ -32,11 +33,11 @@ pub struct RowFamily<'a, W: FlooredWeights, B: Family> {
     via: u64,
     boxes: [TerminalBox; MASKS],
     ghost vertices: { All (λ v. IsVertex size v.0) terminals.now },
-    ghost few: { length terminals.now ≤ 5 },
+    ghost few: { length terminals.now ≤ few_terminals },
     ghost flat: { IsFlatOf (B.size bounds.now) size },
     ghost tiles: { B.terminals bounds.now ≡ tiles_of size terminals.now },
-    ghost labelled: { size_of labels.now ≡ B.size bounds.now },
-    ghost room: { 30 ≤ masks_of labels.now },
+    ghost labelled: { labels_size labels.now ≡ B.size bounds.now },
+    ghost room: { proper_masks ≤ masks_of labels.now },
     ghost within: { limit ≤ most },
     ghost low_via: { via ≤ max_weight },
     ghost boxed: { AreBoxes size terminals.now boxes },
@@ -47,11 +48,12 @@ impl<'a, W: FlooredWeights, B: Family> RowFamily<'a, W, B> {
     ghost use Rattle.std.specs.Prelude.{◌≡◌, ◌≤◌, ◌+◌, ◌-◌, ◌<◌, All, length};
     ghost use Rattle.grid_base.specs.Numbers.{IsVertex, place_at};
     ghost use Rattle.grid_graph.specs.Flat.{IsFlatOf};
-    ghost use Rattle.shortest_paths.specs.LabelWords.{size_of, masks_of, label_of};
+    ghost use Rattle.shortest_paths.specs.LabelWords.{labels_size, masks_of, label_of};
     ghost use Rattle.shortest_paths.specs.Stamped.{most, far};
-    ghost use Rattle.shortest_paths.specs.Masks.{all_of};
+    ghost use Rattle.shortest_paths.specs.Masks.{proper_masks, few_terminals, all_of};
     ghost use Rattle.shortest_paths.specs.Tables.{IsPrunedTable, completed};
-    ghost use Rattle.steiner_exact.specs.FlatPieces.{edges_with, tiles_of};
+    ghost use Rattle.steiner_exact.specs.FlatPieces.{edges_with};
+    ghost use Rattle.grid_graph.specs.TilePieces.{tiles_of};
 
     /// The bounds by these labels, which are those of the tiles of at most five terminals by a search under `bounds` and
     /// this limit.
@@ -66,12 +68,12 @@ impl<'a, W: FlooredWeights, B: Family> RowFamily<'a, W, B> {
         requires size { size ≡ W.size weights.now }
         requires terminals { All (λ v. IsVertex size v.0) terminals.now }
         requires some { 1 ≤ length terminals.now }
-        requires few { length terminals.now ≤ 5 }
+        requires few { length terminals.now ≤ few_terminals }
         requires flat { IsFlatOf (B.size bounds.now) size }
         requires pieces { B.pieces bounds.now ≡ edges_with (B.size bounds.now) (W.over weights.now) }
         requires tiles { B.terminals bounds.now ≡ tiles_of size terminals.now }
-        requires labels { size_of labels.now ≡ B.size bounds.now }
-        requires room { 30 ≤ masks_of labels.now }
+        requires labels { labels_size labels.now ≡ B.size bounds.now }
+        requires room { proper_masks ≤ masks_of labels.now }
         requires limit { limit ≤ most }
         requires table { IsPrunedTable (B.size bounds.now) (B.pieces bounds.now) (B.terminals bounds.now) (all_of terminals.now - 1) (B.low bounds.now) limit far (label_of labels.now) }
         ensures size { result.size ≡ size }

@@ -15,9 +15,10 @@ pub struct TerminalBox {
 }
 
 impl TerminalBox {
-    ghost use Rattle.std.specs.Prelude.{◌≡◌, ◌≤◌, ◌^◌};
+    ghost use Rattle.std.specs.Prelude.{◌≡◌, ◌≤◌};
     ghost use Rattle.grid_base.specs.Numbers.{IsInside};
     ghost use Rattle.grid_graph.specs.Floors.{AreWithin};
+    ghost use Rattle.shortest_paths.specs.Stamped.{far};
     ghost use Rattle.steiner_exact.specs.Boxes.{with_place, box_distance, IsBoxIn};
 
     /// The box of no terminal.
@@ -44,7 +45,7 @@ impl TerminalBox {
         requires inside { IsBoxIn size self }
         requires place { IsInside size place }
         ensures value { result ≡ box_distance floors self place }
-        ensures limit { result ≤ 2 ^ 61 }
+        ensures limit { result ≤ far }
     {
         u64::from(self.cols.width_with(place.col)) * floors.along_x
             + u64::from(self.rows.width_with(place.row)) * floors.along_y

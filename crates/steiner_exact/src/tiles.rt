@@ -2,17 +2,13 @@
 
 ghost use Rattle.std.specs.Prelude.{◌≡◌, All, IfOk};
 ghost use Rattle.grid_base.specs.Numbers.{IsVertex};
-ghost use Rattle.steiner_exact.specs.FlatPieces.{tiles_of};
+ghost use Rattle.grid_graph.specs.TilePieces.{tiles_of};
 
 use grid_base::{NoMemory, Size, Vertex};
 use std::alloc::Global;
 
 /// The tile of each terminal, as a vertex of the flat grid.
-pub(crate) fn tiles_of(
-    alloc: Global,
-    size: Size,
-    terminals: &[Vertex],
-) -> Result<Vec<Vertex>, NoMemory>
+pub fn tiles_of(alloc: Global, size: Size, terminals: &[Vertex]) -> Result<Vec<Vertex>, NoMemory>
     ensures { IfOk result (λ tiles. tiles.items ≡ tiles_of size terminals.now) }
 {
     let per_layer = size.cols() * size.rows();

@@ -5,7 +5,8 @@ ghost use Rattle.grid_base.specs.Numbers.{IsVertex};
 ghost use Rattle.grid_base.specs.Walks.{Joins, InVertices};
 ghost use Rattle.grid_graph.specs.Weighed.{IsAllowed};
 ghost use Rattle.grid_graph.specs.Flat.{IsFlatOf};
-ghost use Rattle.shortest_paths.specs.LabelWords.{size_of, masks_of, label_of};
+ghost use Rattle.shortest_paths.specs.LabelWords.{labels_size, masks_of, label_of};
+ghost use Rattle.shortest_paths.specs.Masks.{proper_masks, rooted_masks, few_terminals};
 ghost use Rattle.shortest_paths.specs.Paths.{NoneWeighsNothing};
 ghost use Rattle.steiner_exact.specs.FlatPieces.{edge_flags};
 ghost use Rattle.steiner_exact.specs.LeastSets.{IsLeastTree};
@@ -40,7 +41,7 @@ pub fn least_tree<W: FlooredWeights>(
     labels: &mut TreeLabels,
 ) -> Result<(Tree, u64), NoMemory>
     requires labels { AreTreeLabels (W.size weights.now) labels.old }
-    requires few { length terminals.now ≤ 5 }
+    requires few { length terminals.now ≤ few_terminals }
     requires joined { Joins (W.size weights.now) (IsAllowed (W.pieces weights.now)) (InVertices terminals.now) }
     requires positive { NoneWeighsNothing (W.pieces weights.now) }
     ensures tree { IfOk result (λ found. IsLeastTree (W.size weights.now) (W.pieces weights.now) terminals.now found.0 found.1) }
@@ -74,20 +75,20 @@ fn least_of_several<W: FlooredWeights>(
     flat: &mut Labels,
     flat_edges: &[bool],
 ) -> Result<(Tree, u64), NoMemory>
-    requires size { size_of grid.old ≡ W.size weights.now }
-    requires room { 15 ≤ masks_of grid.old }
-    requires flat_size { IsFlatOf (size_of flat.old) (W.size weights.now) }
-    requires flat_room { 30 ≤ masks_of flat.old }
-    requires flat_edges { flat_edges.now ≡ edge_flags (size_of flat.old) }
+    requires size { labels_size grid.old ≡ W.size weights.now }
+    requires room { rooted_masks ≤ masks_of grid.old }
+    requires flat_size { IsFlatOf (labels_size flat.old) (W.size weights.now) }
+    requires flat_room { proper_masks ≤ masks_of flat.old }
+    requires flat_edges { flat_edges.now ≡ edge_flags (labels_size flat.old) }
     requires terminals { All (λ v. IsVertex (W.size weights.now) v.0) terminals.now }
     requires two { 2 ≤ length terminals.now }
-    requires few { length terminals.now ≤ 5 }
+    requires few { length terminals.now ≤ few_terminals }
     requires joined { Joins (W.size weights.now) (IsAllowed (W.pieces weights.now)) (InVertices terminals.now) }
     requires positive { NoneWeighsNothing (W.pieces weights.now) }
     ensures tree { IfOk result (λ found. IsLeastTree (W.size weights.now) (W.pieces weights.now) terminals.now found.0 found.1) }
-    ensures size { size_of grid.new ≡ size_of grid.old }
+    ensures size { labels_size grid.new ≡ labels_size grid.old }
     ensures masks { masks_of grid.new ≡ masks_of grid.old }
-    ensures flat_size { size_of flat.new ≡ size_of flat.old }
+    ensures flat_size { labels_size flat.new ≡ labels_size flat.old }
     ensures flat_masks { masks_of flat.new ≡ masks_of flat.old }
 {
     let weight = least_weight(alloc, weights, terminals, grid, flat, flat_edges)?;
@@ -106,42 +107,47 @@ fn least_weight<W: FlooredWeights>(
     flat: &mut Labels,
     flat_edges: &[bool],
 ) -> Result<u64, NoMemory>
-    requires size { size_of grid.old ≡ W.size weights.now }
-    requires room { 15 ≤ masks_of grid.old }
-    requires flat_size { IsFlatOf (size_of flat.old) (W.size weights.now) }
-    requires flat_room { 30 ≤ masks_of flat.old }
-    requires flat_edges { flat_edges.now ≡ edge_flags (size_of flat.old) }
+    requires size { labels_size grid.old ≡ W.size weights.now }
+    requires room { rooted_masks ≤ masks_of grid.old }
+    requires flat_size { IsFlatOf (labels_size flat.old) (W.size weights.now) }
+    requires flat_room { proper_masks ≤ masks_of flat.old }
+    requires flat_edges { flat_edges.now ≡ edge_flags (labels_size flat.old) }
     requires terminals { All (λ v. IsVertex (W.size weights.now) v.0) terminals.now }
     requires two { 2 ≤ length terminals.now }
-    requires few { length terminals.now ≤ 5 }
+    requires few { length terminals.now ≤ few_terminals }
     requires joined { Joins (W.size weights.now) (IsAllowed (W.pieces weights.now)) (InVertices terminals.now) }
     ensures least { IfOk result (λ least. IsLeastAtRoot (W.size weights.now) (W.pieces weights.now) terminals.now (label_of grid.new) least) }
-    ensures size { size_of grid.new ≡ size_of grid.old }
+    ensures size { labels_size grid.new ≡ labels_size grid.old }
     ensures masks { masks_of grid.new ≡ masks_of grid.old }
-    ensures flat_size { size_of flat.new ≡ size_of flat.old }
+    ensures flat_size { labels_size flat.new ≡ labels_size flat.old }
     ensures flat_masks { masks_of flat.new ≡ masks_of flat.old }
 {
     if grid.size().layers() == 1 {
-        return Ok(least_by_boxes(weights, terminals, grid));
+        return least_by_boxes(alloc, weights, terminals, grid);
     }
     least_by_tiles(alloc, weights, terminals, grid, flat, flat_edges)
 }
 
 /// The same by a search under boxes.
-fn least_by_boxes<W: FlooredWeights>(weights: &W, terminals: &[Vertex], labels: &mut Labels) -> u64
-    requires size { size_of labels.old ≡ W.size weights.now }
-    requires room { 15 ≤ masks_of labels.old }
+fn least_by_boxes<W: FlooredWeights>(
+    alloc: Global,
+    weights: &W,
+    terminals: &[Vertex],
+    labels: &mut Labels,
+) -> Result<u64, NoMemory>
+    requires size { labels_size labels.old ≡ W.size weights.now }
+    requires room { rooted_masks ≤ masks_of labels.old }
     requires terminals { All (λ v. IsVertex (W.size weights.now) v.0) terminals.now }
     requires two { 2 ≤ length terminals.now }
-    requires few { length terminals.now ≤ 5 }
+    requires few { length terminals.now ≤ few_terminals }
     requires joined { Joins (W.size weights.now) (IsAllowed (W.pieces weights.now)) (InVertices terminals.now) }
-    ensures least { IsLeastAtRoot (W.size weights.now) (W.pieces weights.now) terminals.now (label_of labels.new) result }
-    ensures size { size_of labels.new ≡ size_of labels.old }
+    ensures least { IfOk result (λ least. IsLeastAtRoot (W.size weights.now) (W.pieces weights.now) terminals.now (label_of labels.new) least) }
+    ensures size { labels_size labels.new ≡ labels_size labels.old }
     ensures masks { masks_of labels.new ≡ masks_of labels.old }
 {
-    let guess = tree_guess(weights, terminals, labels);
+    let guess = tree_guess(alloc, weights, terminals, labels)?;
     let family = BoxFamily::new(weights, labels.size(), terminals);
-    least_at_root(weights, &family, terminals, guess, labels)
+    Ok(least_at_root(weights, &family, terminals, guess, labels))
 }
 
 /// The same by a search under a table of the terminals' tiles.
@@ -153,25 +159,25 @@ fn least_by_tiles<W: FlooredWeights>(
     flat: &mut Labels,
     flat_edges: &[bool],
 ) -> Result<u64, NoMemory>
-    requires size { size_of grid.old ≡ W.size weights.now }
-    requires room { 15 ≤ masks_of grid.old }
-    requires flat_size { IsFlatOf (size_of flat.old) (W.size weights.now) }
-    requires flat_room { 30 ≤ masks_of flat.old }
-    requires flat_edges { flat_edges.now ≡ edge_flags (size_of flat.old) }
+    requires size { labels_size grid.old ≡ W.size weights.now }
+    requires room { rooted_masks ≤ masks_of grid.old }
+    requires flat_size { IsFlatOf (labels_size flat.old) (W.size weights.now) }
+    requires flat_room { proper_masks ≤ masks_of flat.old }
+    requires flat_edges { flat_edges.now ≡ edge_flags (labels_size flat.old) }
     requires terminals { All (λ v. IsVertex (W.size weights.now) v.0) terminals.now }
     requires two { 2 ≤ length terminals.now }
-    requires few { length terminals.now ≤ 5 }
+    requires few { length terminals.now ≤ few_terminals }
     requires joined { Joins (W.size weights.now) (IsAllowed (W.pieces weights.now)) (InVertices terminals.now) }
     ensures least { IfOk result (λ least. IsLeastAtRoot (W.size weights.now) (W.pieces weights.now) terminals.now (label_of grid.new) least) }
-    ensures size { size_of grid.new ≡ size_of grid.old }
+    ensures size { labels_size grid.new ≡ labels_size grid.old }
     ensures masks { masks_of grid.new ≡ masks_of grid.old }
-    ensures flat_size { size_of flat.new ≡ size_of flat.old }
+    ensures flat_size { labels_size flat.new ≡ labels_size flat.old }
     ensures flat_masks { masks_of flat.new ≡ masks_of flat.old }
 {
     let tiles = tiles_of(alloc, grid.size(), terminals)?;
     let ground = FlatWeights::new(weights, flat.size(), flat_edges);
     let bounds = BoxFamily::new(&ground, flat.size(), tiles.as_slice());
-    let guess = tree_guess(&ground, tiles.as_slice(), flat);
+    let guess = tree_guess(alloc, &ground, tiles.as_slice(), flat)?;
     let limit = (guess + TABLE_SLACK).min(MOST);
     flat.pruned(
         &ground,

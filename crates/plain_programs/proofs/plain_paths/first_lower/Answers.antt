@@ -1,7 +1,7 @@
 use Rattle.std.proofs.Common.{get_or, refl}
 use Rattle.std.proofs.lemmas.List.Elements.{Contains-get_or}
 use Rattle.grid_base.specs.declared.piece.Piece.TheVariants.{Edge}
-use Rattle.plain_programs.specs.LowerNumbers.{number_in}
+use Rattle.plain_programs.specs.LowerNumbers.{listed_number}
 use Rattle.plain_programs.proofs.Lowering.{slack_more}
 use Rattle.plain_programs.proofs.plain_paths.first_lower.Goals as goal
 
@@ -21,4 +21,4 @@ returns-in-Some-clause-some c =
 
 pub loop-entry-preserved : goal.loop-entry-preserved
 loop-entry-preserved c =
-    slack_more c.args.size c.args.pieces.now (number_in c.args.numbers.now) c.loop-entry.entry-index (Edge record { 0 = 0 }, 0) c.loop-entry-test.true c.loop-entry.invariant (c.in_default.ensures.none refl)
+    slack_more c.args.size c.args.pieces.now (listed_number c.args.numbers.now) c.loop-entry.entry-index (Edge record { 0 = 0 }, 0) c.loop-entry-test.true c.loop-entry.invariant (c.in_default.ensures.none refl)

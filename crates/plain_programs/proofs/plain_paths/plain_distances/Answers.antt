@@ -1,7 +1,7 @@
 use Rattle.std.proofs.Common.{◌≡◌, length, set, replicate, sym, ◌∙◌, ap, subst, refl, arith}
 use Rattle.std.proofs.lemmas.List.{length-set, length-replicate}
 use Rattle.grid_base.specs.Numbers.{vertices}
-use Rattle.plain_programs.specs.LowerNumbers.{unreached, number_in, IsLowerNumber}
+use Rattle.plain_programs.specs.LowerNumbers.{unreached, listed_number, IsLowerNumber}
 use Rattle.shortest_paths.specs.Sets.{IsDistance, RisesSlowly}
 use Rattle.plain_programs.proofs.Lowering.{start_reached, lower_reached, slow_distance, distance_in}
 use Rattle.plain_programs.proofs.plain_paths.plain_distances.Goals as goal
@@ -18,7 +18,7 @@ loop-to-init c =
 pub loop-to-preserved : goal.loop-to-preserved
 loop-to-preserved c =
     let before = c.loop-to.numbers.items in
-    let num = number_in before in
+    let num = listed_number before in
     let lower : IsLowerNumber c.args.size c.args.pieces.now num c.in-Some.to.0 c.in-Some.number = rw c.as_slice.ensures.value at c.in-Some.ensures.some in
     record {
       long = length-set before c.in-Some.to.0 c.in-Some.number ∙ c.loop-to.invariant.long;
@@ -30,7 +30,7 @@ returns c = λ v vertex.
     let s = c.args.size in
     let pieces = c.args.pieces.now in
     let numbers = c.loop-to.numbers.items in
-    let slow : RisesSlowly s pieces (number_in numbers) = rw c.as_slice.ensures.value at (c.in_default.ensures.none refl) in
+    let slow : RisesSlowly s pieces (listed_number numbers) = rw c.as_slice.ensures.value at (c.in_default.ensures.none refl) in
     let is = rw c.as_slice-2.ensures.value at c.in_ok-as_distances.ensures in
     subst (IsDistance s pieces c.args.source.0 v) (sym (distance_in numbers c.in_ok-as_distances.field-0.items v (omega (arith, vertex, c.loop-to.invariant.long)) is))
-    (slow_distance s pieces c.args.source.0 v (number_in numbers) c.requires.inside c.requires.light c.loop-to.invariant.reached slow)
+    (slow_distance s pieces c.args.source.0 v (listed_number numbers) c.requires.inside c.requires.light c.loop-to.invariant.reached slow)

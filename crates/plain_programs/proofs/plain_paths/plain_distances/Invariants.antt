@@ -1,14 +1,14 @@
 use Rattle.std.proofs.Common.{◌≡◌, length}
 use Rattle.std.specs.List.{sum_by}
 use Rattle.grid_base.specs.Numbers.{vertices}
-use Rattle.plain_programs.specs.LowerNumbers.{number_in}
+use Rattle.plain_programs.specs.LowerNumbers.{listed_number}
 use Rattle.plain_programs.proofs.Lowering.{AreReached}
 use Rattle.plain_programs.proofs.plain_paths.plain_distances.Given as goal
 
 abbrev pub invariant-loop-to : goal.invariant-loop-to
 invariant-loop-to l = record {
   long : length l.numbers.items ≡ vertices l.size;
-  reached : AreReached l.size l.pieces l.fn.source.0 (number_in l.numbers.items);
+  reached : AreReached l.size l.pieces l.fn.source.0 (listed_number l.numbers.items);
 }
 
 abbrev pub decreases-loop-to : goal.decreases-loop-to

@@ -4,8 +4,8 @@ use Rattle.std.proofs.lemmas.List.Sums.{sum_by-cons}
 use Rattle.plain_programs.specs.declared.word.Word.{Word}
 use Rattle.std.specs.List.{sum_by}
 use Rattle.text_scan.specs.Tokens.{Token}
-use Rattle.plain_programs.specs.Words.{token_of, word_at}
-use Rattle.plain_programs.proofs.Words.{words_more, word_at-nonempty, word_at-empty}
+use Rattle.plain_programs.specs.Words.{token_of, part_as_token}
+use Rattle.plain_programs.proofs.Words.{words_more, part_as_token-nonempty, part_as_token-empty}
 use Rattle.plain_programs.proofs.plain_tokens.words_among.Goals as goal
 use Rattle.plain_programs.proofs.plain_tokens.words_among.Goals.{then-not-is_empty+in_ok-from_slice+in_ok-push, else-not-is_empty}
 
@@ -21,16 +21,16 @@ loop-part-preserved c =
     let next = drop_more parts i none c.loop-part-test.true in
     let before : sum_by one_more (drop i parts) ≡ one_more lent + sum_by one_more (drop (i + 1) parts) =
     ap (sum_by one_more) next ∙ sum_by-cons one_more lent (drop (i + 1) parts) in
-    let more : map token_of c.if-not-is_empty.words.items ≡ map token_of c.loop-part.words.items ++ word_at c.loop-part.place lent.now =
+    let more : map token_of c.if-not-is_empty.words.items ≡ map token_of c.loop-part.words.items ++ part_as_token c.loop-part.place lent.now =
     elim c.if-not-is_empty.branch [
       | then-not-is_empty+in_ok-from_slice+in_ok-push w ↦
           ap (λ (v : Vec Word Global). map token_of v.items) w.words-is ∙ ap (map token_of) w.in_ok-push.ensures.items
           ∙ map-append token_of c.loop-part.words.items _
           ∙ ap (λ (bytes : List ℕ). map token_of c.loop-part.words.items ++ record { place = c.loop-part.place; bytes = bytes } ∷ []) w.in_ok-from_slice.ensures.items
-          ∙ ap (λ (ts : List Token). map token_of c.loop-part.words.items ++ ts) (sym (word_at-nonempty c.loop-part.place lent.now w.if-not-is_empty.ensures))
+          ∙ ap (λ (ts : List Token). map token_of c.loop-part.words.items ++ ts) (sym (part_as_token-nonempty c.loop-part.place lent.now w.if-not-is_empty.ensures))
       | else-not-is_empty w ↦
           ap (λ (v : Vec Word Global). map token_of v.items) w.words-is ∙ sym (append-nil (map token_of c.loop-part.words.items))
-          ∙ ap (λ (ts : List Token). map token_of c.loop-part.words.items ++ ts) (sym (word_at-empty c.loop-part.place lent.now w.if-not-is_empty.ensures))
+          ∙ ap (λ (ts : List Token). map token_of c.loop-part.words.items ++ ts) (sym (part_as_token-empty c.loop-part.place lent.now w.if-not-is_empty.ensures))
     ] in
     record {
       far = omega (arith, before, c.loop-part.invariant.far);

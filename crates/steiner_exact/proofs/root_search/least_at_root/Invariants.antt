@@ -1,5 +1,5 @@
 use Rattle.std.proofs.Common.{◌≡◌, ◌<◌, ◌≤◌, ◌-◌}
-use Rattle.shortest_paths.specs.LabelWords.{size_of, masks_of, label_of}
+use Rattle.shortest_paths.specs.LabelWords.{labels_size, masks_of, label_of}
 use Rattle.shortest_paths.specs.Stamped.{most}
 use Rattle.steiner_exact.specs.Roots.{IsAttempt}
 use Rattle.steiner_exact.proofs.root_search.least_at_root.Given as goal
@@ -11,7 +11,7 @@ invariant-loop-found g l = record {
   within : l.within ≤ most;
   some : 0 < l.slack;
   slack : l.slack ≤ most;
-  size : size_of l.labels ≡ size_of l.fn.labels;
+  size : labels_size l.labels ≡ labels_size l.fn.labels;
   masks : masks_of l.labels ≡ masks_of l.fn.labels;
 }
 

@@ -1,5 +1,5 @@
 use Rattle.std.proofs.Common.{◌≡◌, take}
-use Rattle.steiner_exact.specs.FlatPieces.{tiles_of}
+use Rattle.grid_graph.specs.TilePieces.{tiles_of}
 use Rattle.steiner_exact.proofs.tiles.tiles_of.Given as goal
 
 -- the tiles of the terminals so far

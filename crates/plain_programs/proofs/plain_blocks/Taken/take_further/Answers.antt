@@ -1,13 +1,13 @@
 use Rattle.std.proofs.Common.{sym, subst, List}
 use Rattle.route_text.specs.declared.block.Block.{Block}
-use Rattle.route_text.specs.Reads.{Read}
-use Rattle.plain_programs.specs.PlainBlocks.{IsTaken}
+use Rattle.route_text.specs.Reads.{RouteRead}
+use Rattle.plain_programs.specs.PlainBlocks.{ReadsAsBefore}
 use Rattle.plain_programs.proofs.Steps.{further_step, no_further_number, further_passed}
 use Rattle.plain_programs.proofs.plain_blocks.Taken.take_further.Goals as goal
 
 pub returns-then-not-begins_number-clause-taken : goal.returns-then-not-begins_number-clause-taken
 returns-then-not-begins_number-clause-taken c =
-    subst (λ (before : Read (List Block)). IsTaken before c.args.text.now c.take_between.new.self c.take_between.result)
+    subst (λ (before : RouteRead (List Block)). ReadsAsBefore before c.args.text.now c.take_between.new.self c.take_between.result)
     (further_passed c.args.text.now c.args.place c.requires.inside c.requires.no_blank c.args.self.now (sym c.if-not-begins_number.ensures)) c.take_between.ensures.taken
 
 pub returns-in_default-clause-taken : goal.returns-in_default-clause-taken

@@ -1,9 +1,10 @@
 use Rattle.std.proofs.Common.{◌≡◌, ◌<◌, ◌*◌, sym, ◌∙◌, ap, subst, arith}
 use Rattle.grid_base.specs.declared.piece.Piece.{Piece}
 use Rattle.grid_base.specs.Numbers.{vertices}
+use Rattle.grid_base.proofs.Pieces.{edge-tells}
 use Rattle.grid_graph.specs.Weighed.{Weighs}
 use Rattle.steiner_exact.specs.FlatPieces.{edges_with}
-use Rattle.steiner_exact.proofs.EdgeLists.{edges_with-listed, edge_below, edge-tells, via_not_listed}
+use Rattle.steiner_exact.proofs.EdgeLists.{edges_with-listed, edge_below, via_not_listed}
 use Rattle.steiner_exact.proofs.flat_weights.FlatWeightsWeights.weight.Goals as goal
 
 pub returns-in-Edge-clause-value : goal.returns-in-Edge-clause-value

@@ -8,7 +8,8 @@ use Rattle.shortest_paths.specs.LabelWords.{label_of}
 use Rattle.shortest_paths.specs.Stamped.{far}
 use Rattle.shortest_paths.specs.Masks.{all_of}
 use Rattle.shortest_paths.specs.Tables.{IsFamily, IsPrunedTable}
-use Rattle.steiner_exact.specs.FlatPieces.{edges_with, tiles_of}
+use Rattle.steiner_exact.specs.FlatPieces.{edges_with}
+use Rattle.grid_graph.specs.TilePieces.{tiles_of}
 use Rattle.steiner_exact.proofs.RowLaws.{over_family, pruned_table}
 use Rattle.steiner_exact.proofs.row_family.RowFamily.new.Goals as goal
 

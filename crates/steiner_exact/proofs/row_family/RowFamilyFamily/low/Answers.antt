@@ -9,21 +9,21 @@ use Rattle.shortest_paths.specs.Stamped.{far}
 use Rattle.shortest_paths.specs.Tables.{completed}
 use Rattle.steiner_exact.specs.declared.terminal_box.TerminalBox.{TerminalBox}
 use Rattle.steiner_exact.specs.Boxes.{box_of, width_with}
-use Rattle.steiner_exact.specs.FlatPieces.{tiles_of}
+use Rattle.grid_graph.specs.TilePieces.{tiles_of}
 use Rattle.steiner_exact.specs.RowLows.{layers_with}
 use Rattle.steiner_exact.proofs.BoxSteps.{few_masks_all, few_layers, layers_within}
-use Rattle.steiner_exact.proofs.FlatSteps.{ground_tile, ground_place, tile_vertex}
+use Rattle.grid_graph.proofs.TileSteps.{ground_tile, ground_place, tile_vertex, flat_tiles}
 use Rattle.steiner_exact.proofs.row_family.RowFamilyFamily.low.Goals as goal
 
 pub across-across-requires-clause-vertex : goal.across-across-requires-clause-vertex
 across-across-requires-clause-vertex g c =
     let x = c.args.self.now in
-    rw (ground_tile x.size c.args.v.0 c.cols.result c.args.place c.requires.vertex c.requires.place c.cols.ensures) (tile_vertex (g.B.Family.size x.bounds.now) x.size c.args.v.0 x.flat)
+    rw (ground_tile x.size c.args.v.0 c.cols.result c.args.place c.requires.vertex c.requires.place c.cols.ensures) (tile_vertex (g.B.Family.size x.bounds.now) x.size c.args.v.0 (flat_tiles (g.B.Family.size x.bounds.now) x.size x.flat))
 
 pub across-across-requires-clause-place : goal.across-across-requires-clause-place
 across-across-requires-clause-place g c =
     let x = c.args.self.now in
-    ground_place (g.B.Family.size x.bounds.now) x.size c.args.v.0 _ c.args.place x.flat c.requires.vertex c.requires.place
+    ground_place (g.B.Family.size x.bounds.now) x.size c.args.v.0 _ c.args.place (flat_tiles (g.B.Family.size x.bounds.now) x.size x.flat) c.requires.vertex c.requires.place
     (ground_tile x.size c.args.v.0 c.cols.result c.args.place c.requires.vertex c.requires.place c.cols.ensures)
 
 below : (mask count : ℕ) → count ≤ 5 → mask < 2 ^ count - 1 → mask < 2 ^ 5
