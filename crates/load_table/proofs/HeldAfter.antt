@@ -7,14 +7,14 @@ use Rattle.load_core.specs.declared.party.Party.{Party}
 use Rattle.load_core.specs.Parties.{whole_allotment, kept_after_split, joined, IsPart}
 use Rattle.load_core.specs.Entries.{minus, plus}
 use Rattle.load_core.proofs.Entries.{get_or-minus, get_or-plus, length-minus, length-plus}
-use Rattle.load_table.specs.Holdings.{IsHeld}
+use Rattle.load_table.specs.Holdings.{IsHolding}
 
 -- a whole list was written over another
 pub written : (n : ℕ) (xs ys : List ℕ) → n ≡ length xs → take n (xs ++ drop (length xs) ys) ≡ xs
 written n xs ys e = ap (λ k. take k (xs ++ drop (length xs) ys)) e ∙ take-append_seam xs (drop (length xs) ys)
 
-pub held-split : (table : TableId) (me : Me ℕ Party) (a allot : ℕ) (shares last given : List ℕ) → IsHeld table me a shares last → IsPart table.words me.0 allot given
-    → IsHeld table (kept_after_split me.0 allot given, me.1) (a - allot) (minus shares given) last
+pub held-split : (table : TableId) (me : Me ℕ Party) (a allot : ℕ) (shares last given : List ℕ) → IsHolding table me a shares last → IsPart table.words me.0 allot given
+    → IsHolding table (kept_after_split me.0 allot given, me.1) (a - allot) (minus shares given) last
 held-split table me a allot shares last given h part = record {
   free = h.free;
   share = record {
@@ -29,12 +29,12 @@ held-split table me a allot shares last given h part = record {
 }
 
 -- two shares of a table have as many entries
-pub same-long : (table : TableId) (me other : Me ℕ Party) (a b : ℕ) (shares last shares' last' : List ℕ) → IsHeld table me a shares last → IsHeld table other b shares' last'
+pub same-long : (table : TableId) (me other : Me ℕ Party) (a b : ℕ) (shares last shares' last' : List ℕ) → IsHolding table me a shares last → IsHolding table other b shares' last'
     → length shares ≡ length shares'
 same-long table me other a b shares last shares' last' h h' = ap length (sym h.shared) ∙ h.share.wide.shares ∙ sym h'.share.wide.shares ∙ ap length h'.shared
 
-pub held-joined : (table : TableId) (me other : Me ℕ Party) (a b : ℕ) (shares last shares' last' : List ℕ) → IsHeld table me a shares last → IsHeld table other b shares' last'
-    → (joined me.0 other.0).allot ≤ whole_allotment → IsHeld table (joined me.0 other.0, me.1) (a + b) (plus shares shares') last
+pub held-joined : (table : TableId) (me other : Me ℕ Party) (a b : ℕ) (shares last shares' last' : List ℕ) → IsHolding table me a shares last → IsHolding table other b shares' last'
+    → (joined me.0 other.0).allot ≤ whole_allotment → IsHolding table (joined me.0 other.0, me.1) (a + b) (plus shares shares') last
 held-joined table me other a b shares last shares' last' h h' most = record {
   free = h.free;
   share = record {

@@ -23,7 +23,7 @@ pub record IsShare (h : Holding) : Type 0 where
   pub whole : h.party.allot ≤ whole_allotment
 
 -- the numbers that lie in memory are those of the party of a share
-pub record IsHeld (table : TableId) (me : Me ℕ Party) (allotment : ℕ) (shares last : List ℕ) : Type 0 where
+pub record IsHolding (table : TableId) (me : Me ℕ Party) (allotment : ℕ) (shares last : List ℕ) : Type 0 where
   pub free : me.1 ≡ []
   pub share : IsShare (held table me.0)
   pub allotted : me.0.allot ≡ allotment

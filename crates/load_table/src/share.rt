@@ -26,13 +26,13 @@ pub struct Share {
 }
 
 impl Model for Share {
-    ghost use Rattle.load_table.specs.Holdings.{Holding, IsHeld, held};
+    ghost use Rattle.load_table.specs.Holdings.{Holding, IsHolding, held};
 
     ghost Value = { Holding };
 
     ghost view = { λ s. held s.seat.table_id s.seat.me.0 };
 
-    ghost invariant = { λ s. IsHeld s.seat.table_id s.seat.me s.allotment s.shares.items s.last.items };
+    ghost invariant = { λ s. IsHolding s.seat.table_id s.seat.me s.allotment s.shares.items s.last.items };
 }
 
 impl Share {
@@ -83,6 +83,7 @@ impl Share {
         requires room { share_at word self.old.party + amount ≤ self.old.party.allot }
         ensures lawful { MayAdd table.now.words self.old.party word amount }
         ensures event { self.new ≡ held self.old.table (added self.old.party word amount) }
+        ensures share { IsShare self.new }
     {
         steps::add(&table.table.shared, &mut self.seat, word as usize, amount);
         self.shares[word as usize] += amount;
@@ -95,6 +96,7 @@ impl Share {
         requires had { amount ≤ share_at word self.old.party }
         ensures lawful { MaySub table.now.words self.old.party word amount }
         ensures event { self.new ≡ held self.old.table (taken self.old.party word amount) }
+        ensures share { IsShare self.new }
     {
         steps::sub(&table.table.shared, &mut self.seat, word as usize, amount);
         self.shares[word as usize] -= amount;
@@ -108,6 +110,7 @@ impl Share {
         ensures whole { result ≤ whole_allotment }
         ensures lawful { MayLoad table.now.words self.old.party word }
         ensures event { self.new ≡ held self.old.table (loaded self.old.party word result) }
+        ensures share { IsShare self.new }
     {
         let found = steps::load(&table.table.shared, &mut self.seat, word as usize);
         self.last[word as usize] = found;

@@ -9,10 +9,9 @@ use Rattle.std.proofs.lemmas.Option.{slice_get_within, get_or_from_slice_get}
 use Rattle.grid_base.specs.declared.piece.Piece.{Piece}
 use Rattle.grid_graph.specs.declared.grid.Grid.{Grid}
 use Rattle.grid_graph.specs.declared.net_spec.NetSpec.{NetSpec}
-use Rattle.edge_prices.specs.Vectors.{edge_numbers, entries}
-use Rattle.tree_set.specs.Loads.{load, net_load}
+use Rattle.grid_graph.specs.Grids.{edge_numbers, entries}
+use Rattle.tree_set.specs.Loads.{load, net_load, tree_load, load_on, load_between, load_list}
 use Rattle.tree_set.specs.Measures.{wirelength}
-use Rattle.sharing_runs.specs.Loads.{tree_load, load_on, load_between, load_list}
 
 -- of a list without an element there are no pairs
 zip-none : {X Y : Type 0} (xs : List X) → zip {X = Y} xs [] ≡ []

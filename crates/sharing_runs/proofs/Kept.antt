@@ -1,5 +1,5 @@
 -- Keepers of prices, and edges that are none.
-use Rattle.std.proofs.Common.{◌≡◌, ◌≤◌, ℕ, ◌+◌, ◌*◌, ◌^◌, List, Bool, false, cond, length, get_or, slice_index, slice_set, refl, sym, ◌∙◌, ap, subst, ⊎_elim, arith, eq-eqb, ne_eqb}
+use Rattle.std.proofs.Common.{◌≡◌, ◌≤◌, ℕ, ◌+◌, ◌*◌, List, Bool, false, cond, length, get_or, slice_index, slice_set, refl, sym, ◌∙◌, ap, subst, ⊎_elim, arith, eq-eqb, ne_eqb}
 use Rattle.std.proofs.lemmas.Bool.{cases_eq}
 use Rattle.std.proofs.lemmas.List.{get_or-set_same, get_or-set_other}
 use Rattle.std.proofs.lemmas.List.Folds.{list_any_none}
@@ -8,15 +8,13 @@ use Rattle.grid_base.specs.declared.piece.Piece.TheVariants.{Edge, Via}
 use Rattle.grid_base.specs.declared.size.Size.{Size}
 use Rattle.grid_base.specs.Numbers.{vertices, IsPiece}
 use Rattle.grid_graph.specs.declared.grid.Grid.{Grid}
-use Rattle.grid_graph.specs.Grids.{size_of, demand_on}
+use Rattle.grid_graph.specs.Grids.{size_of, demand_on, edge_numbers, entries}
 use Rattle.edge_prices.specs.declared.kept_prices.KeptPrices.{KeptPrices}
 use Rattle.edge_prices.specs.KeptLists.{KeepsSetting}
-use Rattle.edge_prices.specs.Vectors.{edge_numbers, entries}
-use Rattle.tree_set.specs.Loads.{is_edge_of, net_load}
+use Rattle.tree_set.specs.Loads.{is_edge_of, net_load, tree_load, max_tree_load}
 use Rattle.tree_set.specs.Order.{IsRising}
 use Rattle.tree_set.specs.Routings.{ArePieces}
 use Rattle.tree_set.proofs.Counting.{length-pieces}
-use Rattle.sharing_runs.specs.Loads.{tree_load}
 
 pub KeepsSetting-trans : (a b d : KeptPrices) → KeepsSetting a b → KeepsSetting b d → KeepsSetting a d
 KeepsSetting-trans a b d first next =
@@ -54,7 +52,7 @@ tree_load-added g width ps first loads r pieces long edges =
 -- how much the load of an entry rises at most
 pub added_limit : (g : Grid) (ps : List Piece) (first loads : List ℕ) (r : ℕ) → IsRising ps → ArePieces (size_of g) ps → length loads ≡ entries g
     → ((e : ℕ) → slice_index loads e ≤ slice_index first e + 1023)
-    → slice_index (slice_set loads (edge_numbers g) (slice_index loads (edge_numbers g) + length ps)) r ≤ slice_index first r + 2 ^ 25
+    → slice_index (slice_set loads (edge_numbers g) (slice_index loads (edge_numbers g) + length ps)) r ≤ slice_index first r + max_tree_load
 added_limit g ps first loads r rising pieces long limit =
     let last : ℕ = edge_numbers g in
     let new : ℕ = slice_index loads last + length ps in
@@ -62,7 +60,7 @@ added_limit g ps first loads r rising pieces long limit =
     ⊎_elim
     (λ (here : last ≡ r).
     let set : slice_index (slice_set loads last new) last ≡ new = get_or-set_same loads last new 0 (omega (arith, long)) in
-    subst (λ (e : ℕ). slice_index (slice_set loads last new) e ≤ slice_index first e + 2 ^ 25) here
+    subst (λ (e : ℕ). slice_index (slice_set loads last new) e ≤ slice_index first e + max_tree_load) here
     (omega (arith, set, limit last, few, (size_of g).within.vertex_limit)))
     (λ (other : last ≡ r → ⊥).
     omega (arith, get_or-set_other loads last r new 0 (λ same. other (sym same)), limit r))

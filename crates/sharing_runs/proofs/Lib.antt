@@ -1,3 +1,4 @@
 pub mod Between
 pub mod Kept
 pub mod Turns
+pub mod Exchanges

@@ -11,7 +11,7 @@ use Rattle.grid_graph.specs.declared.design.Design.{Design}
 use Rattle.grid_graph.specs.declared.net_spec.NetSpec.{NetSpec}
 use Rattle.grid_base.specs.Lists.{At}
 use Rattle.edge_prices.specs.Vectors.{IsLoadList}
-use Rattle.sharing_runs.specs.Loads.{load_between, load_list}
+use Rattle.tree_set.specs.Loads.{load_between, load_list}
 use Rattle.sharing_runs.specs.Parts.{part_start, stretch_start, IsInPart}
 use Rattle.sharing_runs.specs.SharingRuns.{IsTurn, IsSharingRun}
 use Rattle.sharing_runs.specs.NetSteps.{IsStep}

@@ -1,4 +1,6 @@
+pub use Rattle.grid_graph.specs.Grids
+pub use Rattle.tree_set.specs.Loads
 pub mod NetSteps
-pub mod Loads
 pub mod Parts
 pub mod SharingRuns
+pub mod RepairRuns

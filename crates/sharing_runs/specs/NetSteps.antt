@@ -9,24 +9,21 @@ use Rattle.grid_graph.specs.declared.ground.Ground.{Ground}
 use Rattle.grid_graph.specs.declared.net_spec.NetSpec.{NetSpec}
 use Rattle.grid_graph.specs.Grids.{size_of}
 use Rattle.edge_prices.specs.Vectors.{price_vector}
-use Rattle.edge_prices.specs.Weights.{weight}
+use Rattle.edge_prices.specs.Weights.{piece_weight}
 use Rattle.edge_prices.specs.PieceLists.{pieces_with}
 use Rattle.shortest_paths.specs.Sets.{IsLeastWeight}
 use Rattle.tree_set.specs.Order.{IsRising}
 use Rattle.tree_set.specs.Routings.{IsRoute}
 use Rattle.shortest_paths.specs.Spanning.{Link, IsSpanningTree, links_weight}
-
--- up to so many terminals a net gets a set of least weight
-abbrev pub few_terminals : ℕ
-few_terminals = 5
+use Rattle.shortest_paths.specs.Masks.{few_terminals}
 
 -- the pieces of a ground with their weights for a net of this width at these prices
 abbrev pub weighed : Grid → ℕ → Ground → List ℕ → List (Piece × ℕ)
-weighed g width over prices = pieces_with g over (weight g width prices)
+weighed g width over prices = pieces_with g over (piece_weight g width prices)
 
 -- the weight of a set of pieces: the sum of the weights of its pieces
 abbrev pub set_weight : Grid → ℕ → List ℕ → List Piece → ℕ
-set_weight g width prices pieces = sum_by (weight g width prices) pieces
+set_weight g width prices pieces = sum_by (piece_weight g width prices) pieces
 
 -- with at most five terminals, no set of allowed pieces that joins them weighs less
 abbrev pub IsLightest : Grid → NetSpec → Ground → List ℕ → List Piece → Type 0

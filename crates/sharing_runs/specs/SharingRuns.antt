@@ -6,8 +6,9 @@ use Rattle.grid_base.specs.declared.piece.Piece.{Piece}
 use Rattle.grid_graph.specs.declared.design.Design.{Design}
 use Rattle.grid_graph.specs.declared.net_spec.NetSpec.{NetSpec}
 use Rattle.grid_base.specs.Lists.{At}
-use Rattle.edge_prices.specs.Vectors.{entries, IsLoadList}
-use Rattle.sharing_runs.specs.Loads.{load_between}
+use Rattle.grid_graph.specs.Grids.{entries}
+use Rattle.edge_prices.specs.Vectors.{IsLoadList}
+use Rattle.tree_set.specs.Loads.{load_between}
 use Rattle.sharing_runs.specs.Parts.{part_start, stretch_start, IsInPart}
 use Rattle.sharing_runs.specs.NetSteps.{IsStep}
 

@@ -6,7 +6,7 @@ ghost use Rattle.grid_graph.specs.declared.design.Design.{Design};
 ghost use Rattle.grid_graph.specs.declared.net_spec.NetSpec.{NetSpec};
 ghost use Rattle.grid_base.specs.Lists.{At};
 ghost use Rattle.edge_prices.specs.Vectors.{IsLoadList};
-ghost use Rattle.sharing_runs.specs.Loads.{load_list};
+ghost use Rattle.tree_set.specs.Loads.{load_list};
 ghost use Rattle.sharing_runs.specs.NetSteps.{IsStep};
 ghost use Rattle.sharing_runs.specs.SharingRuns.{IsSharingRun};
 

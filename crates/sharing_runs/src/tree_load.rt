@@ -1,13 +1,11 @@
 //! The loads that prices follow, as a net's set is added.
 
 ghost use Rattle.std.specs.Prelude.{◌≡◌, ◌+◌, ◌<◌, ◌≤◌, ◌^◌, ℕ, length, slice_index};
-ghost use Rattle.edge_prices.specs.Limits.{max_load};
+ghost use Rattle.grid_graph.specs.Limits.{max_demand, max_load};
 ghost use Rattle.edge_prices.specs.KeptLists.{grid_of, loads_of, KeepsSetting};
-ghost use Rattle.edge_prices.specs.Vectors.{entries};
-ghost use Rattle.grid_graph.specs.Grids.{size_of, IsNetWidth};
-ghost use Rattle.tree_set.specs.Loads.{net_load};
+ghost use Rattle.grid_graph.specs.Grids.{entries, size_of, IsNetWidth};
+ghost use Rattle.tree_set.specs.Loads.{max_tree_load, net_load, tree_load};
 ghost use Rattle.tree_set.specs.Routings.{ArePieces};
-ghost use Rattle.sharing_runs.specs.Loads.{tree_load};
 
 use edge_prices::KeptPrices;
 use grid_base::Piece;
@@ -20,9 +18,9 @@ pub fn add_tree(kept: &mut KeptPrices<'_>, grid: &Grid, width: u32, tree: &Tree)
     requires grid { grid_of kept.old ≡ grid.now }
     requires width { IsNetWidth grid.now width }
     requires pieces { ArePieces (size_of grid.now) tree.now }
-    requires room { (r : ℕ) → slice_index (loads_of kept.old) r + 2 ^ 25 ≤ max_load }
+    requires room { (r : ℕ) → slice_index (loads_of kept.old) r + max_tree_load ≤ max_load }
     ensures loads { (r : ℕ) → slice_index (loads_of kept.new) r ≡ slice_index (loads_of kept.old) r + tree_load grid.now width tree.now r }
-    ensures limit { (r : ℕ) → slice_index (loads_of kept.new) r ≤ slice_index (loads_of kept.old) r + 2 ^ 25 }
+    ensures limit { (r : ℕ) → slice_index (loads_of kept.new) r ≤ slice_index (loads_of kept.old) r + max_tree_load }
     ensures long { length (loads_of kept.new) ≡ length (loads_of kept.old) }
     ensures setting { KeepsSetting kept.old kept.new }
 {
@@ -37,9 +35,9 @@ fn add_edges(kept: &mut KeptPrices<'_>, grid: &Grid, width: u32, tree: &Tree)
     requires grid { grid_of kept.old ≡ grid.now }
     requires width { IsNetWidth grid.now width }
     requires pieces { ArePieces (size_of grid.now) tree.now }
-    requires room { (r : ℕ) → slice_index (loads_of kept.old) r + 2 ^ 25 ≤ max_load }
+    requires room { (r : ℕ) → slice_index (loads_of kept.old) r + max_tree_load ≤ max_load }
     ensures loads { (r : ℕ) → slice_index (loads_of kept.new) r ≡ slice_index (loads_of kept.old) r + net_load grid.now width tree.now r }
-    ensures limit { (r : ℕ) → slice_index (loads_of kept.new) r ≤ slice_index (loads_of kept.old) r + 1023 }
+    ensures limit { (r : ℕ) → slice_index (loads_of kept.new) r ≤ slice_index (loads_of kept.old) r + max_demand }
     ensures long { length (loads_of kept.new) ≡ length (loads_of kept.old) }
     ensures setting { KeepsSetting kept.old kept.new }
 {

@@ -1,10 +1,9 @@
 use Rattle.std.proofs.Common.{◌≡◌, ◌<◌, ◌≤◌, ℕ, length, ◌*◌, sym, ◌∙◌, subst, ap, arith}
 use Rattle.std.proofs.lemmas.List.{length-set}
 use Rattle.grid_base.specs.Numbers.{vertices}
-use Rattle.grid_graph.specs.Grids.{demand_on, size_of}
+use Rattle.grid_graph.specs.Grids.{demand_on, size_of, entries}
 use Rattle.grid_graph.specs.Limits.{max_demand}
 use Rattle.edge_prices.specs.KeptLists.{loads_of}
-use Rattle.edge_prices.specs.Vectors.{entries}
 use Rattle.tree_set.specs.Order.{IsRising}
 use Rattle.tree_set.specs.Routings.{ArePieces}
 use Rattle.tree_set.proofs.Loads.{IsCounted-edge, IsCounted-via, edge_number}

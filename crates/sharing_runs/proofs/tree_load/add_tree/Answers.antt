@@ -1,9 +1,8 @@
 use Rattle.std.proofs.Common.{◌≡◌, ◌≤◌, ◌*◌, length, ◌∙◌, ap, arith}
 use Rattle.grid_base.specs.Numbers.{vertices}
-use Rattle.grid_graph.specs.Grids.{size_of}
+use Rattle.grid_graph.specs.Grids.{size_of, edge_numbers, entries}
 use Rattle.tree_set.proofs.Counting.{length-pieces}
 use Rattle.edge_prices.specs.KeptLists.{loads_of}
-use Rattle.edge_prices.specs.Vectors.{edge_numbers, entries}
 use Rattle.sharing_runs.proofs.Kept.{tree_load-added, added_limit, net_load-beyond}
 use Rattle.sharing_runs.proofs.tree_load.add_tree.Goals as goal
 
