@@ -1,0 +1,5 @@
+pub mod LightSteps
+pub mod ReadSteps
+pub mod Taken
+pub mod TurnFacts
+pub mod NetLoads

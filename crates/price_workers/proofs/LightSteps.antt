@@ -1,0 +1,145 @@
+-- A set of least weight at prices is a step.
+use Rattle.std.proofs.Common.{◌≡◌, ◌<◌, ◌≤◌, ◌+◌, ◌*◌, ℕ, Bool, true, false, cond, List, [], ◌∷◌, length, get_or, map, All, refl, sym, ◌∙◌, ap, subst, arith, Option}
+use Rattle.std.specs.List.{sum_by, Contains}
+use Rattle.std.proofs.lemmas.List.Sums.{sum_by-cons}
+use Rattle.std.proofs.lemmas.List.Elements.{All-head, All-tail, All-nil, All-cons, Contains-get_or}
+use Rattle.grid_base.specs.declared.piece.Piece.{Piece}
+use Rattle.grid_base.specs.declared.piece.Piece.TheVariants.{Edge, Via}
+use Rattle.grid_base.specs.declared.size.Size.{Size}
+use Rattle.grid_base.specs.declared.vertex.Vertex.{Vertex}
+use Rattle.grid_base.specs.Walks.{Joins, JoinsList, InVertices}
+use Rattle.grid_base.proofs.Joined.{Joins-superset}
+use Rattle.grid_graph.specs.declared.grid.Grid.{Grid}
+use Rattle.grid_graph.specs.declared.ground.Ground.{Ground}
+use Rattle.grid_graph.specs.declared.net_spec.NetSpec.{NetSpec}
+use Rattle.grid_graph.specs.Grids.{Allows, size_of}
+use Rattle.grid_graph.specs.Grounds.{IsGround}
+use Rattle.grid_graph.specs.Limits.{max_weight}
+use Rattle.grid_graph.specs.Weighed.{IsAllowed}
+use Rattle.grid_graph.proofs.Grounds.{ground_joins}
+use Rattle.edge_prices.specs.PieceLists.{AreGroundPieces}
+use Rattle.edge_prices.specs.Vectors.{price_vector}
+use Rattle.edge_prices.specs.Weights.{piece_weight, is_open, edge_cost, wirelength_price}
+use Rattle.edge_prices.proofs.GroundPieces.{pieces_with-Weighs}
+use Rattle.shortest_paths.specs.Paths.{NoneWeighsNothing}
+use Rattle.shortest_paths.specs.Sets as sets
+use Rattle.tree_set.specs.Order.{IsRising}
+use Rattle.tree_set.specs.Routings.{KeepsTo}
+use Rattle.sharing_runs.specs.NetSteps.{IsStep, IsStepAt, IsLightest, weighed, set_weight}
+use Rattle.shortest_paths.specs.Masks.{few_terminals}
+use Rattle.shortest_paths.specs.Spanning.{Link, IsSpanningTree}
+use Rattle.steiner_exact.specs.LeastSets.{IsLeastSet}
+use Rattle.steiner_span.specs.LightTrees.{IsLightTree}
+
+one_of : (b : Bool) (x y : ℕ) → 0 < x → 0 < y → 0 < cond b x y
+one_of true x y first second = first
+one_of false x y first second = second
+
+-- no piece weighs nothing
+pub piece_weight-positive : (g : Grid) (width : ℕ) (prices : List ℕ) (p : Piece) → 0 < piece_weight g width prices p
+piece_weight-positive g width prices (Edge e) = one_of (is_open g e.0) (4 * (edge_cost g width prices e.0 + wirelength_price g prices) + 1) max_weight (omega arith) (omega arith)
+piece_weight-positive g width prices (Via v) = omega arith
+
+pub none_weighs_nothing : (g : Grid) (over : Ground) (width : ℕ) (prices : List ℕ) (pieces : List (Piece × ℕ)) → AreGroundPieces g over (piece_weight g width prices) pieces → NoneWeighsNothing pieces
+none_weighs_nothing g over width prices pieces are p k weighs = subst (λ n. 0 < n) (sym ((are p k).0 weighs).1) (piece_weight-positive g width prices p)
+
+-- what a ground joins is joined by its pieces with their weights
+pub joined_by_pieces : (g : Grid) (over : Ground) (f : Piece → ℕ) (pieces : List (Piece × ℕ)) (n : NetSpec) → AreGroundPieces g over f pieces → IsGround g n.terminals over
+    → Joins (size_of g) (IsAllowed pieces) (InVertices n.terminals)
+joined_by_pieces g over f pieces n are ground =
+    Joins-superset (size_of g) (Allows g over) (IsAllowed pieces) (InVertices n.terminals)
+    (λ p allows. (f p, (are p (f p)).1 (allows, refl))) (ground_joins g n.terminals over ground)
+
+-- the sum of numbers that a function gives
+sum_by-given : (f : Piece → ℕ) (set : List (Piece × ℕ)) → All (λ x. x.1 ≡ f x.0) set → sum_by (λ x. x.1) set ≡ sum_by f (map (λ x. x.0) set)
+sum_by-given f [] are = refl
+sum_by-given f (x ∷ set) are =
+    omega (arith, sum_by-cons (λ (y : Piece × ℕ). y.1) x set, sum_by-cons f x.0 (map (λ y. y.0) set), All-head (λ y. y.1 ≡ f y.0) x set are, sum_by-given f set (All-tail (λ y. y.1 ≡ f y.0) x set are))
+
+-- what holds of the pieces of a set holds of all in the list of its pieces
+All-pieces : (P : Piece → Type 0) (set : List (Piece × ℕ)) → All (λ x. P x.0) set → All P (map (λ x. x.0) set)
+All-pieces P [] are = All-nil P
+All-pieces P (x ∷ set) are = All-cons P x.0 (map (λ y. y.0) set) (All-head (λ y. P y.0) x set are) (All-pieces P set (All-tail (λ y. P y.0) x set are))
+
+-- the least weight does not change with the order of the allowed pieces
+same_least : (s : Size) (pieces others : List (Piece × ℕ)) (T : ℕ → Type 0) (d : ℕ)
+    → ((x : Piece × ℕ) → Contains pieces x → Contains others x) → ((x : Piece × ℕ) → Contains others x → Contains pieces x)
+    → sets.IsLeastWeight s pieces T d → sets.IsLeastWeight s others T d
+same_least s pieces others T d fore back least = record {
+  set = least.set;
+  is_set = record { allowed = λ x in_set. fore x (least.is_set.allowed x in_set); once = least.is_set.once };
+  joins = least.joins;
+  weighs = least.weighs;
+  lightest = λ other is joins. least.lightest other (record { allowed = λ x in_set. back x (is.allowed x in_set); once = is.once }) joins;
+}
+
+-- a set of a ground's pieces with their weights: its pieces keep to the ground, and it weighs as much as they do
+pub record IsSetOver (g : Grid) (n : NetSpec) (over : Ground) (prices : List ℕ) (pieces : List (Piece × ℕ)) (tree : List Piece) (total : ℕ) : Type 0 where
+  pub inside : KeepsTo g over tree
+  pub weighs : total ≡ set_weight g n.width prices tree
+  pub fore : (x : Piece × ℕ) → Contains pieces x → Contains (weighed g n.width over prices) x
+  pub back : (x : Piece × ℕ) → Contains (weighed g n.width over prices) x → Contains pieces x
+
+set_over : (g : Grid) (n : NetSpec) (over : Ground) (prices : List ℕ) (pieces set : List (Piece × ℕ)) (tree : List Piece)
+    → AreGroundPieces g over (piece_weight g n.width prices) pieces → map (λ x. x.0) set ≡ tree → sets.IsSetOf pieces set → IsSetOver g n over prices pieces tree (sets.weight set)
+set_over g n over prices pieces set tree are of is_set =
+    let f : Piece → ℕ = piece_weight g n.width prices in
+    let each : (x : Piece × ℕ) → Contains set x → Allows g over x.0 × (x.1 ≡ f x.0) = λ x in_set. (are x.0 x.1).0 (is_set.allowed x in_set) in
+    record {
+      inside = subst (KeepsTo g over) of (All-pieces (Allows g over) set (λ i d short. (each (get_or set i d) (Contains-get_or set i d short)).0));
+      weighs = sum_by-given f set (λ i d short. (each (get_or set i d) (Contains-get_or set i d short)).1) ∙ ap (λ ps. sum_by f ps) of;
+      fore = λ x in_pieces. (pieces_with-Weighs g over f x.0 x.1).1 ((are x.0 x.1).0 in_pieces);
+      back = λ x in_others. (are x.0 x.1).1 ((pieces_with-Weighs g over f x.0 x.1).0 in_others);
+    }
+
+-- a set of least weight of a ground's pieces is a step of a net of few terminals
+pub step_from_least : (g : Grid) (n : NetSpec) (over : Ground) (prices : List ℕ) (pieces : List (Piece × ℕ)) (tree : List Piece)
+    → AreGroundPieces g over (piece_weight g n.width prices) pieces → length n.terminals ≤ few_terminals → IsGround g n.terminals over
+    → IsRising tree → JoinsList (size_of g) tree n.terminals → IsLeastSet (size_of g) pieces n.terminals tree
+    → IsStepAt g n prices tree
+step_from_least g n over prices pieces tree are few ground rising joined least =
+    let its = set_over g n over prices pieces least.set tree are least.of least.is_set in
+    let lightest : IsLightest g n over prices tree =
+    subst (λ (d : ℕ). sets.IsLeastWeight (size_of g) (weighed g n.width over prices) (InVertices n.terminals) d) its.weighs
+    (same_least (size_of g) pieces (weighed g n.width over prices) (InVertices n.terminals) (sets.weight least.set) its.fore its.back least.least) in
+    record {
+      set = rising;
+      route = record { over = over; is_ground = ground; inside = its.inside; joined = joined };
+      lightest = λ small. lightest;
+      light = λ many. absurd (omega (arith, few, many));
+    }
+
+-- a spanning tree by distances stays one where the allowed pieces stand in another order
+same_spanning : (s : Size) (pieces others : List (Piece × ℕ)) (terminals : List Vertex) (links : List Link)
+    → ((x : Piece × ℕ) → Contains pieces x → Contains others x) → ((x : Piece × ℕ) → Contains others x → Contains pieces x)
+    → IsSpanningTree s pieces terminals links → IsSpanningTree s others terminals links
+same_spanning s pieces others terminals links fore back tree = record {
+  count = tree.count;
+  ends = tree.ends;
+  distances = λ i d short. same_least s pieces others (sets.IsEither (get_or links i d).one (get_or links i d).other) (get_or links i d).distance fore back (tree.distances i d short);
+  connects = tree.connects;
+}
+
+-- a tree of a ground's pieces that is no heavier than spanning trees by distances is a step of a net of many terminals
+pub step_from_light : (g : Grid) (n : NetSpec) (over : Ground) (prices : List ℕ) (pieces : List (Piece × ℕ)) (tree : List Piece) (total : ℕ)
+    → AreGroundPieces g over (piece_weight g n.width prices) pieces → few_terminals < length n.terminals → IsGround g n.terminals over
+    → IsLightTree (size_of g) pieces n.terminals tree total
+    → IsStepAt g n prices tree
+step_from_light g n over prices pieces tree total are many ground light =
+    let its = set_over g n over prices pieces light.set tree are light.of light.is_set in
+    record {
+      set = light.rising;
+      route = record { over = over; is_ground = ground; inside = its.inside; joined = light.joins };
+      lightest = λ few. absurd (omega (arith, few, many));
+      light = λ few links spanning. omega (arith, its.weighs, light.weighs, light.light links (same_spanning (size_of g) (weighed g n.width over prices) pieces n.terminals links its.back its.fore spanning));
+    }
+
+-- a step at the prices of a keeper is one at those of its grid, its loads and its setting
+pub step_moved : (g h : Grid) (n : NetSpec) (loads others : List ℕ) (scale scale' : ℕ) (budget budget' : Option ℕ) (tree : List Piece)
+    → g ≡ h → loads ≡ others → scale ≡ scale' → budget ≡ budget'
+    → IsStepAt g n (price_vector g loads scale budget) tree → IsStep h n others scale' budget' tree
+step_moved g h n loads others scale scale' budget budget' tree grid same as_scale as_budget step =
+    let by_budget = subst (λ (b : Option ℕ). IsStepAt g n (price_vector g loads scale b) tree) as_budget step in
+    let by_scale = subst (λ (s : ℕ). IsStepAt g n (price_vector g loads s budget') tree) as_scale by_budget in
+    let by_loads = subst (λ (l : List ℕ). IsStepAt g n (price_vector g l scale' budget') tree) same by_scale in
+    subst (λ (x : Grid). IsStepAt x n (price_vector x others scale' budget') tree) grid by_loads

@@ -1,0 +1,99 @@
+-- A reading, word by word.
+use Rattle.std.proofs.Common.{◌≡◌, ℕ, ◌+◌, ◌<◌, ◌≤◌, List, [], ◌∷◌, ◌++◌, length, map, slice_index, slice_set, refl, sym, ◌∙◌, ap, subst, ⊎_elim, arith}
+use Rattle.std.specs.List.{range_with_len}
+use Rattle.std.proofs.lemmas.Bool.{cases_eq, cases_lt}
+use Rattle.std.proofs.lemmas.List.{get_or-set_same, get_or-set_other, get_or_past, ext_get_or, append-nil, append_assoc}
+use Rattle.std.proofs.lemmas.List.FromFn.{fill_by_all, get_or-map-range_with_len, length-map-range_with_len, map-range_with_len_more}
+use Rattle.load_core.specs.declared.loaded.Loaded.{Loaded}
+use Rattle.load_core.specs.declared.party.Party.{Party}
+use Rattle.load_core.specs.Parties.{entry, loaded, share_at}
+use Rattle.load_core.specs.Soundness.{IsCloseTo}
+use Rattle.price_workers.specs.Readings.{after_reading, AreCloseTo}
+
+-- the loads of the first k words, where these values were found
+abbrev pub first_loads : List ℕ → ℕ → List Loaded
+first_loads values k = map (λ word. entry word (slice_index values word)) (range_with_len 0 k)
+
+-- the first k words were loaded, and these values are what was found there
+pub record IsReadUpTo (start p : Party) (values : List ℕ) (k : ℕ) : Type 0 where
+  pub only : p ≡ record start { last = p.last; history = p.history }
+  pub loads : p.history ≡ start.history ++ first_loads values k
+  pub found : (w : ℕ) → w < k → slice_index p.last w ≡ slice_index values w
+  pub near : (w : ℕ) → w < k → IsCloseTo start w (slice_index values w)
+
+-- nothing was loaded yet
+pub IsReadUpTo-none : (p : Party) (values : List ℕ) → IsReadUpTo p p values 0
+IsReadUpTo-none p values = record {
+  only = refl;
+  loads = sym (append-nil p.history);
+  found = λ w early. absurd (omega (arith, early));
+  near = λ w early. absurd (omega (arith, early));
+}
+
+-- the first loads depend on the first values alone
+first_loads-same : (values others : List ℕ) (k : ℕ) → ((w : ℕ) → w < k → slice_index others w ≡ slice_index values w) → first_loads values k ≡ first_loads others k
+first_loads-same values others k same =
+    let f : ℕ → Loaded = λ word. entry word (slice_index values word) in
+    let d : Loaded = entry 0 0 in
+    fill_by_all (λ word. entry word (slice_index others word)) (first_loads values k) k d (length-map-range_with_len f 0 k)
+    (λ w early. get_or-map-range_with_len f 0 k w w d early (omega arith) ∙ ap (λ (n : ℕ). entry w n) (sym (same w early)))
+
+-- what is close to a party's shares stays so where other parts of the party change
+near_start : (start : Party) (last : List ℕ) (history : List Loaded) (w n : ℕ) → IsCloseTo (record start { last = last; history = history }) w n → IsCloseTo start w n
+near_start start last history w n close = record { least = close.least; most = close.most }
+
+near_end : (start : Party) (last : List ℕ) (history : List Loaded) (w n : ℕ) → IsCloseTo start w n → IsCloseTo (record start { last = last; history = history }) w n
+near_end start last history w n close = record { least = close.least; most = close.most }
+
+-- one word more
+pub IsReadUpTo-more : (start p : Party) (values others : List ℕ) (k : ℕ) → IsReadUpTo start p values k → k < length p.last
+    → IsCloseTo p k (slice_index others k)
+    → ((w : ℕ) → (w ≡ k → ⊥) → slice_index others w ≡ slice_index values w)
+    → IsReadUpTo start (loaded p k (slice_index others k)) others (k + 1)
+IsReadUpTo-more start p values others k before within close same =
+    let n : ℕ = slice_index others k in
+    let f : ℕ → Loaded = λ word. entry word (slice_index others word) in
+    let early : (w : ℕ) → w < k → slice_index others w ≡ slice_index values w = λ w low. same w (λ at. omega (arith, low, at)) in
+    let last : List ℕ = slice_set p.last k n in
+    let history : List Loaded = p.history ++ entry k n ∷ [] in
+    record {
+      only = ap (λ (q : Party). record q { last = last; history = history }) before.only;
+      loads = ap (λ (h : List Loaded). h ++ entry k n ∷ []) before.loads
+          ∙ ap (λ (h : List Loaded). (start.history ++ h) ++ entry k n ∷ []) (first_loads-same values others k early)
+          ∙ append_assoc start.history (first_loads others k) (entry k n ∷ [])
+          ∙ ap (λ (h : List Loaded). start.history ++ h) (sym (map-range_with_len_more f 0 k k (omega arith)));
+      found = λ w low. ⊎_elim
+          (λ (here : k ≡ w). subst (λ (y : ℕ). slice_index last y ≡ slice_index others y) here (get_or-set_same p.last k n 0 within))
+          (λ (other : k ≡ w → ⊥).
+          let less : w < k = omega (arith, low, other) in
+          get_or-set_other p.last k w n 0 (λ at. other (sym at)) ∙ before.found w less ∙ sym (early w less))
+          (cases_eq k w);
+      near = λ w low. ⊎_elim
+          (λ (here : k ≡ w). subst (λ (y : ℕ). IsCloseTo start y (slice_index others y)) here
+          (near_start start p.last p.history k n (subst (λ (q : Party). IsCloseTo q k n) before.only close)))
+          (λ (other : k ≡ w → ⊥).
+          let less : w < k = omega (arith, low, other) in
+          subst (λ (y : ℕ). IsCloseTo start w y) (sym (early w less)) (before.near w less))
+          (cases_eq k w);
+    }
+
+-- all words were loaded
+pub after_all_words : (start p : Party) (values : List ℕ) → IsReadUpTo start p values (length values) → length p.last ≡ length values → p ≡ after_reading start values
+after_all_words start p values read long =
+    let same : p.last ≡ values = ext_get_or 0 p.last values long (λ w short. read.found w (omega (arith, short, long))) in
+    read.only
+    ∙ ap (λ (l : List ℕ). record start { last = l; history = p.history }) same
+    ∙ ap (λ (h : List Loaded). record start { last = values; history = h }) read.loads
+
+-- what was found is close to the shares, and beyond the words there is nothing
+pub close_to_all : (start p : Party) (values : List ℕ) → IsReadUpTo start p values (length values) → length p.shares ≡ length values → AreCloseTo p values
+close_to_all start p values read long word =
+    ⊎_elim
+    (λ (within : word < length values).
+    subst (λ (q : Party). IsCloseTo q word (slice_index values word)) (sym read.only)
+    (near_end start p.last p.history word (slice_index values word) (read.near word within)))
+    (λ (beyond : length values ≤ word).
+    let none : slice_index values word ≡ 0 = get_or_past values word 0 beyond in
+    let empty : share_at word p ≡ 0 = get_or_past p.shares word 0 (omega (arith, beyond, long)) in
+    record { least = omega (arith, none, empty); most = omega (arith, none) })
+    (cases_lt word (length values))

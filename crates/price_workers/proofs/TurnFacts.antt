@@ -1,0 +1,104 @@
+-- What a turn leaves of a worker's share and of what it sees.
+use Rattle.std.proofs.Common.{◌≡◌, ℕ, ◌-◌, ◌<◌, ◌≤◌, Bool, List, [], ◌∷◌, length, get_or, slice_index, sym, ◌∙◌, ap, subst, arith}
+use Rattle.grid_base.specs.declared.piece.Piece.{Piece}
+use Rattle.grid_base.specs.Lists.{At}
+use Rattle.grid_graph.specs.declared.grid.Grid.{Grid}
+use Rattle.grid_graph.specs.declared.net_spec.NetSpec.{NetSpec}
+use Rattle.grid_graph.specs.Grids.{size_of, entries}
+use Rattle.edge_prices.specs.declared.kept_prices.KeptPrices.{KeptPrices}
+use Rattle.edge_prices.specs.KeptLists.{grid_of, loads_of, KeepsSetting}
+use Rattle.atomic_table.specs.Seated.{TableId}
+use Rattle.grid_graph.proofs.Allowed.{Allows-IsPiece}
+use Rattle.load_core.specs.declared.party.Party.{Party}
+use Rattle.load_core.specs.Parties.{share_at}
+use Rattle.load_table.specs.Holdings.{Holding, IsShare, held}
+use Rattle.steiner_exact.specs.declared.tree_labels.TreeLabels.{TreeLabels}
+use Rattle.steiner_exact.specs.TreeLabelWords.{AreTreeLabels}
+use Rattle.sharing_runs.specs.NetSteps.{IsStepAt}
+use Rattle.std.proofs.lemmas.Option.{slice_get-get_or}
+use Rattle.tree_set.specs.Loads.{tree_load}
+use Rattle.tree_set.specs.Routings.{ArePieces, IsRoute}
+use Rattle.price_workers.specs.Readings.{AreCloseTo}
+use Rattle.price_workers.specs.TreeLoads.{GainsTree, without_tree, DiffersInShares, HasRoomForSet}
+use Rattle.price_workers.specs.Working.{IsWorking}
+use Rattle.price_workers.proofs.Taken.{without_tree-at}
+
+-- a party that differs in its shares alone, once and again
+pub DiffersInShares-trans : (p q r : Party) → DiffersInShares p q → DiffersInShares q r → DiffersInShares p r
+DiffersInShares-trans p q r first next = next ∙ ap (λ (x : Party). record x { shares = r.shares }) first
+
+pub same_allot : (p q : Party) → DiffersInShares p q → q.allot ≡ p.allot
+same_allot p q differs = ap (λ (x : Party). x.allot) differs
+
+-- with the same shares it is the same party
+pub same_party : (p q : Party) → DiffersInShares p q → q.shares ≡ p.shares → q ≡ p
+same_party p q differs same = differs ∙ ap (λ (s : List ℕ). record p { shares = s }) same
+
+pub same_share : (h k : Holding) → k.table ≡ h.table → k.party ≡ h.party → k ≡ h
+same_share h k table party = ap (λ t. held t k.party) table ∙ ap (λ q. held h.table q) party
+
+-- what is seen stays close where it gains the same as the share
+pub close_put : (g : Grid) (width : ℕ) (ps : List Piece) (p q : Party) (old new : List ℕ) → AreCloseTo p old → DiffersInShares p q
+    → GainsTree g width ps p.shares q.shares → GainsTree g width ps old new → AreCloseTo q new
+close_put g width ps p q old new close differs share seen r = record {
+  least = omega (arith, (close r).least, share r, seen r);
+  most = omega (arith, (close r).most, share r, seen r, same_allot p q differs);
+}
+
+-- and where the same is taken from both
+pub close_taken : (g : Grid) (width : ℕ) (ps : List Piece) (p q : Party) (old new : List ℕ) → AreCloseTo p old → DiffersInShares p q
+    → ((r : ℕ) → tree_load g width ps r ≤ share_at r p)
+    → q.shares ≡ without_tree g width ps p.shares → new ≡ without_tree g width ps old → AreCloseTo q new
+close_taken g width ps p q old new close differs had share seen r =
+    let shared : slice_index q.shares r ≡ slice_index p.shares r - tree_load g width ps r =
+    ap (λ (l : List ℕ). slice_index l r) share ∙ without_tree-at g width ps p.shares r in
+    let looked : slice_index new r ≡ slice_index old r - tree_load g width ps r =
+    ap (λ (l : List ℕ). slice_index l r) seen ∙ without_tree-at g width ps old r in
+    record {
+      least = omega (arith, (close r).least, shared, looked);
+      most = omega (arith, (close r).most, (close r).least, shared, looked, had r, same_allot p q differs);
+    }
+
+-- where something was taken there is still room
+pub room_taken : (g : Grid) (width : ℕ) (ps : List Piece) (p q : Party) → HasRoomForSet p → DiffersInShares p q → q.shares ≡ without_tree g width ps p.shares → HasRoomForSet q
+room_taken g width ps p q room differs share r =
+    omega (arith, room r, ap (λ (l : List ℕ). slice_index l r) share ∙ without_tree-at g width ps p.shares r, same_allot p q differs)
+
+-- a route is made of pieces of the grid
+pub route_pieces : (g : Grid) (n : NetSpec) (tree : List Piece) → IsRoute g n tree → ArePieces (size_of g) tree
+route_pieces g n tree route i p short = Allows-IsPiece g route.over (get_or tree i p) (route.inside i p short)
+
+-- and so is a step
+pub step_pieces : (g : Grid) (n : NetSpec) (prices : List ℕ) (tree : List Piece) → IsStepAt g n prices tree → ArePieces (size_of g) tree
+step_pieces g n prices tree step = route_pieces g n tree step.route
+
+-- what is read from a list of the same elements stands there
+pub read_at : {X : Type 0} (xs list : List X) (k : ℕ) (d : X) → list ≡ xs → k < length list → At xs k (get_or list k d)
+read_at xs list k d same within = subst (λ ys. At ys k (get_or list k d)) same (slice_get-get_or list k d within)
+
+-- and so does what was read of the list itself
+pub At-read : {X : Type 0} (xs : List X) (k : ℕ) (x : X) → x ≡ get_or xs k x → k < length xs → At xs k x
+At-read xs k x is within = subst (λ y. At xs k y) (sym is) (slice_get-get_or xs k x within)
+
+-- at each place of a list something stands
+pub stands : {X : Type 0} (xs : List X) (k : ℕ) → k < length xs → (x : X) × At xs k x
+stands [] k within = absurd (omega (arith, within))
+stands (x ∷ xs) k within = (get_or (x ∷ xs) k x, slice_get-get_or (x ∷ xs) k x within)
+
+-- a gain, told of the same things by other names
+pub gains_moved : (g : Grid) (width : ℕ) (ps qs : List Piece) (old old' new : List ℕ) → ps ≡ qs → old ≡ old' → GainsTree g width ps old new → GainsTree g width qs old' new
+gains_moved g width ps qs old old' new set before gains =
+    subst (λ (o : List ℕ). GainsTree g width qs o new) before (subst (λ (x : List Piece). GainsTree g width x old new) set gains)
+
+-- where the load of a set was put on, all stays true of the worker
+pub working_put : (g : Grid) (width : ℕ) (ps : List Piece) (share share' : Holding) (kept kept' : KeptPrices) (labels : TreeLabels) (refreshed : Bool)
+    → share.table.words ≡ entries (grid_of kept) → AreTreeLabels (size_of (grid_of kept)) labels → AreCloseTo share.party (loads_of kept)
+    → DiffersInShares share.party share'.party → GainsTree g width ps share.party.shares share'.party.shares → GainsTree g width ps (loads_of kept) (loads_of kept')
+    → share'.table ≡ share.table → KeepsSetting kept kept' → IsShare share' → IsWorking share' kept' labels refreshed
+working_put g width ps share share' kept kept' labels refreshed words labelled close differs put seen table setting valid = record {
+  words = ap (λ (t : TableId). t.words) table ∙ words ∙ ap entries (sym setting.grid);
+  loaded = kept'.kept.loaded;
+  labelled = subst (λ (x : Grid). AreTreeLabels (size_of x) labels) (sym setting.grid) labelled;
+  share_holds = λ yes. valid;
+  close = λ yes. close_put g width ps share.party share'.party (loads_of kept) (loads_of kept') close differs put seen;
+}

@@ -1,0 +1,15 @@
+pub use Rattle.load_core.specs.Parties
+pub use Rattle.load_core.specs.Soundness
+pub use Rattle.load_table.specs.Holdings
+pub use Rattle.sharing_runs.specs.NetSteps
+pub use Rattle.tree_set.specs.Loads
+pub use Rattle.sharing_runs.specs.Parts
+pub use Rattle.tree_set.specs.Routings
+pub mod Limits
+pub mod Readings
+pub mod TreeLoads
+pub mod Working
+pub mod Workers
+pub mod Phases
+pub mod Whole
+pub mod Settings
