@@ -1,0 +1,9 @@
+pub mod Positions
+pub mod Exchanges
+pub mod RepairNets
+pub mod TurnSteps
+pub mod WorkerSteps
+pub mod PartSteps
+pub mod Splits
+pub mod RoundFacts
+pub mod RoundRuns

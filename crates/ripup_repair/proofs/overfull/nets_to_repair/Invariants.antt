@@ -1,0 +1,15 @@
+use Rattle.std.proofs.Common.{◌≡◌, ◌<◌, ℕ, List, [], length, take, slice_index_or}
+use Rattle.std.specs.List.{filter, range_with_len}
+use Rattle.grid_base.specs.declared.piece.Piece.{Piece}
+use Rattle.tree_set.specs.Loads.{load}
+use Rattle.tree_set.specs.Order.{IsRising}
+use Rattle.sharing_runs.specs.RepairRuns.{holds_overfull}
+use Rattle.ripup_repair.proofs.overfull.nets_to_repair.Given as goal
+
+-- the positions so far
+abbrev pub invariant-loop-position : goal.invariant-loop-position
+invariant-loop-position l = record {
+  found : l.positions.items ≡ filter (λ position. holds_overfull l.design.grid (load l.design.grid l.design.nets l.trees) (slice_index_or l.trees position []))
+      (take l.position (range_with_len 0 (length l.trees)));
+  rising : (k : ℕ) (d : List Piece) → k < l.position → IsRising (slice_index_or l.trees k d);
+}

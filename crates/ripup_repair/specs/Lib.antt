@@ -1,0 +1,7 @@
+pub use Rattle.sharing_runs.specs.Parts
+pub use Rattle.sharing_runs.specs.RepairRuns
+pub mod Exchanged
+pub mod Rounds
+pub mod RepairTurns
+pub mod RepairHistories
+pub mod RoundsDone

@@ -1,0 +1,141 @@
+//! Rounds, one after another.
+
+ghost use Rattle.std.specs.Prelude.{◌≡◌, ◌≤◌, ◌<◌, ℕ, length, slice_index, All, AllPairs, IfOk};
+ghost use Rattle.grid_graph.specs.Grids.{entries};
+ghost use Rattle.grid_graph.specs.Grounds.{AreGrounds};
+ghost use Rattle.edge_prices.specs.Limits.{IsBudget};
+ghost use Rattle.load_core.specs.Parties.{share_at};
+ghost use Rattle.tree_set.specs.Routings.{IsRouting};
+ghost use Rattle.price_workers.specs.Limits.{max_workers};
+ghost use Rattle.sharing_runs.specs.RepairRuns.{routing_overflow};
+ghost use Rattle.ripup_repair.specs.RoundsDone.{AreRoundsDone, HasLoadOf, IsRoundDone};
+ghost use Rattle.ripup_repair.specs.Exchanged.{with_elements};
+
+use crate::exchange::exchange;
+use crate::overfull::nets_to_repair;
+use crate::repaired::Repaired;
+use crate::replaced::Replaced;
+use crate::workers::repair_parts;
+use grid_base::NoMemory;
+use grid_graph::{Design, Ground};
+use load_core::WHOLE_ALLOTMENT;
+use load_table::{LoadTable, Share};
+use price_workers::Gate;
+use std::alloc::Global;
+use std::thread::Threads;
+use tree_set::{Tree, measure_of};
+
+/// At most so many rounds, while there is overflow. Where one of them has less than the least so far, the first of least
+/// overflow is what `trees` and `loads` are left with; else both are left as they were.
+pub(crate) fn repair_rounds<R: Threads + Sync, G: Gate>(
+    rt: &R,
+    alloc: Global,
+    design: &Design,
+    grounds: &[Ground],
+    table: &LoadTable,
+    workers: u32,
+    budget: Option<u64>,
+    gate: &G,
+    share: Share,
+    trees: &mut [Tree],
+    loads: &mut [u64],
+    overflow: u64,
+    least: u64,
+    rounds: u32,
+) -> Result<Repaired, NoMemory>
+    requires grounds { AreGrounds design.now.grid design.now.nets grounds.now }
+    requires words { table.now.words ≡ entries design.now.grid }
+    requires workers { (1 ≤ workers) × (workers ≤ max_workers) }
+    requires budget { IsBudget budget }
+    requires routing { IsRouting design.now.grid design.now.nets trees.old }
+    requires share { HasLoadOf design.now table.now trees.old share }
+    requires loads { length loads.old ≡ entries design.now.grid }
+    requires overflow { overflow ≡ routing_overflow design.now trees.old }
+    ensures done { IfOk result (λ r. AreRoundsDone design.now workers budget rounds table.now share trees.old trees.new loads.old loads.new least r) }
+{
+    if overflow == 0 || rounds == 0 {
+        return Ok(Repaired {
+            share,
+            rounds: 0,
+            least,
+        });
+    }
+    let (share, replaced) = repair_round(
+        rt, alloc, design, grounds, table, workers, budget, gate, share, trees,
+    )?;
+    let overflow = measure_of(alloc, design, trees)?.overflow;
+    if overflow < least {
+        write_shares(&share, 2 * design.grid.size().vertices() + 1, loads);
+    }
+    let later = repair_rounds(
+        rt,
+        alloc,
+        design,
+        grounds,
+        table,
+        workers,
+        budget,
+        gate,
+        share,
+        trees,
+        loads,
+        overflow,
+        least.min(overflow),
+        rounds - 1,
+    )?;
+    if later.least == least {
+        replaced.put_back(trees);
+    }
+    Ok(Repaired {
+        share: later.share,
+        rounds: later.rounds + 1,
+        least: later.least,
+    })
+}
+
+/// One round: the nets that are to be repaired get new sets.
+fn repair_round<R: Threads + Sync, G: Gate>(
+    rt: &R,
+    alloc: Global,
+    design: &Design,
+    grounds: &[Ground],
+    table: &LoadTable,
+    workers: u32,
+    budget: Option<u64>,
+    gate: &G,
+    share: Share,
+    trees: &mut [Tree],
+) -> Result<(Share, Replaced), NoMemory>
+    requires grounds { AreGrounds design.now.grid design.now.nets grounds.now }
+    requires words { table.now.words ≡ entries design.now.grid }
+    requires workers { (1 ≤ workers) × (workers ≤ max_workers) }
+    requires budget { IsBudget budget }
+    requires routing { IsRouting design.now.grid design.now.nets trees.old }
+    requires share { HasLoadOf design.now table.now trees.old share }
+    ensures done { IfOk result (λ r. IsRoundDone design.now workers budget table.now share r.0 trees.old trees.new) }
+    ensures positions { IfOk result (λ r. (All (λ position. position < length trees.old) r.1.positions.items) × (AllPairs (λ position later. position < later) r.1.positions.items)) }
+    ensures sets { IfOk result (λ r. length r.1.sets.items ≡ length r.1.positions.items) }
+    ensures back { IfOk result (λ r. with_elements trees.new r.1.positions.items r.1.sets.items ≡ trees.old) }
+{
+    let positions = nets_to_repair(alloc, design, &share, trees)?;
+    // It is the one share of the table; by this call the proof knows that it has an entry for each word.
+    prove_eq!(share.allotment(), WHOLE_ALLOTMENT);
+    let (share, mut sets) = repair_parts(
+        rt, alloc, design, grounds, table, trees, &positions, workers, budget, gate, share, 0,
+        workers,
+    )?;
+    exchange(trees, &positions, &mut sets);
+    Ok((share, Replaced { positions, sets }))
+}
+
+/// Writes down what a share has of each word.
+fn write_shares(share: &Share, words: u32, loads: &mut [u64])
+    requires words { share.now.table.words ≡ words }
+    requires long { length loads.old ≡ words }
+    ensures shares { (r : ℕ) → r < words → slice_index loads.new r ≡ share_at r share.now.party }
+    ensures long { length loads.new ≡ words }
+{
+    for word in 0..words {
+        loads[word as usize] = share.share_of(word);
+    }
+}
