@@ -30,8 +30,3 @@ few_least s pieces terminals few joins = record {
     only v is =
         let first : is.0 ≡ 0 = omega (arith, is.1, few) in
         subst (λ i. At terminals i (record { 0 = v })) first (slice_get-get_or terminals is.0 (record { 0 = v }) is.1 ∙ ap (λ (x : Vertex). Some x) is.2)
-
--- a label at the root
-pub label_least : (s : Size) (pieces : List (Piece × ℕ)) (terminals : List Vertex) (root : Vertex) (o : Option ℕ) → NoPieceTwice pieces → Joins s (IsAllowed pieces) (InVertices terminals) → At terminals (length terminals - 1) root → IsLabel s pieces terminals (all_but_root terminals) root.0 o → IsLeastWeight s pieces (InVertices terminals) (unwrap_or o 0)
-label_least s pieces terminals root (Some x) once joins at is = least_at_root s pieces terminals root x at is
-label_least s pieces terminals root None once joins at is = absurd (is pieces (record { allowed = λ x in_all. in_all; once = once }) (joins_at_root s (IsAllowed pieces) terminals root at joins))

@@ -1,5 +1,5 @@
 -- A set of pieces of the ground with what each costs.
-use Rattle.std.proofs.Common.{◌≡◌, ℕ, zero, suc, ◌+◌, ◌⊎◌, List, [], ◌∷◌, All, length, map, inl, inr, refl, sym, ◌∙◌, ap, subst, ⊎_elim, arith}
+use Rattle.std.proofs.Common.{◌≡◌, ℕ, zero, suc, ◌+◌, List, [], ◌∷◌, All, length, map, refl, sym, ◌∙◌, ap, subst, ⊎_elim, arith}
 use Rattle.std.specs.List.{Contains, filter}
 use Rattle.std.proofs.Math.Nat.{mul-suc, mul-zero}
 use Rattle.std.proofs.lemmas.List.Sums.{sum_by-cons}
@@ -7,6 +7,7 @@ use Rattle.grid_base.specs.declared.piece.Piece.{Piece}
 use Rattle.grid_base.specs.declared.vertex.Vertex.{Vertex}
 use Rattle.grid_base.specs.Lists.{HasNoRepeats}
 use Rattle.grid_base.specs.Walks.{Joins, InVertices, InPieces, JoinsList}
+use Rattle.grid_base.proofs.Lists.{head_or_rest}
 use Rattle.grid_base.proofs.Walks.{WalkBetween-superset}
 use Rattle.grid_graph.specs.declared.grid.Grid.{Grid}
 use Rattle.grid_graph.specs.declared.ground.Ground.{Ground}
@@ -28,10 +29,6 @@ back : (f : Piece → ℕ) (set : List Piece) → map (λ x. x.0) (with_numbers 
 unfolding with_numbers
 back f [] = refl
 back f (p ∷ set) = ap (λ ps. p ∷ ps) (back f set)
-
-head_or_rest : (x : Piece × ℕ) (rest : List (Piece × ℕ)) (y : Piece × ℕ) → Contains (x ∷ rest) y → (y ≡ x) ⊎ Contains rest y
-head_or_rest x rest y (zero, within, is) = inl (sym is)
-head_or_rest x rest y (suc k, within, is) = inr (k, omega (arith, within), is)
 
 numbered_from : (f : Piece → ℕ) (set : List Piece) (y : Piece × ℕ) → Contains (with_numbers f set) y → Contains set y.0 × (y.1 ≡ f y.0)
 unfolding with_numbers

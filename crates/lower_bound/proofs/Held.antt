@@ -8,7 +8,7 @@ use Rattle.grid_base.specs.Numbers.{vertices}
 use Rattle.shortest_paths.specs.Masks.{single}
 use Rattle.shortest_paths.specs.Sets.{RisesSlowly}
 use Rattle.shortest_paths.proofs.Masks.{parts_sum}
-use Rattle.lower_bound.specs.TableWords.{number_in, IsTable, IsTableThatHolds, SplitHolds}
+use Rattle.lower_bound.specs.TableWords.{table_number, IsTable, IsTableThatHolds, SplitHolds}
 
 pub power_small : (n : ℕ) → n ≤ 4 → 2 ^ n ≤ 16
 power_small zero small = omega arith
@@ -19,9 +19,9 @@ power_small (suc (suc (suc (suc zero)))) small = omega arith
 power_small (suc (suc (suc (suc (suc n))))) small = absurd (omega arith)
 
 pub held : (s : Size) (pieces : List (Piece × ℕ)) (terminals : List Vertex) (rows : List (List ℕ)) → IsTable s terminals rows →
-    ((mask : ℕ) → 0 < mask → mask ≤ length rows → RisesSlowly s pieces (number_in rows mask)) →
-    ((place : ℕ) (v : Vertex) → At terminals place v → single place ≤ length rows → number_in rows (single place) v.0 ≡ 0) →
-    ((one other : ℕ) → 0 < one → one ≤ length rows → 0 < other → other ≤ length rows → SplitHolds (vertices s) (length rows) (number_in rows) one other) → IsTableThatHolds s pieces terminals rows
+    ((mask : ℕ) → 0 < mask → mask ≤ length rows → RisesSlowly s pieces (table_number rows mask)) →
+    ((place : ℕ) (v : Vertex) → At terminals place v → single place ≤ length rows → table_number rows (single place) v.0 ≡ 0) →
+    ((one other : ℕ) → 0 < one → one ≤ length rows → 0 < other → other ≤ length rows → SplitHolds (vertices s) (length rows) (table_number rows) one other) → IsTableThatHolds s pieces terminals rows
 held s pieces terminals rows table steps own splits = record {
   table = table;
   holds = record {

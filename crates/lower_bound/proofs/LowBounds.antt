@@ -11,7 +11,8 @@ use Rattle.grid_base.proofs.Walks.{WalkBetween-sym}
 use Rattle.grid_graph.specs.Weighed.{IsAllowed, WeighsOnlyPieces}
 use Rattle.shortest_paths.specs.Sets.{IsSetOf, weight}
 use Rattle.lower_bound.specs.Moats.{AreMoats}
-use Rattle.lower_bound.specs.NetBounds.{AreHalves, IsNetBound, few_terminals}
+use Rattle.lower_bound.specs.NetBounds.{AreHalves, IsNetBound}
+use Rattle.shortest_paths.specs.Masks.{few_terminals}
 use Rattle.lower_bound.specs.Spread.{IsSpread}
 use Rattle.lower_bound.proofs.Crossing.{moats_within}
 

@@ -1,13 +1,20 @@
 -- Pieces with other weights.
 use Rattle.std.proofs.Common.{◌≡◌, ℕ, suc, ◌+◌, ◌≤◌, List, [], ◌∷◌, map, refl, sym, ap, subst, ⊎_elim, arith}
 use Rattle.std.specs.List.{Contains}
+use Rattle.grid_base.specs.declared.axis.Axis.{Axis}
+use Rattle.grid_base.specs.declared.axis.Axis.TheVariants.{X, Y}
 use Rattle.grid_base.specs.declared.piece.Piece.{Piece}
+use Rattle.grid_base.specs.declared.piece.Piece.TheVariants.{Edge, Via}
 use Rattle.grid_base.specs.declared.size.Size.{Size}
 use Rattle.grid_base.specs.Lists.{HasNoRepeats}
+use Rattle.grid_base.specs.Numbers.{edge_axis}
+use Rattle.grid_base.proofs.Lists.{head_or_rest}
+use Rattle.grid_graph.specs.Flat.{AreLeastOver}
+use Rattle.grid_graph.specs.Floors.{floor_along, floor_of, AreFloors}
+use Rattle.grid_graph.specs.Limits.{max_weight}
 use Rattle.grid_graph.specs.Weighed.{Weighs, NoPieceTwice, WeighsOnlyPieces}
 use Rattle.edge_prices.specs.Limits.{max_price}
 use Rattle.edge_prices.specs.PieceLists.{IsWeightList}
-use Rattle.shortest_paths.proofs.Law.{head_or_rest}
 use Rattle.lower_bound.specs.Raised.{raised, MayBeRaised}
 
 -- what was mapped
@@ -58,3 +65,21 @@ raised_list s pieces extra once inside may small = record {
   inside = λ p at. let old = raised_from pieces extra p at.0 at.1 in inside p (old.before, old.weighs);
   within = λ p k at. let old = raised_from pieces extra p k at in omega (arith, old.sum, may p old.before old.weighs, small);
 }
+
+-- what each piece pays more is a floor of all
+pub raised_under : (s : Size) (pieces : List (Piece × ℕ)) (extra : ℕ) → extra ≤ max_weight → AreLeastOver s (raised pieces extra) (λ _. extra)
+raised_under s pieces extra small = record {
+  below = λ e k weighs. let old = raised_from pieces extra (Edge e) k weighs in omega (arith, old.sum);
+  within = λ e. small;
+}
+
+floor_is : (x : ℕ) (p : Piece) → floor_of (record { along_x = x; along_y = x; via = x }) p ≡ x
+floor_is x (Edge e) = along (edge_axis e.0)
+  where
+    along : (axis : Axis) → floor_along (record { along_x = x; along_y = x; via = x }) axis ≡ x
+    along X = refl
+    along Y = refl
+floor_is x (Via v) = refl
+
+pub raised_floors : (pieces : List (Piece × ℕ)) (extra x : ℕ) → x ≡ extra → AreFloors (record { along_x = x; along_y = x; via = x }) (raised pieces extra)
+raised_floors pieces extra x same p k weighs = let old = raised_from pieces extra p k weighs in omega (arith, old.sum, same, floor_is x p)

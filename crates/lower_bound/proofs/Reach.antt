@@ -10,9 +10,9 @@ use Rattle.grid_base.specs.Numbers.{IsVertex, IsPiece, Connects, start_of, end_o
 use Rattle.grid_base.specs.Walks.{WalkBetween}
 use Rattle.grid_base.proofs.Pieces.{end_of-vertex}
 use Rattle.grid_base.proofs.Walks.{WalkBetween-refl, WalkBetween-trans, WalkBetween-piece, WalkBetween-superset}
+use Rattle.grid_base.proofs.Lists.{head_or_rest}
 use Rattle.grid_graph.specs.Weighed.{IsAllowed, WeighsOnlyPieces}
 use Rattle.shortest_paths.specs.Searches.{HasSet}
-use Rattle.shortest_paths.proofs.Law.{head_or_rest}
 use Rattle.shortest_paths.proofs.Sets.{extended, no_pieces}
 use Rattle.shortest_paths.proofs.Trees.{united}
 

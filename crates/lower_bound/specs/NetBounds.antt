@@ -9,10 +9,7 @@ use Rattle.grid_base.specs.Walks.{InVertices}
 use Rattle.shortest_paths.specs.Sets.{IsLeastWeight, IsEither}
 use Rattle.lower_bound.specs.Moats.{IsWithinDistance}
 use Rattle.lower_bound.specs.Spread.{IsSpread}
-
--- up to so many terminals the bound is their least cost
-abbrev pub few_terminals : ℕ
-few_terminals = 5
+use Rattle.shortest_paths.specs.Masks.{few_terminals}
 
 -- the least cost of joining the terminal at a place to one other terminal
 pub record IsLeastToOther (s : Size) (pieces : List (Piece × ℕ)) (terminals : List Vertex) (place least : ℕ) : Type 0 where

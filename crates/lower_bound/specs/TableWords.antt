@@ -1,29 +1,30 @@
 -- Tables of numbers, and when they hold.
-use Rattle.std.specs.Prelude.{ℕ, ◌≡◌, ◌<◌, ◌≤◌, ◌+◌, ◌-◌, ◌^◌, List, [], length, slice_index, get_or, All}
+use Rattle.std.specs.Prelude.{ℕ, ◌≡◌, ◌<◌, ◌≤◌, ◌+◌, ◌-◌, List, [], length, slice_index, get_or, All}
 use Rattle.grid_base.specs.declared.piece.Piece.{Piece}
 use Rattle.grid_base.specs.declared.size.Size.{Size}
 use Rattle.grid_base.specs.declared.vertex.Vertex.{Vertex}
 use Rattle.grid_base.specs.Numbers.{vertices, Connects}
 use Rattle.grid_graph.specs.Weighed.{Weighs}
 use Rattle.shortest_paths.specs.Masks.{all_but_root, AreParts}
+use Rattle.shortest_paths.specs.Stamped.{far}
 use Rattle.shortest_paths.specs.Tables.{IsHoldingTable}
 
 -- the greatest number of a table
-abbrev pub max_number : ℕ
-max_number = 2 ^ 61
+abbrev pub max_table_number : ℕ
+max_table_number = far
 
 -- the row of a mask: there is one for each mask from 1 on
-abbrev pub row_of : List (List ℕ) → ℕ → List ℕ
-row_of rows mask = get_or rows (mask - 1) []
+abbrev pub mask_row : List (List ℕ) → ℕ → List ℕ
+mask_row rows mask = get_or rows (mask - 1) []
 
 -- the number of a mask at a vertex
-abbrev pub number_in : List (List ℕ) → ℕ → ℕ → ℕ
-number_in rows mask v = slice_index (row_of rows mask) v
+abbrev pub table_number : List (List ℕ) → ℕ → ℕ → ℕ
+table_number rows mask v = slice_index (mask_row rows mask) v
 
 -- a row has a number for each vertex
 pub record IsRow (count : ℕ) (row : List ℕ) : Type 0 where
   pub each : length row ≡ count
-  pub within : All (λ n. n ≤ max_number) row
+  pub within : All (λ n. n ≤ max_table_number) row
 
 -- there is a number for each vertex in each row
 abbrev pub IsFilled : Size → List (List ℕ) → Type 0
@@ -46,4 +47,4 @@ SplitHolds count last number one other =
 -- rows are a table that holds
 pub record IsTableThatHolds (s : Size) (pieces : List (Piece × ℕ)) (terminals : List Vertex) (rows : List (List ℕ)) : Type 0 where
   pub table : IsTable s terminals rows
-  pub holds : IsHoldingTable s pieces terminals (all_but_root terminals) (number_in rows)
+  pub holds : IsHoldingTable s pieces terminals (all_but_root terminals) (table_number rows)

@@ -1,10 +1,13 @@
 //! Weights that are raised.
 
+ghost use Rattle.std.specs.Prelude.{◌≤◌};
+ghost use Rattle.grid_graph.specs.Flat.{AreLeastOver};
+ghost use Rattle.grid_graph.specs.Limits.{max_weight};
 ghost use Rattle.edge_prices.specs.PieceLists.{IsWeightList};
 ghost use Rattle.lower_bound.specs.Raised.{raised};
 
-use grid_base::Piece;
-use grid_graph::{MAX_WEIGHT, Weights};
+use grid_base::{Edge, Piece};
+use grid_graph::{FlooredWeights, Floors, MAX_WEIGHT, Weights};
 
 /// The pieces of other weights, each weighing so much more: what a wirelength's price adds to each piece.
 #[derive(Drop)]
@@ -12,6 +15,8 @@ pub struct Extra<W: Weights> {
     weights: W,
     piece: u32,
     ghost listed: { IsWeightList (W.size weights) (raised (W.pieces weights) piece) },
+    ghost small: { piece ≤ max_weight },
+    ghost under: { AreLeastOver (W.size weights) (raised (W.pieces weights) piece) (λ _. piece) },
 }
 
 impl<W: Weights> Extra<W> {
@@ -49,5 +54,24 @@ impl<W: Weights> Weights for Extra<W> {
 
     fn weight(&self, p: Piece) -> u64 {
         (self.weights.weight(p) + u64::from(self.piece)).min(MAX_WEIGHT)
+    }
+}
+
+impl<W: Weights> FlooredWeights for Extra<W> {
+    ghost over = { λ x _. x.piece };
+
+    ghost under = { λ x. x.under };
+
+    fn floors(&self) -> Floors {
+        let floor = u64::from(self.piece);
+        Floors {
+            along_x: floor,
+            along_y: floor,
+            via: floor,
+        }
+    }
+
+    fn least_over(&self, _e: Edge) -> u64 {
+        u64::from(self.piece)
     }
 }

@@ -8,8 +8,9 @@ ghost use Rattle.grid_base.specs.Numbers.{IsVertex};
 ghost use Rattle.grid_base.specs.Walks.{Joins, InVertices};
 ghost use Rattle.grid_graph.specs.Weighed.{IsAllowed};
 ghost use Rattle.shortest_paths.specs.Masks as words;
+ghost use Rattle.shortest_paths.specs.Masks.{few_terminals};
 ghost use Rattle.shortest_paths.specs.Sets.{IsSetOf, weight};
-ghost use Rattle.lower_bound.specs.TableWords.{number_in, IsTableThatHolds};
+ghost use Rattle.lower_bound.specs.TableWords.{table_number, IsTableThatHolds};
 
 use crate::own::are_own;
 use crate::rising::rows_rise;
@@ -21,7 +22,7 @@ use grid_graph::Weights;
 /// The mask of all terminals but the last one. There are as many masks as it says.
 pub(crate) fn all_but_root(terminals: &[Vertex]) -> u32
     requires some { 1 ≤ length terminals.now }
-    requires few { length terminals.now ≤ 5 }
+    requires few { length terminals.now ≤ few_terminals }
     ensures { result ≡ words.all_but_root terminals.now }
 {
     (1 << (terminals.len() - 1)) - 1
@@ -32,12 +33,12 @@ pub(crate) fn all_but_root(terminals: &[Vertex]) -> u32
 pub fn table_holds<W: Weights>(weights: &W, size: Size, terminals: &[Vertex], table: &Table) -> bool
     requires size { size ≡ W.size weights.now }
     requires some { 1 ≤ length terminals.now }
-    requires few { length terminals.now ≤ 5 }
+    requires few { length terminals.now ≤ few_terminals }
     requires vertices { All (λ v. IsVertex size v.0) terminals.now }
     ensures holds { IsTrue result ↔ IsTableThatHolds size (W.pieces weights.now) terminals.now table.now.rows }
     ensures bound { IsTrue result → 2 ≤ length terminals.now → (root : Vertex) → At terminals.now (length terminals.now - 1) root
         → (set : List (Piece × ℕ)) → IsSetOf (W.pieces weights.now) set → Joins size (IsAllowed set) (InVertices terminals.now)
-        → number_in table.now.rows (words.all_but_root terminals.now) root.0 ≤ weight set }
+        → table_number table.now.rows (words.all_but_root terminals.now) root.0 ≤ weight set }
 {
     let last = all_but_root(terminals);
     if !table.rows.are(last as usize, size.vertices() as usize) {

@@ -4,33 +4,35 @@ ghost use Rattle.std.specs.Prelude.{◌≡◌, ◌≤◌, ℕ, All, length};
 ghost use Rattle.grid_base.specs.Numbers.{IsVertex};
 ghost use Rattle.grid_base.specs.Walks.{Joins, InVertices};
 ghost use Rattle.grid_graph.specs.Weighed.{IsAllowed};
-ghost use Rattle.shortest_paths.specs.LabelWords.{size_of, masks_of};
+ghost use Rattle.shortest_paths.specs.LabelWords.{labels_size, masks_of};
+ghost use Rattle.shortest_paths.specs.Masks.{rooted_masks, few_terminals};
 ghost use Rattle.shortest_paths.specs.Sets.{IsLeastWeight};
 
-use crate::holding::all_but_root;
 use grid_base::Vertex;
-use grid_graph::Weights;
+use grid_graph::FlooredWeights;
 use shortest_paths::Labels;
+use steiner_exact::{BoxFamily, least_at_root, tree_guess};
 
-/// The least weight of a set of allowed pieces that joins at most five terminals.
-pub(crate) fn least_weight<W: Weights>(
+/// The least weight of a set of allowed pieces that joins at most five terminals. The search begins under the weight of a
+/// tree; where there is no memory for one, it takes a few more turns.
+pub(crate) fn least_weight<W: FlooredWeights>(
     weights: &W,
     terminals: &[Vertex],
     labels: &mut Labels,
 ) -> u64
-    requires labels { size_of labels.old ≡ W.size weights.now }
-    requires room { 15 ≤ masks_of labels.old }
-    requires few { length terminals.now ≤ 5 }
+    requires labels { labels_size labels.old ≡ W.size weights.now }
+    requires room { rooted_masks ≤ masks_of labels.old }
+    requires few { length terminals.now ≤ few_terminals }
     requires vertices { All (λ v. IsVertex (W.size weights.now) v.0) terminals.now }
     requires joined { Joins (W.size weights.now) (IsAllowed (W.pieces weights.now)) (InVertices terminals.now) }
     ensures least { IsLeastWeight (W.size weights.now) (W.pieces weights.now) (InVertices terminals.now) result }
-    ensures size { size_of labels.new ≡ size_of labels.old }
+    ensures size { labels_size labels.new ≡ labels_size labels.old }
     ensures masks { masks_of labels.new ≡ masks_of labels.old }
 {
     if terminals.len() < 2 {
         return 0;
     }
-    labels.subsets(weights, terminals);
-    let root = terminals[terminals.len() - 1];
-    labels.label(all_but_root(terminals), root).unwrap_or(0)
+    let guess = tree_guess(labels.allocator(), weights, terminals, labels).unwrap_or(0);
+    let family = BoxFamily::new(weights, labels.size(), terminals);
+    least_at_root(weights, &family, terminals, guess, labels)
 }

@@ -10,29 +10,50 @@
 //! }
 //! ```
 //!
-//! It stands on `shortest_paths` for searches and the law of tables, on `edge_prices` for costs, and on `grid_graph` and
-//! `grid_base`. No call takes memory. Promised: the net bound is exactly that of its definition, which ranges over all
-//! subsets of the net's ground, and no subset that joins the terminals costs less.
+//! Where a piece alone costs nothing, vias do not, and the bound is that of the net's tiles. `ClassCosts` keeps what nets of
+//! one width and ground pay between tiles, with labels of the flat grid:
+//!
+//! ```text
+//! let mut costs = ClassCosts::new(alloc, &grid, net.width, ground, &prices)?;
+//! let mut labels = Labels::new(alloc, costs.size(), 15)?;
+//! let least = costs.net_bound(alloc, &net, &mut labels)?;
+//! ```
+//!
+//! Tiles that edges without cost join have one of them to stand for all, and least costs of a few tiles are kept, so a price
+//! list that is 0 nearly everywhere takes no longer than another.
+//!
+//! It stands on `shortest_paths` for searches and the law of tables, on `steiner_exact` for tables under bounds, on
+//! `edge_prices` for costs, and on `grid_graph` and `grid_base`. Want of memory alone is a free answer. Promised: the net bound
+//! is exactly that of its definition, which ranges over all subsets of the net's ground, and no subset that joins the terminals
+//! costs less.
 #![tactic(auto)]
 
 mod bounds;
+mod class_bounds;
+mod class_costs;
 mod extra;
 mod halves;
 mod holding;
+mod kept_costs;
+mod kept_halves;
+mod kept_least;
 mod laws;
 mod least;
 mod limits;
 mod moats;
 mod own;
 mod radii;
+mod representatives;
 mod rising;
 mod room;
 mod rows;
 mod splitting;
 mod spread;
 mod table;
+mod tile_costs;
 
 pub use bounds::net_bound;
+pub use class_costs::ClassCosts;
 pub use extra::Extra;
 pub use holding::table_holds;
 pub use laws::{moats_bound_sets, net_bounds_are_low};
@@ -43,6 +64,7 @@ pub use room::moats_hold;
 pub use rows::Rows;
 pub use spread::spread_five;
 pub use table::Table;
+pub use tile_costs::TileCosts;
 
 #[cfg(test)]
 mod tests;

@@ -3,7 +3,7 @@
 ghost use Rattle.std.specs.Prelude.{◌≡◌, ◌<◌, ◌≤◌, ◌↔◌, ℕ, IsTrue, length};
 ghost use Rattle.grid_base.specs.Numbers.{IsVertex, start_of, vertices};
 ghost use Rattle.grid_base.specs.declared.piece.Piece.{Piece};
-ghost use Rattle.lower_bound.specs.TableWords.{number_in, IsFilled, RisesAlong};
+ghost use Rattle.lower_bound.specs.TableWords.{table_number, IsFilled, RisesAlong};
 ghost use Rattle.shortest_paths.specs.Sets.{RisesSlowly};
 
 use crate::rows::Rows;
@@ -17,7 +17,7 @@ fn rises_along<W: Weights>(weights: &W, size: Size, rows: &Rows, mask: u32, piec
     requires mask { 0 < mask }
     requires row { mask ≤ length rows.now }
     requires filled { IsFilled size rows.now }
-    ensures { IsTrue result ↔ RisesAlong size (W.pieces weights.now) (number_in rows.now mask) piece }
+    ensures { IsTrue result ↔ RisesAlong size (W.pieces weights.now) (table_number rows.now mask) piece }
 {
     if !weights.allows(piece) {
         return true;
@@ -34,7 +34,7 @@ fn rises_from<W: Weights>(weights: &W, size: Size, rows: &Rows, mask: u32, v: Ve
     requires row { mask ≤ length rows.now }
     requires filled { IsFilled size rows.now }
     requires vertex { IsVertex size v.0 }
-    ensures { IsTrue result ↔ ((p : Piece) → start_of p ≡ v.0 → RisesAlong size (W.pieces weights.now) (number_in rows.now mask) p) }
+    ensures { IsTrue result ↔ ((p : Piece) → start_of p ≡ v.0 → RisesAlong size (W.pieces weights.now) (table_number rows.now mask) p) }
 {
     let to_col = Piece::Edge(Edge::along(v, Axis::X));
     let to_row = Piece::Edge(Edge::along(v, Axis::Y));
@@ -53,7 +53,7 @@ fn row_rises<W: Weights>(weights: &W, size: Size, rows: &Rows, mask: u32) -> boo
     requires mask { 0 < mask }
     requires row { mask ≤ length rows.now }
     requires filled { IsFilled size rows.now }
-    ensures { IsTrue result ↔ RisesSlowly size (W.pieces weights.now) (number_in rows.now mask) }
+    ensures { IsTrue result ↔ RisesSlowly size (W.pieces weights.now) (table_number rows.now mask) }
 {
     for v in 0..size.vertices() {
         if !rises_from(weights, size, rows, mask, Vertex(v)) {
@@ -68,7 +68,7 @@ pub(crate) fn rows_rise<W: Weights>(weights: &W, size: Size, rows: &Rows, last: 
     requires size { size ≡ W.size weights.now }
     requires last { last ≡ length rows.now }
     requires filled { IsFilled size rows.now }
-    ensures { IsTrue result ↔ ((mask : ℕ) → 0 < mask → mask ≤ last → RisesSlowly size (W.pieces weights.now) (number_in rows.now mask)) }
+    ensures { IsTrue result ↔ ((mask : ℕ) → 0 < mask → mask ≤ last → RisesSlowly size (W.pieces weights.now) (table_number rows.now mask)) }
 {
     for place in 0..last {
         if !row_rises(weights, size, rows, place + 1) {

@@ -6,7 +6,7 @@ ghost use Rattle.grid_base.specs.declared.piece.Piece.{Piece};
 ghost use Rattle.grid_base.specs.Numbers.{IsVertex};
 ghost use Rattle.grid_base.specs.Walks.{Joins, InVertices};
 ghost use Rattle.grid_graph.specs.Weighed.{IsAllowed};
-ghost use Rattle.shortest_paths.specs.LabelWords.{size_of, masks_of};
+ghost use Rattle.shortest_paths.specs.LabelWords.{labels_size, masks_of};
 ghost use Rattle.shortest_paths.specs.Sets.{IsSetOf, weight};
 ghost use Rattle.lower_bound.specs.Moats.{AreMoats};
 ghost use Rattle.lower_bound.specs.MoatWords.{HasRoom, IsApart};
@@ -47,7 +47,7 @@ fn has_room(
     requires place { place < length terminals.now }
     requires other { other < length terminals.now }
     requires each { length radii.now ≡ length terminals.now }
-    requires vertices { All (λ v. IsVertex (size_of labels.now) v.0) terminals.now }
+    requires vertices { All (λ v. IsVertex (labels_size labels.now) v.0) terminals.now }
     ensures { IsTrue result ↔ HasRoom labels.now terminals.now radii.now place other }
 {
     if other == place {
@@ -64,7 +64,7 @@ fn has_room(
 fn has_room_everywhere(labels: &Labels, terminals: &[Vertex], radii: &[u64], place: usize) -> bool
     requires place { place < length terminals.now }
     requires each { length radii.now ≡ length terminals.now }
-    requires vertices { All (λ v. IsVertex (size_of labels.now) v.0) terminals.now }
+    requires vertices { All (λ v. IsVertex (labels_size labels.now) v.0) terminals.now }
     ensures { IsTrue result ↔ ((other : ℕ) → other < length terminals.now → HasRoom labels.now terminals.now radii.now place other) }
 {
     for other in 0..terminals.len() {
@@ -86,9 +86,9 @@ fn is_apart<W: Weights>(
     requires place { place < length terminals.now }
     requires each { length radii.now ≡ length terminals.now }
     requires vertices { All (λ v. IsVertex (W.size weights.now) v.0) terminals.now }
-    requires labels { size_of labels.old ≡ W.size weights.now }
+    requires labels { labels_size labels.old ≡ W.size weights.now }
     ensures apart { IsTrue result ↔ IsApart (W.size weights.now) (W.pieces weights.now) terminals.now radii.now place }
-    ensures size { size_of labels.new ≡ size_of labels.old }
+    ensures size { labels_size labels.new ≡ labels_size labels.old }
     ensures masks { masks_of labels.new ≡ masks_of labels.old }
 {
     labels.distances(weights, terminals[place], terminals);
@@ -106,11 +106,11 @@ pub fn moats_hold<W: Weights>(
 ) -> bool
     requires size { size ≡ W.size weights.now }
     requires vertices { All (λ v. IsVertex size v.0) terminals.now }
-    requires labels { size_of labels.old ≡ size }
+    requires labels { labels_size labels.old ≡ size }
     ensures holds { IsTrue result ↔ AreMoats size (W.pieces weights.now) terminals.now moats.now.radii }
     ensures bound { IsTrue result → 2 ≤ length terminals.now → (set : List (Piece × ℕ)) → IsSetOf (W.pieces weights.now) set
         → Joins size (IsAllowed set) (InVertices terminals.now) → sum moats.now.radii ≤ weight set }
-    ensures size { size_of labels.new ≡ size_of labels.old }
+    ensures size { labels_size labels.new ≡ labels_size labels.old }
     ensures masks { masks_of labels.new ≡ masks_of labels.old }
 {
     let radii = moats.radii.list();

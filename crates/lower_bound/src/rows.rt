@@ -2,7 +2,7 @@
 
 ghost use Rattle.std.specs.Prelude.{◌≡◌, ◌<◌, ◌≤◌, ◌↔◌, ℕ, List, All, IsTrue, length};
 ghost use Rattle.lower_bound.specs.RowLists.{lists_of};
-ghost use Rattle.lower_bound.specs.TableWords.{row_of, number_in, IsRow, max_number};
+ghost use Rattle.lower_bound.specs.TableWords.{mask_row, table_number, IsRow, max_table_number};
 
 use crate::limits::MAX_NUMBER;
 use grid_base::Vertex;
@@ -60,8 +60,8 @@ impl Rows {
     pub(crate) fn number(&self, mask: u32, v: Vertex) -> u64
         requires mask { 0 < mask }
         requires row { mask ≤ length self.now }
-        requires vertex { v.0 < length (row_of self.now mask) }
-        ensures { result ≡ number_in self.now mask v.0 }
+        requires vertex { v.0 < length (mask_row self.now mask) }
+        ensures { result ≡ table_number self.now mask v.0 }
     {
         self.rows[mask as usize - 1][v.0 as usize]
     }

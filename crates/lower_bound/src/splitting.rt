@@ -3,7 +3,7 @@
 ghost use Rattle.std.specs.Prelude.{◌≡◌, ◌<◌, ◌≤◌, ◌+◌, ◌↔◌, ℕ, IsTrue, length};
 ghost use Rattle.grid_base.specs.Numbers.{vertices};
 ghost use Rattle.shortest_paths.specs.Masks.{AreParts};
-ghost use Rattle.lower_bound.specs.TableWords.{number_in, IsFilled, SplitHolds};
+ghost use Rattle.lower_bound.specs.TableWords.{table_number, IsFilled, SplitHolds};
 
 use crate::rows::Rows;
 use grid_base::{Size, Vertex};
@@ -24,7 +24,7 @@ fn row_is_within(size: Size, rows: &Rows, one: u32, other: u32) -> bool
     requires few { length rows.now < 16 }
     requires last { one + other ≤ length rows.now }
     requires filled { IsFilled size rows.now }
-    ensures { IsTrue result ↔ ((v : ℕ) → v < vertices size → number_in rows.now (one + other) v ≤ number_in rows.now one v + number_in rows.now other v) }
+    ensures { IsTrue result ↔ ((v : ℕ) → v < vertices size → table_number rows.now (one + other) v ≤ table_number rows.now one v + table_number rows.now other v) }
 {
     for v in 0..size.vertices() {
         let v = Vertex(v);
@@ -41,7 +41,7 @@ fn split_holds(size: Size, rows: &Rows, one: u32, other: u32) -> bool
     requires others { (0 < other) × (other ≤ length rows.now) }
     requires few { length rows.now < 16 }
     requires filled { IsFilled size rows.now }
-    ensures { IsTrue result ↔ SplitHolds (vertices size) (length rows.now) (number_in rows.now) one other }
+    ensures { IsTrue result ↔ SplitHolds (vertices size) (length rows.now) (table_number rows.now) one other }
 {
     if (one + other) as usize > rows.len() {
         return true;
@@ -57,7 +57,7 @@ fn splits_hold_with(size: Size, rows: &Rows, one: u32) -> bool
     requires some { (0 < one) × (one ≤ length rows.now) }
     requires few { length rows.now < 16 }
     requires filled { IsFilled size rows.now }
-    ensures { IsTrue result ↔ ((other : ℕ) → 0 < other → other ≤ length rows.now → SplitHolds (vertices size) (length rows.now) (number_in rows.now) one other) }
+    ensures { IsTrue result ↔ ((other : ℕ) → 0 < other → other ≤ length rows.now → SplitHolds (vertices size) (length rows.now) (table_number rows.now) one other) }
 {
     for place in 0..rows.len() as u32 {
         if !split_holds(size, rows, one, place + 1) {
@@ -71,7 +71,7 @@ fn splits_hold_with(size: Size, rows: &Rows, one: u32) -> bool
 pub(crate) fn splits_hold(size: Size, rows: &Rows) -> bool
     requires few { length rows.now < 16 }
     requires filled { IsFilled size rows.now }
-    ensures { IsTrue result ↔ ((one other : ℕ) → 0 < one → one ≤ length rows.now → 0 < other → other ≤ length rows.now → SplitHolds (vertices size) (length rows.now) (number_in rows.now) one other) }
+    ensures { IsTrue result ↔ ((one other : ℕ) → 0 < one → one ≤ length rows.now → 0 < other → other ≤ length rows.now → SplitHolds (vertices size) (length rows.now) (table_number rows.now) one other) }
 {
     for place in 0..rows.len() as u32 {
         if !splits_hold_with(size, rows, place + 1) {

@@ -1,7 +1,8 @@
 //! The spread of terminals.
 
-ghost use Rattle.std.specs.Prelude.{◌≡◌, ◌<◌, ◌≤◌, ◌^◌, ℕ, List, All, length, take, slice_get, min};
+ghost use Rattle.std.specs.Prelude.{◌≡◌, ◌<◌, ◌≤◌, ℕ, List, All, length, take, slice_get, min};
 ghost use Rattle.grid_base.specs.declared.vertex.Vertex.{Vertex};
+ghost use Rattle.grid_base.specs.Limits.{max_vertices};
 ghost use Rattle.grid_base.specs.Numbers as numbers;
 ghost use Rattle.grid_base.specs.Numbers.{IsVertex, place_at};
 ghost use Rattle.lower_bound.specs.Spread as spread;
@@ -14,8 +15,8 @@ const MOST_CHOSEN: usize = 5;
 
 /// The grid distance of two places.
 fn distance(one: Place, other: Place) -> u32
-    requires one { (one.col < 2 ^ 23) × (one.row < 2 ^ 23) × (one.layer < 2 ^ 23) }
-    requires other { (other.col < 2 ^ 23) × (other.row < 2 ^ 23) × (other.layer < 2 ^ 23) }
+    requires one { (one.col < max_vertices) × (one.row < max_vertices) × (one.layer < max_vertices) }
+    requires other { (other.col < max_vertices) × (other.row < max_vertices) × (other.layer < max_vertices) }
     ensures { result ≡ numbers.distance one other }
 {
     one.col.abs_diff(other.col) + one.row.abs_diff(other.row) + one.layer.abs_diff(other.layer)

@@ -5,12 +5,11 @@ ghost use Rattle.grid_base.specs.Numbers.{IsVertex};
 ghost use Rattle.grid_graph.specs.Grids as grids;
 ghost use Rattle.grid_graph.specs.Grids.{IsNetWidth};
 ghost use Rattle.edge_prices.specs.Costings.{costed_size};
-ghost use Rattle.edge_prices.specs.Weights.{AreEdgePrices};
-ghost use Rattle.shortest_paths.specs.LabelWords.{size_of};
+ghost use Rattle.shortest_paths.specs.LabelWords.{labels_size};
 
 use super::*;
-use edge_prices::{Costing, MAX_PRICE};
-use grid_base::{Edge, NoMemory, Size, Vertex};
+use edge_prices::{Costing, are_edge_prices};
+use grid_base::{NoMemory, Size, Vertex};
 use grid_graph::{Grid, GridParts, Ground, MAX_DEMAND};
 use shortest_paths::Labels;
 use std::alloc::Global;
@@ -55,23 +54,6 @@ fn fits_width(grid: &Grid, width: u32) -> bool
 {
     for layer in 0..grid.size().layers() {
         if width + grid.spacing(layer) > MAX_DEMAND {
-            return false;
-        }
-    }
-    true
-}
-
-/// Whether these are prices of the edges alone.
-fn are_edge_prices(grid: &Grid, prices: &[u32]) -> bool
-    ensures { IsTrue result → AreEdgePrices grid.now prices.now }
-{
-    let edges = 2 * grid.size().vertices();
-    if prices.len() != edges as usize {
-        return false;
-    }
-    for e in 0..edges {
-        let price = prices[e as usize];
-        if price > MAX_PRICE || (price > 0 && grid.capacity(Edge(e)) == 0) {
             return false;
         }
     }

@@ -1,7 +1,7 @@
 use Rattle.std.proofs.Common.{◌≡◌, ◌-◌, length, All, refl, ◌∙◌, subst, arith}
 use Rattle.shortest_paths.specs.Masks.{all_but_root}
 use Rattle.shortest_paths.proofs.Roots.{holds_at_root}
-use Rattle.lower_bound.specs.TableWords.{number_in, IsRow, IsTable}
+use Rattle.lower_bound.specs.TableWords.{table_number, IsRow, IsTable}
 use Rattle.lower_bound.proofs.Held.{held, power_small}
 use Rattle.lower_bound.proofs.holding.table_holds.Goals as goal
 
@@ -31,4 +31,4 @@ returns-clause-holds g c =
 pub returns-clause-bound : goal.returns-clause-bound
 returns-clause-bound g c holding_is two root at set is joins =
     let holding = (returns-clause-holds g c).0 holding_is in
-    holds_at_root c.args.size (g.W.Weights.pieces c.args.weights.now) c.args.terminals.now (number_in c.args.table.now.rows) set root holding.holds two at is joins
+    holds_at_root c.args.size (g.W.Weights.pieces c.args.weights.now) c.args.terminals.now (table_number c.args.table.now.rows) set root holding.holds two at is joins

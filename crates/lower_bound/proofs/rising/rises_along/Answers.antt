@@ -4,7 +4,7 @@ use Rattle.std.proofs.lemmas.Bool.Decides.{nat_tests}
 use Rattle.grid_base.specs.declared.size.Size.{Size}
 use Rattle.grid_base.specs.Numbers.{IsPiece, start_of, end_of}
 use Rattle.grid_graph.specs.Weighed.{IsAllowed, Weighs}
-use Rattle.lower_bound.specs.TableWords.{number_in}
+use Rattle.lower_bound.specs.TableWords.{table_number}
 use Rattle.lower_bound.proofs.Along.{rises_where, rises_gives}
 use Rattle.lower_bound.proofs.rising.rises_along.Goals as goal
 
@@ -17,7 +17,7 @@ pub returns : goal.returns
 returns g c =
     let s = c.args.size in
     let pieces = g.W.Weights.pieces c.args.weights.now in
-    let D = number_in c.args.rows.now c.args.mask in
+    let D = table_number c.args.rows.now c.args.mask in
     let p = c.args.piece in
     let allowed : IsAllowed pieces p = c.if-not-allows.ensures.0 refl in
     let is = subst (λ (s : Size). IsPiece s p) (sym c.requires.size) (g.met.W.Weights.inside c.args.weights.now p allowed) in

@@ -3,7 +3,7 @@ use Rattle.grid_base.specs.declared.edge.Edge.{Edge as EdgeNumber}
 use Rattle.grid_base.specs.declared.piece.Piece.{Piece}
 use Rattle.grid_base.specs.declared.piece.Piece.TheVariants.{Edge}
 use Rattle.grid_base.specs.Numbers.{to_next_layer}
-use Rattle.lower_bound.specs.TableWords.{number_in, RisesAlong}
+use Rattle.lower_bound.specs.TableWords.{table_number, RisesAlong}
 use Rattle.lower_bound.proofs.Along.{from_vertex}
 use Rattle.lower_bound.proofs.rising.rises_from.Goals as goal
 
@@ -15,7 +15,7 @@ returns-then-not-rises_along-2 g c = (λ no. absurd (cc no), λ all. c.if-not-ri
 
 pub returns : goal.returns
 returns g c =
-    let R : Piece → Type 0 = RisesAlong c.args.size (g.W.Weights.pieces c.args.weights.now) (number_in c.args.rows.now c.args.mask) in
+    let R : Piece → Type 0 = RisesAlong c.args.size (g.W.Weights.pieces c.args.weights.now) (table_number c.args.rows.now c.args.mask) in
     let v = c.args.v.0 in (
       λ last. from_vertex R v
           (subst (λ (e : EdgeNumber). R (Edge e)) c.along.ensures (c.if-not-rises_along.ensures.0 refl))

@@ -1,7 +1,7 @@
 use Rattle.std.proofs.Common.{◌≡◌, refl, arith}
 use Rattle.grid_base.specs.declared.piece.Piece.{Piece}
 use Rattle.grid_base.specs.Numbers.{start_of}
-use Rattle.lower_bound.specs.TableWords.{number_in, RisesAlong}
+use Rattle.lower_bound.specs.TableWords.{table_number, RisesAlong}
 use Rattle.lower_bound.proofs.Along.{slowly, up_to}
 use Rattle.lower_bound.proofs.rising.row_rises.Goals as goal
 
@@ -10,11 +10,11 @@ returns-then-not-rises_from g c = (λ no. absurd (cc no), λ slow. c.if-not-rise
 
 pub loop-v-preserved : goal.loop-v-preserved
 loop-v-preserved g c =
-    up_to (λ v. (p : Piece) → start_of p ≡ v → RisesAlong c.args.size (g.W.Weights.pieces c.args.weights.now) (number_in c.args.rows.now c.args.mask) p) c.loop-v.v c.loop-v.invariant (c.if-not-rises_from.ensures.0 refl)
+    up_to (λ v. (p : Piece) → start_of p ≡ v → RisesAlong c.args.size (g.W.Weights.pieces c.args.weights.now) (table_number c.args.rows.now c.args.mask) p) c.loop-v.v c.loop-v.invariant (c.if-not-rises_from.ensures.0 refl)
 
 pub returns : goal.returns
 returns g c = (
-  λ yes. slowly c.args.size (g.W.Weights.pieces c.args.weights.now) (number_in c.args.rows.now c.args.mask)
+  λ yes. slowly c.args.size (g.W.Weights.pieces c.args.weights.now) (table_number c.args.rows.now c.args.mask)
       (λ v is. c.loop-v.invariant v (omega (arith, is, c.loop-v-test.false, c.vertices-v-end.ensures))),
   λ slow. refl,
 )

@@ -1,7 +1,7 @@
 use Rattle.std.proofs.Common.{◌+◌, ◌≤◌, refl, sym, subst, arith}
 use Rattle.shortest_paths.specs.Masks.{AreParts}
 use Rattle.shortest_paths.proofs.Masks.{parts_sum}
-use Rattle.lower_bound.specs.TableWords.{number_in}
+use Rattle.lower_bound.specs.TableWords.{table_number}
 use Rattle.lower_bound.proofs.splitting.split_holds.Goals as goal
 
 pub returns-then-one-other : goal.returns-then-one-other
@@ -12,7 +12,7 @@ returns-then-not-are_parts c = (λ yes mask v parts within low. absurd (cc (c.if
 
 pub returns : goal.returns
 returns c =
-    let number = number_in c.args.rows.now in
+    let number = table_number c.args.rows.now in
     let one = c.args.one in
     let other = c.args.other in (
       λ is mask v parts within low. subst (λ m. number m v ≤ number one v + number other v) (parts_sum one other mask parts) (c.row_is_within.ensures.0 is v low),

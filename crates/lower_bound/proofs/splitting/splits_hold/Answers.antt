@@ -1,7 +1,7 @@
 use Rattle.std.proofs.Common.{◌+◌, ◌<◌, ◌≤◌, length, refl, sym, subst, ⊎_elim, arith}
 use Rattle.std.proofs.lemmas.Bool.{cases_eq}
 use Rattle.grid_base.specs.Numbers.{vertices}
-use Rattle.lower_bound.specs.TableWords.{number_in, SplitHolds}
+use Rattle.lower_bound.specs.TableWords.{table_number, SplitHolds}
 use Rattle.lower_bound.proofs.splitting.splits_hold.Goals as goal
 
 pub returns-then-not-splits_hold_with : goal.returns-then-not-splits_hold_with
@@ -9,7 +9,7 @@ returns-then-not-splits_hold_with c = (λ no. absurd (cc no), λ all. c.if-not-s
 
 pub loop-place-preserved : goal.loop-place-preserved
 loop-place-preserved c one other some low = ⊎_elim
-    (λ last. subst (λ m. 0 < other → other ≤ length c.args.rows.now → SplitHolds (vertices c.args.size) (length c.args.rows.now) (number_in c.args.rows.now) m other) (sym last) (c.if-not-splits_hold_with.ensures.0 refl other))
+    (λ last. subst (λ m. 0 < other → other ≤ length c.args.rows.now → SplitHolds (vertices c.args.size) (length c.args.rows.now) (table_number c.args.rows.now) m other) (sym last) (c.if-not-splits_hold_with.ensures.0 refl other))
     (λ before. c.loop-place.invariant one other some (omega (arith, low, before)))
     (cases_eq one (c.loop-place.place + 1))
 

@@ -1,7 +1,7 @@
 use Rattle.std.proofs.Common.{◌+◌, length, refl, sym, subst, ⊎_elim, arith}
 use Rattle.std.proofs.lemmas.Bool.{cases_eq}
 use Rattle.grid_base.specs.Numbers.{vertices}
-use Rattle.lower_bound.specs.TableWords.{number_in, SplitHolds}
+use Rattle.lower_bound.specs.TableWords.{table_number, SplitHolds}
 use Rattle.lower_bound.proofs.splitting.splits_hold_with.Goals as goal
 
 pub returns-then-not-split_holds : goal.returns-then-not-split_holds
@@ -9,7 +9,7 @@ returns-then-not-split_holds c = (λ no. absurd (cc no), λ all. c.if-not-split_
 
 pub loop-place-preserved : goal.loop-place-preserved
 loop-place-preserved c other some low = ⊎_elim
-    (λ last. subst (SplitHolds (vertices c.args.size) (length c.args.rows.now) (number_in c.args.rows.now) c.args.one) (sym last) (c.if-not-split_holds.ensures.0 refl))
+    (λ last. subst (SplitHolds (vertices c.args.size) (length c.args.rows.now) (table_number c.args.rows.now) c.args.one) (sym last) (c.if-not-split_holds.ensures.0 refl))
     (λ before. c.loop-place.invariant other some (omega (arith, low, before)))
     (cases_eq other (c.loop-place.place + 1))
 

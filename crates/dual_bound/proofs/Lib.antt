@@ -1,0 +1,10 @@
+pub mod Bounding
+pub mod CapacityCosts
+pub mod Closed
+pub mod Duality
+pub mod Entries
+pub mod NetLimits
+pub mod NetsOf
+pub mod PartSums
+pub mod LoadCosts
+pub mod Routes

@@ -1,0 +1,13 @@
+pub use Rattle.grid_graph.specs.Grids
+pub use Rattle.tree_set.specs.Budgets
+pub use Rattle.tree_set.specs.Fractions
+pub use Rattle.tree_set.specs.Loads
+pub use Rattle.tree_set.specs.Routings
+pub use Rattle.lower_bound.specs.Costs
+pub use Rattle.lower_bound.specs.NetBounds
+pub mod Bounds
+pub mod DesignBounds
+pub mod Limits
+pub mod Parts
+pub mod Prices
+pub mod Classes

@@ -1,0 +1,23 @@
+-- The limits of net bounds and of what capacities cost.
+use Rattle.std.specs.Prelude.{ℕ, ◌-◌, ◌*◌, ◌^◌}
+use Rattle.grid_base.specs.Limits.{max_vertices}
+
+-- the greatest cost of a piece: a demand at the greatest price, and the greatest price
+abbrev pub max_piece_cost : ℕ
+max_piece_cost = 2 ^ 25
+
+-- the greatest bound of a net, which joins its terminals with fewer pieces than there are vertices
+abbrev pub max_net_bound : ℕ
+max_net_bound = (max_vertices - 1) * max_piece_cost
+
+-- the greatest cost of an edge's capacity: the greatest capacity at the greatest price
+abbrev pub max_edge_cost : ℕ
+max_edge_cost = 2 ^ 33
+
+-- the greatest cost of the wirelength's capacity: the greatest budget at the greatest price
+abbrev pub max_wirelength_cost : ℕ
+max_wirelength_cost = 2 ^ 57
+
+-- in so many parts the nets are divided at most
+abbrev pub max_parts : ℕ
+max_parts = 8

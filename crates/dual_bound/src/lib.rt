@@ -1,0 +1,27 @@
+//! The bound of a design: how full its fullest resource is at least, in every mixture of routings.
+//!
+//! Any price list gives such a bound, by weak duality: what the nets cost at least at these prices, by what all capacities
+//! cost. The prices of the loads of good routings give a bound near what those routings reach.
+//!
+//! ```text
+//! let grounds = design.grounds()?;
+//! let found = bound(&rt, alloc, &design, grounds.as_slice(), prices.as_slice(), None)?;
+//! // Some(1/2): in every mixture of routings some open edge has a load of half its capacity or more
+//! ```
+//!
+//! It stands on `lower_bound` for the bounds of the nets, on `tree_set` for fractions, budgets and routings, on `edge_prices`,
+//! `grid_graph` and `grid_base` for prices and designs, and on `rayon` for threads.
+//!
+//! Promised: the answer is exactly the bound at these prices, in lowest terms, and none where the capacities cost nothing; and
+//! no mixture of routings uses every resource less.
+
+#![tactic(auto)]
+
+mod design_bound;
+mod laws;
+mod numerator;
+mod priced;
+mod tiles;
+
+pub use design_bound::bound;
+pub use laws::weak_duality;
