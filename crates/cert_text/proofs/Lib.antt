@@ -1,0 +1,4 @@
+pub mod DigitLists
+pub mod LowestFractions
+pub mod ReadBackTokens
+pub mod ReadBackCerts

@@ -1,0 +1,14 @@
+pub use Rattle.gr_desk.specs.Pens
+pub use Rattle.text_scan.specs.Tokens
+pub use Rattle.tree_set.specs.Budgets
+pub use Rattle.tree_set.specs.Fractions
+pub mod Versions
+pub mod CertText
+pub mod Limits
+pub mod CertFaults
+pub mod CertReads
+pub mod Digits
+pub mod CertTokens
+pub mod StatedCerts
+pub mod StatedLimits
+pub mod Certs
