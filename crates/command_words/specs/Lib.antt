@@ -1,0 +1,3 @@
+pub mod CommandLine
+pub mod Kinds
+pub mod RouteApp

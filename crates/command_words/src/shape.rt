@@ -1,0 +1,118 @@
+//! The shape of the words of a command: its word, its names, and options with their values.
+
+ghost use Rattle.std.specs.Prelude.{◌≡◌, ◌&&◌, map, take, drop, true, MatchOption, string_bytes};
+ghost use Rattle.std.specs.Char.{is_ascii_digit};
+ghost use Rattle.std.specs.List.{list_all, list_any};
+ghost use Rattle.std.specs.Str.{bytes_eq};
+ghost use Rattle.command_words.specs.CommandLine.{all_differ, are_names, are_options, has_shape, in_pairs};
+ghost use Rattle.command_words.specs.CommandLine.{is_file_name, is_value_word};
+ghost use Rattle.command_words.specs.Kinds.{form_of, HasNoShape};
+
+use crate::kind::Kind;
+
+/// The most digits of a value.
+const MOST_DIGITS: usize = 20;
+
+/// The command whose shape the words have.
+pub(crate) fn kind_of(words: &[String]) -> Option<Kind>
+    ensures { MatchOption result (HasNoShape (map string_bytes words.now))
+        (λ kind. has_shape (form_of kind) (map string_bytes words.now) ≡ true) }
+{
+    let (first, rest) = words.split_first()?;
+    let kind = Kind::of(first.as_str())?;
+    if has_parts(kind, rest) {
+        Some(kind)
+    } else {
+        None
+    }
+}
+
+/// Whether the command's names and its options follow.
+fn has_parts(kind: Kind, words: &[String]) -> bool
+    ensures { result ≡ (are_names (form_of kind) (take (form_of kind).names (map string_bytes words.now))
+        && are_options (form_of kind) (drop (form_of kind).names (map string_bytes words.now))) }
+{
+    let names = kind.names();
+    if words.len() < names {
+        return false;
+    }
+    are_differing_names(&words[..names]) && are_options(kind, &words[names..])
+}
+
+/// Whether the words are names, and no two of them equal.
+fn are_differing_names(words: &[String]) -> bool
+    ensures { result ≡ (list_all is_file_name (map string_bytes words.now) && all_differ (map string_bytes words.now)) }
+{
+    let mut left = words;
+    while let [name, others @ ..] = left {
+        if !is_file_name(name.as_str()) || is_among(name.as_str(), others) {
+            return false;
+        }
+        left = others;
+    }
+    true
+}
+
+fn is_file_name(word: &str) -> bool
+    ensures { result ≡ is_file_name word.now }
+{
+    match word.as_bytes() {
+        [] => false,
+        [first, ..] => *first != b'-',
+    }
+}
+
+fn is_among(name: &str, words: &[String]) -> bool
+    ensures { result ≡ list_any (bytes_eq name.now) (map string_bytes words.now) }
+{
+    for word in words {
+        if name == word.as_str() {
+            return true;
+        }
+    }
+    false
+}
+
+/// Whether the words are options of the command with their values, each option at most once.
+#[tactic(auto, using(crate::proofs::Shapes::options_step))]
+fn are_options(kind: Kind, words: &[String]) -> bool
+    ensures { result ≡ are_options (form_of kind) (map string_bytes words.now) }
+{
+    let mut left = words;
+    while let [option, value, others @ ..] = left {
+        if !kind.has_option(option.as_str()) || !is_value_word(value.as_str()) {
+            return false;
+        }
+        if is_given(option.as_str(), others) {
+            return false;
+        }
+        left = others;
+    }
+    left.is_empty()
+}
+
+fn is_value_word(word: &str) -> bool
+    ensures { result ≡ is_value_word word.now }
+{
+    1 <= word.len() && word.len() <= MOST_DIGITS && are_digits(word.as_bytes())
+}
+
+fn are_digits(bytes: &[u8]) -> bool
+    ensures { result ≡ list_all is_ascii_digit bytes.now }
+{
+    bytes.iter().all(|byte| byte.is_ascii_digit())
+}
+
+/// Whether the options and values begin a pair with this option.
+fn is_given(option: &str, words: &[String]) -> bool
+    ensures { result ≡ list_any (bytes_eq option.now) (map (λ given. given.0) (in_pairs (map string_bytes words.now))) }
+{
+    let mut left = words;
+    while let [other, _, others @ ..] = left {
+        if option == other.as_str() {
+            return true;
+        }
+        left = others;
+    }
+    false
+}
