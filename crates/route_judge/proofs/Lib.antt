@@ -1,0 +1,11 @@
+pub mod AllSets
+pub mod Between
+pub mod BlockTests
+pub mod Found
+pub mod Joining
+pub mod Judged
+pub mod OnSegments
+pub mod OpenEdges
+pub mod PlacesById
+pub mod Puts
+pub mod ShortTexts

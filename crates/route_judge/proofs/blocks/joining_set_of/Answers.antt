@@ -1,0 +1,38 @@
+use Rattle.std.proofs.Common.{◌≡◌, ℕ, true, ◌<◌, List, length, get_or, refl, sym, ◌∙◌, ap, subst, inl, inr, [], ◌∷◌, Some, None}
+use Rattle.std.proofs.lemmas.Result.{err_from_is_err_and}
+use Rattle.grid_base.specs.Lists.{At}
+use Rattle.grid_base.specs.Walks.{JoinsList}
+use Rattle.grid_graph.specs.declared.design.Design.{Design}
+use Rattle.grid_graph.specs.declared.net_spec.NetSpec.{NetSpec}
+use Rattle.grid_graph.specs.Grids.{size_of}
+use Rattle.grid_graph.proofs.Grounds.{at_place}
+use Rattle.route_judge.specs.Objections as objections
+use Rattle.route_judge.specs.Orders.{all_segment_objections}
+use Rattle.route_judge.proofs.BlockTests.{not_apart, is_apart}
+use Rattle.route_judge.proofs.Found.{found_behind, stops_before}
+use Rattle.route_judge.proofs.blocks.joining_set_of.Goals as goal
+
+pub returns-in_err-tree-clause-stops : goal.returns-in_err-tree-clause-stops
+returns-in_err-tree-clause-stops c =
+    let exit = err_from_is_err_and c.from_residual.result c.from_residual.ensures.1 in
+    rw (exit.1, exit.2) (stops_before c.args.design.now (all_segment_objections c.args.number c.args.block.now.segments) (objections.not_joined c.args.block.now ∷ []) c.in_err-tree.field-0.0 c.in_err-tree.ensures.stops)
+
+pub returns-then-not-branch-clause-stops : goal.returns-then-not-branch-clause-stops
+returns-then-not-branch-clause-stops c =
+    let d = c.args.design.now in
+    let found = at_place d.nets c.args.place c.requires.place in
+    let joins = c.in_ok-joins_net.ensures.joins found.0 found.1 in
+    found_behind d (all_segment_objections c.args.number c.args.block.now.segments) (objections.not_joined c.args.block.now ∷ []) _ c.in_ok-tree.ensures.stops
+    (inl (is_apart d c.args.block.now c.args.place found.0 c.in_ok-tree.tree found.1 (c.requires.net found.0 found.1) c.in_ok-tree.ensures.pieces (λ joined. let told : c.in_ok-joins_net.field-0 ≡ true = joins.1 joined in cc (told, c.if-not-branch.true)), refl))
+
+pub returns-clause-stops : goal.returns-clause-stops
+returns-clause-stops c =
+    let d = c.args.design.now in
+    let found = at_place d.nets c.args.place c.requires.place in
+    let joins = c.in_ok-joins_net.ensures.joins found.0 found.1 in
+    found_behind d (all_segment_objections c.args.number c.args.block.now.segments) (objections.not_joined c.args.block.now ∷ []) _ c.in_ok-tree.ensures.stops
+    (inr (not_apart d c.args.block.now c.args.place found.0 c.in_ok-tree.tree found.1 (c.requires.net found.0 found.1) c.in_ok-tree.ensures.pieces (joins.0 c.if-not-branch.false), refl))
+
+pub returns-clause-joining : goal.returns-clause-joining
+returns-clause-joining c n at =
+    record { joined = (c.in_ok-joins_net.ensures.joins n at).0 c.if-not-branch.false; no_wall = c.in_ok-tree.ensures.no_wall }

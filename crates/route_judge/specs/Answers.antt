@@ -1,0 +1,27 @@
+-- What the judge answers.
+use Rattle.std.specs.Prelude.{ℕ, Option, None, Some}
+use Rattle.tree_set.specs.declared.measure.Measure.{Measure}
+use Rattle.route_judge.specs.declared.checked.Checked.{Checked}
+use Rattle.route_judge.specs.declared.checked.Checked.TheVariants as checked
+use Rattle.route_judge.specs.declared.verdict.Verdict.{Verdict}
+use Rattle.route_judge.specs.declared.verdict.Verdict.TheVariants as verdict
+use Rattle.route_judge.specs.declared.reason.Reason.{Reason}
+
+-- the reason against the routes, and none where they are accepted
+abbrev pub reason_against : Checked → Option Reason
+reason_against (checked.Yes measure beyond) = None
+reason_against (checked.No reason) = Some reason
+
+-- what is said of routes that are accepted: their measure, and how many nets go beyond their grounds
+abbrev pub IfAccepted : Checked → (Measure → ℕ → Type 0) → Type 0
+IfAccepted (checked.Yes measure beyond) Said = Said measure beyond
+IfAccepted (checked.No reason) Said = Unit {0}
+
+-- the same of a verdict on routes and a certificate
+abbrev pub reason_of_verdict : Verdict → Option Reason
+reason_of_verdict (verdict.Yes measure beyond) = None
+reason_of_verdict (verdict.No reason) = Some reason
+
+abbrev pub IfYes : Verdict → (Measure → ℕ → Type 0) → Type 0
+IfYes (verdict.Yes measure beyond) Said = Said measure beyond
+IfYes (verdict.No reason) Said = Unit {0}

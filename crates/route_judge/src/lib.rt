@@ -1,0 +1,52 @@
+//! The judge: whether routes, and a certificate of them, meet a design, whoever made them.
+//!
+//! ```text
+//! let grounds = design.grounds()?;
+//! let blocks = read_routes(alloc, routes)?;
+//! match judge_routes(alloc, &design, grounds.as_slice(), blocks.as_slice())? {
+//!     Checked::Yes { measure, beyond } => ..    // overflow, wirelength, peak; nets beyond their grounds
+//!     Checked::No(reason) => ..                 // Reason::NotJoined { id: 7 }
+//! }
+//! let cert = read_cert(alloc, certificate)?;
+//! let verdict = judge(&rt, alloc, &design, grounds.as_slice(), blocks.as_slice(), &cert)?;
+//! let trees = trees_of(alloc, &design, blocks.as_slice())?;    // the nets' sets, of blocks that are routes
+//! ```
+//!
+//! It stands on `route_text` and `cert_text` for what was read, on `tree_set` for sets and measures, on `dual_bound` and
+//! `edge_prices` for the bound at a certificate's prices, and on `grid_graph` and `grid_base`. It knows nothing of how routes
+//! are found.
+//!
+//! Promised: the reason is that of the first objection that applies, in the order of `specs/Orders.antt`, and there is none
+//! exactly where the answer is a yes. A yes has the measure of the sets that the blocks give the nets, each of which joins its
+//! net's terminals inside the grid and without walls; and no mixture of routings uses every resource less than the certificate
+//! that was accepted states as its bound.
+
+#![tactic(auto)]
+
+mod beyond;
+mod blocks;
+mod bounds;
+mod checked;
+mod claims;
+mod counted;
+mod judging;
+mod laws;
+mod lines;
+mod listed_prices;
+mod measured;
+mod net_places;
+mod net_sets;
+mod placing;
+mod reason;
+mod routes;
+mod segments;
+mod stop;
+mod verdict;
+
+pub use checked::Checked;
+pub use counted::Counted;
+pub use judging::judge;
+pub use laws::{one_reason_is_found, short_texts_can_be_judged};
+pub use reason::Reason;
+pub use routes::{judge_routes, trees_of};
+pub use verdict::Verdict;

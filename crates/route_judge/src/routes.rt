@@ -1,0 +1,80 @@
+//! Judges routes.
+
+ghost use Rattle.std.specs.Prelude.{◌≡◌, IfOk, None};
+ghost use Rattle.grid_graph.specs.Grounds.{AreGrounds};
+ghost use Rattle.route_judge.specs.Answers.{reason_against, IfAccepted};
+ghost use Rattle.route_judge.specs.Limits.{AreBlocks};
+ghost use Rattle.route_judge.specs.Measured.{AreMeasured};
+ghost use Rattle.route_judge.specs.NetSets.{AreSetsOf, AreJoining};
+ghost use Rattle.route_judge.specs.Objections.{Finds};
+ghost use Rattle.route_judge.specs.Orders.{route_objections, AreRoutes};
+ghost use Rattle.route_judge.specs.Stops.{StopsAt};
+
+use crate::beyond::beyond_count;
+use crate::checked::Checked;
+use crate::measured::Measured;
+use crate::net_sets::sets_of;
+use crate::stop::Stop;
+use grid_base::NoMemory;
+use grid_graph::{Design, Ground};
+use route_text::Block;
+use std::alloc::Global;
+use tree_set::{Tree, measure_of};
+
+/// Measures routes. Stops at the first reason against them.
+pub(crate) fn measure_routes(
+    alloc: Global,
+    design: &Design,
+    grounds: &[Ground],
+    blocks: &[Block],
+) -> Result<Measured, Stop>
+    requires grounds { AreGrounds design.now.grid design.now.nets grounds.now }
+    requires blocks { AreBlocks blocks.now }
+    ensures stops { StopsAt design.now (route_objections design.now blocks.now) result }
+    ensures measured { IfOk result (λ m. AreMeasured design.now grounds.now blocks.now None m.measure m.beyond) }
+{
+    let sets = sets_of(alloc, design, blocks)?;
+    let trees = sets.as_slice();
+    let beyond = beyond_count(&design.grid, grounds, trees);
+    let measure = measure_of(alloc, design, trees)?;
+    Ok(Measured { measure, beyond })
+}
+
+/// Whether the blocks are routes of the design: each block is of a net of its own, and its pieces join the net's terminals
+/// inside the grid and without walls; and each net with two or more terminals has a block.
+///
+/// A set may use choked edges that are outside its net's ground. The answer counts the nets whose sets do.
+///
+/// Takes about `n log n` steps for n nets, blocks and pieces, and one pass over the edges.
+pub fn judge_routes(
+    alloc: Global,
+    design: &Design,
+    grounds: &[Ground],
+    blocks: &[Block],
+) -> Result<Checked, NoMemory>
+    requires grounds { AreGrounds design.now.grid design.now.nets grounds.now }
+    requires blocks { AreBlocks blocks.now }
+    ensures first { IfOk result (λ answer. Finds design.now (route_objections design.now blocks.now) (reason_against answer)) }
+    ensures measured { IfOk result (λ answer. IfAccepted answer (AreMeasured design.now grounds.now blocks.now None)) }
+{
+    match measure_routes(alloc, design, grounds, blocks) {
+        Ok(Measured { measure, beyond }) => Ok(Checked::Yes { measure, beyond }),
+        Err(Stop::Refused(reason)) => Ok(Checked::No(reason)),
+        Err(Stop::NoMemory) => Err(NoMemory),
+    }
+}
+
+/// The set of each net, in file order, of blocks that are routes of the design: the pieces of its block, or none where it has
+/// no block.
+pub fn trees_of(alloc: Global, design: &Design, blocks: &[Block]) -> Result<Vec<Tree>, NoMemory>
+    requires blocks { AreBlocks blocks.now }
+    requires routes { AreRoutes design.now blocks.now }
+    ensures sets { IfOk result (λ trees. AreSetsOf design.now blocks.now trees.items) }
+    ensures joining { IfOk result (λ trees. AreJoining design.now trees.items) }
+{
+    match sets_of(alloc, design, blocks) {
+        Ok(trees) => Ok(trees),
+        Err(Stop::NoMemory) => Err(NoMemory),
+        Err(Stop::Refused(_)) => unreachable!(),
+    }
+}

@@ -1,0 +1,92 @@
+//! The segments of a block.
+
+ghost use Rattle.std.specs.Prelude.{◌≡◌, ◌↔◌, ◌<◌, IsTrue, IfOk, OnOk, length, All, Contains};
+ghost use Rattle.grid_base.specs.declared.piece.Piece.{Piece};
+ghost use Rattle.grid_base.specs.Lines.{AreInLine};
+ghost use Rattle.grid_graph.specs.declared.ground.Ground.TheVariants.{WithChoked};
+ghost use Rattle.grid_graph.specs.Grids.{size_of};
+ghost use Rattle.route_text.specs.BlockPieces.{LiesOn, IsPieceOf};
+ghost use Rattle.route_text.specs.ReadLimits.{IsSegmentInRange, IsBlockInRange};
+ghost use Rattle.tree_set.specs.Order.{IsRising};
+ghost use Rattle.tree_set.specs.Routings.{KeepsTo};
+ghost use Rattle.route_judge.specs.Limits.{number_limit};
+ghost use Rattle.route_judge.specs.Lines.{ArePut};
+ghost use Rattle.route_judge.specs.Orders.{segment_objections, all_segment_objections};
+ghost use Rattle.route_judge.specs.Stops.{StopsAt};
+
+use crate::lines::put_between;
+use crate::placing::place_of;
+use crate::reason::Reason;
+use crate::stop::Stop;
+use grid_base::{Piece, Place};
+use grid_graph::Design;
+use route_text::{Block, Segment};
+use std::alloc::Global;
+use tree_set::Tree;
+
+/// Whether two places differ in at most one of column, row and layer.
+fn are_in_line(from: Place, to: Place) -> bool
+    ensures { IsTrue result ↔ AreInLine from to }
+{
+    let same_col = from.col == to.col;
+    let same_row = from.row == to.row;
+    let same_layer = from.layer == to.layer;
+    same_row && same_layer || same_col && same_layer || same_col && same_row
+}
+
+/// Puts the pieces of a segment on the list. The segment has this number in its block, and the block has its own in the text.
+fn put_segment(
+    design: &Design,
+    block: u32,
+    number: u32,
+    segment: Segment,
+    pieces: &mut Vec<Piece>,
+) -> Result<(), Stop>
+    requires { IsSegmentInRange segment }
+    ensures stops { StopsAt design.now (segment_objections block (number, segment)) result }
+    ensures put { OnOk result (ArePut design.now.grid (LiesOn design.now.grid segment) pieces.old.items pieces.new.items) }
+{
+    let outside = Stop::Refused(Reason::PointOutside {
+        block,
+        segment: number,
+    });
+    let Some(from) = place_of(&design.grid, segment.from) else {
+        return Err(outside);
+    };
+    let Some(to) = place_of(&design.grid, segment.to) else {
+        return Err(outside);
+    };
+    if !are_in_line(from, to) {
+        return Err(Stop::Refused(Reason::Slanted {
+            block,
+            segment: number,
+        }));
+    }
+    let wall = Reason::OnWall {
+        block,
+        segment: number,
+    };
+    put_between(&design.grid, from, to, wall, pieces)
+}
+
+/// The set of the pieces of a block, which has this number in the text.
+pub(crate) fn set_of(
+    alloc: Global,
+    design: &Design,
+    number: u32,
+    block: &Block,
+) -> Result<Tree, Stop>
+    requires short { length block.now.segments < number_limit }
+    requires range { IsBlockInRange block.now }
+    ensures stops { StopsAt design.now (all_segment_objections number block.now.segments) result }
+    ensures rising { IfOk result (λ tree. IsRising tree) }
+    ensures pieces { IfOk result (λ tree. (p : Piece) → Contains tree p ↔ IsPieceOf design.now.grid block.now p) }
+    ensures no_wall { IfOk result (λ tree. KeepsTo design.now.grid WithChoked tree) }
+{
+    let segments = block.segments.list();
+    let mut pieces = Vec::new(alloc);
+    for i in 0..segments.len() {
+        put_segment(design, number, i as u32, segments[i], &mut pieces)?;
+    }
+    Ok(Tree::of(pieces))
+}
