@@ -7,8 +7,9 @@
 # Without a word it takes the program that `rt ci` left in crates/grouter/out, and has it built where there is none. It
 # prints a line for each case, then how many passed and failed, and fails where one did.
 #
-# The expected texts were worked out by hand. In these designs each net has only one route of least weight at the prices
-# of the nets before it, so none of the texts rests on a choice that is left to the program.
+# The routes were worked out by hand, and the certificates and reports from them by a program of another make. In these runs
+# each net has only one route of least weight at the prices of the loads before it, so none of the texts rests on a choice
+# that is left to the program.
 set -u
 export LC_ALL=C
 
@@ -90,50 +91,108 @@ a 0 2 1
 
 # refused NAME STATUS LINE: the text in refused.gr has this refusal
 refused() {
-    expect "$1" "$2" "$3" route refused.gr
+    expect "$1" "$2" "$3" route refused.gr a.routes a.cert
     rm refused.gr
+}
+
+# made NAME FILE WANTED: the run before made this file with these bytes
+made() {
+    cp "$3" "$room/wanted"
+    : >"$room/complained"
+    cp "$2" "$room/said"
+    got=0
+    judge "$1" 0
+    rm "$2"
 }
 
 # ---- designs that are routed
 
-for example in one_net detour three_layers; do
-    expect "the example $example" 0 "$(cat "$here/$example.report")" route "$example.gr"
-done
+routed() {
+    example=$1
+    shift
+    expect "the example $example" 0 "$(cat "$here/$example.report")" route "$example.gr" a.routes a.cert "$@"
+    made "the routes of $example" a.routes "$here/$example.routes"
+    made "the certificate of $example" a.cert "$here/$example.cert"
+}
+routed one_net
+routed detour --phases 1
+routed three_layers --phases 1 --workers 1
 
 row 0 4 1 '0 0 10 10' 0 >'no nets.gr'
-expect 'a design without nets, under a name with a space' 0 'overflow 0
-wirelength 0' route 'no nets.gr'
+expect 'a design without nets, under a name with a space' 0 'nets 0
+forced 0
+rounded 0
+rounds 0
+overflow 0
+wirelength 0
+peak 0/1
+bound 0/1' route 'no nets.gr' 'no nets.routes' a.cert
+: >"$room/empty"
+made 'no routes' 'no nets.routes' "$room/empty"
+rm a.cert
 
 row 0 4 1 '-10 -10 10 10' '1
 a 0 2 1
 -5 -5 1
 15 -5 1
 0' | sed "s/\$/$(printf '\r')/" >folder/crlf.gr
-expect 'line ends of two bytes, negative places, in a folder' 0 'a 0
-(-5,-5,1)-(15,-5,1)
-!
-overflow 0
-wirelength 2' route folder/crlf.gr
+expect 'line ends of two bytes, negative places, in a folder' 0 "$(cat "$here/one_net.report")" route folder/crlf.gr a.routes folder/a.cert
+printf '%s\n' 'a 0' '(-5,-5,1)-(15,-5,1)' '!' >"$room/crlf.routes"
+made 'routes at negative places' a.routes "$room/crlf.routes"
+made 'a certificate in a folder' folder/a.cert "$here/one_net.cert"
 
-# each of the two edges has capacity 4 and the load 4000
+# each of the two edges has capacity 4 and the load 4000, and so each net costs two edges of the same price
 many=2000
 row 4 4 1 '0 0 10 10' "$(awk -v n=$many 'BEGIN { print n; for (k = 0; k < n; k++) printf "n %d 2 1\n5 5 1\n25 5 1\n", k; print 0 }')" >many.gr
-awk -v n=$many 'BEGIN { for (k = 0; k < n; k++) printf "n %d\n(5,5,1)-(25,5,1)\n!\n", k; print "overflow 7992"; print "wirelength 4000" }' >"$room/many.report"
-expect 'two thousand nets' 0 "$(cat "$room/many.report")" route many.gr
+awk -v n=$many 'BEGIN { for (k = 0; k < n; k++) printf "n %d\n(5,5,1)-(25,5,1)\n!\n", k }' >"$room/many.routes"
+expect 'two thousand nets' 0 'nets 2000
+forced 0
+rounded 7992
+rounds 0
+overflow 7992
+wirelength 4000
+peak 1000/1
+bound 1000/1' route many.gr a.routes a.cert --workers 4 --seed 3
+made 'two thousand routes' a.routes "$room/many.routes"
+rm a.cert
+
+# what stood in the files before is replaced
+head -c 1000 many.gr >a.routes
+head -c 1000 many.gr >a.cert
+routed one_net
 
 # ---- words that are no command
 
 usage='refused 2
-usage: grouter route'
+usage: grouter route|measure|judge|make|trial'
 expect 'no words' 2 "$usage"
-expect 'a command without its name' 2 "$usage" route
-expect 'a word too many' 2 "$usage" route one_net.gr detour.gr
-expect 'two words too many' 2 "$usage" route one_net.gr detour.gr three_layers.gr
-expect 'another command' 2 "$usage" judge one_net.gr
-expect 'a command in capitals' 2 "$usage" ROUTE one_net.gr
-expect 'a name that begins with a dash' 2 "$usage" route -one_net.gr
-expect 'an empty name' 2 "$usage" route ''
-expect 'a word that is no text' 2 "$usage" route "$(printf '\377.gr')"
+expect 'a command without its names' 2 "$usage" route
+expect 'a name too few' 2 "$usage" route one_net.gr a.routes
+expect 'a name too many' 2 "$usage" route one_net.gr a.routes a.cert b.cert
+expect 'two names that are one' 2 "$usage" route one_net.gr a.routes a.routes
+expect 'another command' 2 "$usage" judge one_net.gr a.routes a.cert
+expect 'a command in capitals' 2 "$usage" ROUTE one_net.gr a.routes a.cert
+expect 'a name that begins with a dash' 2 "$usage" route one_net.gr -a.routes a.cert
+expect 'an empty name' 2 "$usage" route one_net.gr '' a.cert
+expect 'a word that is no text' 2 "$usage" route "$(printf '\377.gr')" a.routes a.cert
+expect 'an option without a value' 2 "$usage" route one_net.gr a.routes a.cert --phases
+expect 'an option in one word' 2 "$usage" route one_net.gr a.routes a.cert --phases=2
+expect 'an option twice' 2 "$usage" route one_net.gr a.routes a.cert --phases 2 --phases 2
+expect 'an option before the names' 2 "$usage" route --phases 2 one_net.gr a.routes a.cert
+expect 'rounds, which are still to come' 2 "$usage" route one_net.gr a.routes a.cert --rounds 2
+expect 'an option that is none' 2 "$usage" route one_net.gr a.routes a.cert --rows 2
+expect 'an option that is cut short' 2 "$usage" route one_net.gr a.routes a.cert --phase 2
+expect 'help' 2 "$usage" route --help
+expect 'a version' 2 "$usage" --version
+expect 'no workers' 2 "$usage" route one_net.gr a.routes a.cert --workers 0
+expect 'too many workers' 2 "$usage" route one_net.gr a.routes a.cert --workers 9
+expect 'a signed value' 2 "$usage" route one_net.gr a.routes a.cert --workers +2
+expect 'a seed that is too great' 2 "$usage" route one_net.gr a.routes a.cert --seed 18446744073709551616
+expect 'a budget that is too great' 2 "$usage" route one_net.gr a.routes a.cert --budget 4398046511105
+expect 'a budget' 0 "$(cat "$here/one_net.report")
+budget 4" route one_net.gr a.routes a.cert --budget 0004
+made 'the routes within a budget' a.routes "$here/one_net.routes"
+rm a.cert
 
 # ---- texts that are no design
 
@@ -193,18 +252,22 @@ refused 'a net that is cut off' 5 'refused 5 4 9 1'
 
 # ---- files and devices
 
-expect 'a file that is missing' 6 'refused 6' route missing.gr
-expect 'a folder' 6 'refused 6' route folder
-expect_unheard 'a report that can not be written' 7 route one_net.gr
-expect_unheard 'a long report that can not be written' 7 route many.gr
+expect 'a file that is missing' 6 'refused 6' route missing.gr a.routes a.cert
+expect 'a folder' 6 'refused 6' route folder a.routes a.cert
+expect 'routes in a folder that is missing' 7 'refused 7' route one_net.gr missing/a.routes a.cert
+expect 'a certificate in a folder that is missing' 7 'refused 7' route one_net.gr a.routes missing/a.cert
+made 'routes without a certificate' a.routes "$here/one_net.routes"
+expect_unheard 'a report that can not be written' 7 route one_net.gr a.routes a.cert
+made 'routes without a report' a.routes "$here/one_net.routes"
+made 'a certificate without a report' a.cert "$here/one_net.cert"
 expect_unheard 'a refusal that can not be said: no command' 2 route
-expect_unheard 'a refusal that can not be said: a missing file' 6 route missing.gr
+expect_unheard 'a refusal that can not be said: a missing file' 6 route missing.gr a.routes a.cert
 
 # a table of 2^23 vertices in 40,000,000 bytes
 awk '/^grid/ { $0 = "grid 2048 2048 2" } /capacity|width|spacing/ { $0 = $0 " " $NF } { print }' one_net.gr >vast.gr
 printf '%s\n' 'refused 8' >"$room/wanted"
 # shellcheck disable=SC3045
-(ulimit -v 40000 && exec "$program" route vast.gr) </dev/null >"$room/said" 2>"$room/complained"
+(ulimit -v 40000 && exec "$program" route vast.gr a.routes a.cert) </dev/null >"$room/said" 2>"$room/complained"
 got=$?
 judge 'want of memory' 8
 
@@ -214,7 +277,7 @@ ls -R . >"$room/said"
 printf '%s\n' .: detour.gr folder many.gr 'no nets.gr' one_net.gr three_layers.gr vast.gr '' ./folder: crlf.gr >"$room/wanted"
 : >"$room/complained"
 got=0
-judge 'no run made a file' 0
+judge 'no other file was made' 0
 
 echo "$passed passed, $failed failed"
 [ "$failed" -eq 0 ]

@@ -1,18 +1,22 @@
-//! The command line of the router: `grouter route FILE`.
+//! The command line of the router: `grouter route IN ROUTES CERT`.
 #![tactic(auto)]
 
 ghost use Rattle.std.specs.Prelude.{◌≡◌, ◌≢◌, [], drop, IsErr, IsOkAnd, IfOk, IfErr, IsErrAnd};
 ghost use Rattle.std.specs.Process.{exit_status};
 ghost use Rattle.std.specs.IoError.{error_kind};
 ghost use Rattle.std.specs.Vec.Iter.{into_iter_items};
+ghost use Rattle.router_cli.specs.declared.refusal.Refusal.TheVariants.{NoMemory};
+ghost use Rattle.router_cli.specs.Lines.{status_of};
 ghost use Rattle.router_cli.specs.Runs.{IsRun};
 
 use gr_desk::{Desk, RealDesk};
+use price_workers::{Gate, OpenGate};
 use router_cli::run;
 use std::alloc::{AllocError, Global};
 use std::env::Args;
 use std::io::ErrorKind;
 use std::process::ExitCode;
+use std::thread::Threads;
 use std::{env, io};
 
 #[cfg(test)]
@@ -23,17 +27,23 @@ const NO_MEMORY: u8 = 8;
 
 fn main(rt: HostRuntime) -> ExitCode {
     let words = words(rt.alloc(), env::args(&rt));
-    ended(rt.alloc(), words, &mut RealDesk::new(&rt))
+    ended(&rt, rt.alloc(), words, &mut RealDesk::new(&rt), &OpenGate)
 }
 
 /// What the program ends with: the status of `run`, and nothing is done where there is no memory for the words.
-fn ended<D: Desk>(alloc: Global, words: Result<Vec<String>, AllocError>, desk: &mut D) -> ExitCode
+fn ended<R: Threads + Sync, D: Desk, G: Gate>(
+    rt: &R,
+    alloc: Global,
+    words: Result<Vec<String>, AllocError>,
+    desk: &mut D,
+    gate: &G,
+) -> ExitCode
     ensures run { IfOk words (λ w. IsRun w.items (D.told desk.old) (D.told desk.new) (exit_status result)) }
-    ensures no_memory { IsErr words → exit_status result ≡ 8 }
+    ensures no_memory { IsErr words → exit_status result ≡ status_of NoMemory }
     ensures nothing_done { IsErr words → D.told desk.new ≡ D.told desk.old }
 {
     match words {
-        Ok(words) => ExitCode::from(run(alloc, &words, desk)),
+        Ok(words) => ExitCode::from(run(rt, alloc, &words, desk, gate)),
         Err(AllocError) => ExitCode::from(NO_MEMORY),
     }
 }

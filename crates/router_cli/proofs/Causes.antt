@@ -13,7 +13,7 @@ use Rattle.grid_graph.proofs.Grounds.{joins_with_choked}
 use Rattle.gr_desk.specs.Told.{Told}
 use Rattle.ispd_reader.specs.Designs.{IsDesignOfText}
 use Rattle.ispd_reader.proofs.Alike.{one_design}
-use Rattle.ispd_reader.proofs.AlikeGrounds.{IsFirstCutOff-alike}
+use Rattle.grid_graph.proofs.Alike.{IsFirstCutOff-alike}
 use Rattle.grid_graph.proofs.CutOff.{first_cut_off-once, cut_off-unreachable}
 use Rattle.tree_set.specs.Routings.{IsRoute, IsRouting}
 use Rattle.router_cli.specs.declared.refusal.Refusal.{Refusal}

@@ -3,7 +3,12 @@ pub mod Endings
 pub mod Fields
 pub mod Outcomes
 pub mod Traces
-pub mod LightSteps
+pub mod MadeFiles
+pub mod Finishing
+pub mod RouteRuns
+pub mod Tasks
+pub mod Routed
+pub mod OpenPrices
 pub mod Causes
-pub mod Routings
 pub mod ReadBack
+pub mod Bounded

@@ -2,7 +2,8 @@
 use Rattle.std.proofs.Common.{ℕ, List, All}
 use Rattle.grid_graph.specs.declared.design.Design.{Design}
 use Rattle.ispd_reader.specs.Designs.{IsDesignOfText}
-use Rattle.ispd_reader.proofs.NetNames.{design_named, design_numbered}
+use Rattle.grid_graph.proofs.Designs.{design_numbered}
+use Rattle.ispd_reader.proofs.NetNames.{design_named}
 use Rattle.route_text.specs.ReadBack.{IsNamed}
 
 -- the nets of a design that was read are named

@@ -1,48 +1,44 @@
--- What the program promises. Read this file first: `run`, which `main` calls, ensures `IsRun` and nothing else.
+-- What the program promises: `run`, which `main` calls, ensures `IsRun` and nothing else.
 --
--- Then read, in this order:
---   RouteRun   the promise of the command `route`: what is reported on which status
---   Refusals   why a run can be refused, and what it then says
---   Lines      the lines of the report, byte for byte
---   Traces     what a run does to the desk that it reads from and writes to
--- and in the crates below, as the names there lead: `Told` of `gr_desk` for what a desk tells of itself, `IsDesignOfText` of
--- `ispd_reader` for the design that a text names, `IsRouting` of `tree_set` for routes, and `routes_text` of `route_text`.
+-- Read in this order:
+--   Headline     what a run of `route` that ends with status 0 has written and reported
+--   RouterRuns   where the routes and the prices come from
+--   Certified    what the certificate says of them
+--   RouteRun     what a run of `route` leaves on each status
+--   Tasks        what its words ask for
+--   Refusals     why a run can be refused, and what it then says
+--   Lines        the lines of the report, byte for byte
+--   Outputs      the files that a run makes
+--   Traces       what a run does to the desk that it reads from and writes to
+-- and in the crates below, as the names there lead: `CommandLine` of `command_words` for which words are a command, `Told` of
+-- `gr_desk` for what a desk tells of itself.
 --
 -- Each command has a record with one field for each of its promises, and a field of `IsRun` that ties the record to the words.
-use Rattle.std.specs.Prelude.{◌≡◌, ◌≢◌, ℕ, List, [], ◌∷◌, map, codes, string_bytes}
+use Rattle.std.specs.Prelude.{◌≡◌, ◌⊎◌, ℕ, List, [], map, string_bytes, true, false}
 use Rattle.std.specs.declared.string.String.{String}
 use Rattle.gr_desk.specs.Told.{Told}
-use Rattle.router_cli.specs.declared.refusal.Refusal.TheVariants.{NoCommand}
+use Rattle.command_words.specs.CommandLine.{is_command, is_command_of, route_form}
+use Rattle.router_cli.specs.declared.refusal.Refusal.{Refusal}
+use Rattle.router_cli.specs.declared.refusal.Refusal.TheVariants.{NoCommand, NoMemory}
 use Rattle.router_cli.specs.Lines.{status_of}
-use Rattle.router_cli.specs.Traces.{ReportsRefusal, TouchesOnly}
 use Rattle.router_cli.specs.RouteRun.{IsRouteRun}
-
--- a name is not empty and doesn't begin with `-`
-abbrev pub IsName : List ℕ → Type 0
-IsName [] = ⊥
-IsName (b ∷ bs) = b ≢ 45
-
--- the words are `route` and this name
-abbrev pub IsRouteCommand : {Z : Type 0} → List (String Z) → List ℕ → Type 0
-IsRouteCommand words name = (map string_bytes words ≡ codes "route" ∷ name ∷ []) × IsName name
-
--- the words are no command
-abbrev pub IsNoCommand : {Z : Type 0} → List (String Z) → Type 0
-IsNoCommand words = (name : List ℕ) → ¬ IsRouteCommand words name
+use Rattle.router_cli.specs.Tasks.{task_of_words}
+use Rattle.router_cli.specs.Traces.{ReportsRefusal, TouchesOnly}
 
 -- a run on words that are no command
 pub record IsNoCommandRun (before after : Told) (status : ℕ) : Type 0 where
-  -- the status is 2
-  pub status_is : status ≡ status_of NoCommand
-  -- the report says so, and how to call the program
-  pub says : ReportsRefusal before after NoCommand
+  -- the report says so, and how to call the program; or there was no memory to read the words
+  pub refusal : Refusal
+  pub is_refusal : (refusal ≡ NoCommand) ⊎ (refusal ≡ NoMemory)
+  pub status_is : status ≡ status_of refusal
+  pub says : ReportsRefusal before after refusal
   -- nothing is opened, created or read
-  pub touches : TouchesOnly [] before after
+  pub touches : TouchesOnly [] [] before after
   pub unread : after.in_faults ≡ before.in_faults
   -- no call comes out of order
   pub in_order : after.strayed ≡ before.strayed
 
 -- a run of the program: on which words it began, what the desk told before and after it, and the status that it ended with
 pub record IsRun {Z : Type 0} (words : List (String Z)) (before after : Told) (status : ℕ) : Type 0 where
-  pub no_command : IsNoCommand words → IsNoCommandRun before after status
-  pub route : (name : List ℕ) → IsRouteCommand words name → IsRouteRun name before after status
+  pub no_command : is_command (map string_bytes words) ≡ false → IsNoCommandRun before after status
+  pub route : is_command_of (map string_bytes words) route_form ≡ true → IsRouteRun (task_of_words (map string_bytes words)) before after status

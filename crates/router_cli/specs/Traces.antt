@@ -4,7 +4,7 @@ use Rattle.std.specs.Io.KnownBytes.{Appends}
 use Rattle.gr_desk.specs.declared.port.Port.{Port}
 use Rattle.gr_desk.specs.declared.port.Port.TheVariants.{Report}
 use Rattle.gr_desk.specs.Causes.{Rose}
-use Rattle.gr_desk.specs.Told.{Told}
+use Rattle.gr_desk.specs.Told.{Told, PortTold}
 use Rattle.router_cli.specs.declared.refusal.Refusal.{Refusal}
 use Rattle.router_cli.specs.Lines.{lines_of}
 
@@ -26,16 +26,22 @@ pub record ReportsRefusal (before after : Told) (refusal : Refusal) : Type 0 whe
   pub part : ReportGains before after (take count (lines_of refusal))
   pub whole : ¬ OutputFailed before after → ReportGains before after (lines_of refusal)
 
--- the run read at these ports at most, and wrote the report and nothing else
-pub record TouchesOnly (read : List Port) (before after : Told) : Type 0 where
+-- a port but for what may have become of a file that was created there
+abbrev pub but_for_output : PortTold → PortTold → PortTold
+but_for_output before after = record before { written = after.written; target = after.target; state = after.state }
+
+-- the run read at some ports at most, created and wrote files at others, and wrote the report
+pub record TouchesOnly (read made : List Port) (before after : Told) : Type 0 where
   pub files : after.files ≡ before.files
-  -- at these ports what is left to be read changed, and the state
+  -- where it may read, what is left to be read changed, and the state
   pub inputs : (p : Port) → Contains read p
       → after.ports p ≡ record (before.ports p) { rest = (after.ports p).rest; state = (after.ports p).state }
+  -- where it may create files, what was written, its name, and the state
+  pub outputs : (p : Port) → Contains made p → after.ports p ≡ but_for_output (before.ports p) (after.ports p)
   -- at the report what was written
   pub report : after.ports Report ≡ record (before.ports Report) { written = (after.ports Report).written }
   -- at all other ports nothing
-  pub others : (p : Port) → ¬ Contains read p → p ≢ Report → after.ports p ≡ before.ports p
+  pub others : (p : Port) → ¬ Contains read p → ¬ Contains made p → p ≢ Report → after.ports p ≡ before.ports p
   -- the counts of faults never fall
   pub in_count : before.in_faults ≤ after.in_faults
   pub out_count : before.out_faults ≤ after.out_faults

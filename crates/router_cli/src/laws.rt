@@ -10,9 +10,9 @@ ghost use Rattle.route_text.specs.Blocks.{blocks_of};
 ghost use Rattle.route_text.specs.ReadBack.{AreBlocksOf, IsSet};
 ghost use Rattle.route_text.specs.RouteText.{routes_text};
 
-/// What is reported of a near design reads back: where a text names the design, the route text of one set per net is read
-/// as one block per net, in file order, which has the net's name and id and names the pieces of the net's set.
-pub fn reported_routes_read_back()
+/// What is written of a design with borders in range reads back: where a text names the design, the route text of one set per net
+/// is read as one block per net, in file order, which has the net's name and id and names the pieces of the net's set.
+pub fn routes_of_designs_read_back()
     ensures { (text : List ℕ) (d : Design) (trees : List (List Piece))
         → IsDesignOfText text d
         → HasBordersInRange d.grid

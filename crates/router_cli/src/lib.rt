@@ -1,37 +1,40 @@
-//! All that the program does: words and a desk in, a status out.
+//! All that the program does: words, a desk and a gate in, a status out.
 //!
 //! ```text
-//! let status = run(alloc, &words, desk);    // words: route one_net.gr
-//! // a 0
-//! // (5,5,1)-(25,5,1)
-//! // !
+//! let status = run(&rt, alloc, &words, desk, &OpenGate);    // words: route one_net.gr one_net.routes one_net.cert
+//! // nets 1
+//! // forced 0
+//! // rounded 0
+//! // rounds 0
 //! // overflow 0
 //! // wirelength 2
+//! // peak 1/2
+//! // bound 1/2
 //! ```
 //!
-//! It stands on `ispd_reader` for the design, `grid_base` and `grid_graph` for pieces and the nets' grounds, `edge_prices` and
-//! `shortest_paths` for cheapest paths, `sharing_runs` for what a run is, `tree_set` for routes and their measures,
-//! `route_text` for their text, `gr_desk` to read from and write to, and `itoa`.
+//! It stands on `command_words` for the words, `ispd_reader` for the design, `grid_graph` for the nets' grounds, `sharing_phases` and
+//! `rounding_pick` for the routes and their prices, `tree_set` for their measures, `dual_bound` for the bound, `route_text` and
+//! `cert_text` for the texts, `gr_desk` to read from and write to, and `itoa`.
 //!
-//! Promised, in the words of `specs/Runs.antt`, which is the page to begin with: where the status is 0, the report has
-//! the route text of one set of pieces per net that joins the net's terminals in its ground, and the overflow and the
-//! wirelength of these very sets; every other status but 8, want of memory, has its cause, and no output file is
-//! touched.
+//! Promised, in the words of `specs/Runs.antt`, which is the page to begin with: where the status is 0, the routes that were
+//! written join their nets' pins inside the grid, the printed numbers are those of these routes, and the printed bound is at
+//! most the greatest load/capacity of every routing; every other status but 8, want of memory, has its cause, and but for 7
+//! no file is touched.
 
 #![tactic(auto)]
 
+mod certificate;
 mod laws;
 mod lines;
+mod outputs;
 mod prepared;
 mod refusal;
 mod refuse;
 mod report;
 mod route;
 mod routed_design;
-mod routes;
 mod top;
-mod words;
 
-pub use laws::reported_routes_read_back;
+pub use laws::routes_of_designs_read_back;
 pub use refusal::Refusal;
 pub use top::run;

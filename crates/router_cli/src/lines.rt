@@ -1,6 +1,6 @@
 //! Lines of the report.
 
-ghost use Rattle.std.specs.Prelude.{◌≡◌};
+ghost use Rattle.std.specs.Prelude.{◌≡◌, [], ◌∷◌, codes};
 ghost use Rattle.gr_desk.specs.declared.port.Port.TheVariants.{Report};
 ghost use Rattle.gr_desk.specs.Pens.{Puts, Ends, pen_told, HasSameDesk};
 ghost use Rattle.router_cli.specs.Lines.{fields, line, wanted_part, numbers_of, ending_of, lines_of};
@@ -73,7 +73,7 @@ fn put_ending<D: Desk>(pen: &mut Pen<'_, D>, refusal: Refusal)
     ensures puts { Puts (pen_told D.told pen.old) (pen_told D.told pen.new) (ending_of refusal) }
 {
     match refusal {
-        Refusal::NoCommand => pen.put(b"\nusage: grouter route\n"),
+        Refusal::NoCommand => pen.put(b"\nusage: grouter route|measure|judge|make|trial\n"),
         Refusal::Input(fault) => {
             put_wanted(pen, fault.wanted());
             pen.put(b"\n");
@@ -101,5 +101,14 @@ pub(crate) fn write_refusal<D: Desk>(desk: &mut D, refusal: Refusal) -> Result<(
 {
     let mut pen = Pen::new(desk, Port::Report);
     put_refusal(&mut pen, refusal);
+    pen.finish()
+}
+
+/// Writes on the report that a file could not be written, with the status that says so.
+pub(crate) fn write_unwritten<D: Desk>(desk: &mut D, status: u8) -> Result<(), Failed>
+    ensures { Ends (D.told desk.old) (D.told desk.new) Report (line (codes "refused") (status ∷ [])) result }
+{
+    let mut pen = Pen::new(desk, Port::Report);
+    put_line(&mut pen, b"refused", &[u64::from(status)]);
     pen.finish()
 }

@@ -10,8 +10,7 @@ use grid_graph::{GroundError, UnreachableNet};
 use ispd_reader::{InputError, InputFault};
 use thiserror::Error;
 
-/// Why a run ends without a route. A report that can't be written whole is no refusal: it has
-/// status 7 and no line.
+/// Why a run ends before it creates a file. A file or a report that can't be written is no refusal: it has status 7.
 #[derive(Clone, Copy, Debug, Drop, PartialEq, Eq, Error)]
 pub enum Refusal {
     /// The words are no command.

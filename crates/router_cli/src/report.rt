@@ -1,37 +1,47 @@
-//! The report of a routed design.
+//! The report of routes.
 
-ghost use Rattle.std.specs.Prelude.{◌≡◌, length, All};
+ghost use Rattle.std.specs.Prelude.{◌≡◌};
 ghost use Rattle.gr_desk.specs.declared.port.Port.TheVariants.{Report};
-ghost use Rattle.gr_desk.specs.Pens.{Ends};
-ghost use Rattle.tree_set.specs.Routings.{ArePieces};
-ghost use Rattle.router_cli.specs.Lines.{measure_lines};
-ghost use Rattle.router_cli.specs.RouteRun.{report_of};
-ghost use Rattle.router_cli.specs.Measured.{IsMeasured};
-ghost use Rattle.grid_graph.specs.Grids.{size_of};
+ghost use Rattle.gr_desk.specs.Pens.{Ends, Puts, pen_told, HasSameDesk};
+ghost use Rattle.router_cli.specs.Lines.{budget_line, report_text};
 
 use crate::lines::put_line;
-use crate::routed_design::RoutedDesign;
+use cert_text::{Cert, put_labelled_fraction};
 use gr_desk::{Desk, Failed, Pen, Port};
-use route_text::write_routes;
-use tree_set::Measure;
+use tree_set::Budget;
 
-/// Writes the report: the nets' route text, then the overflow and the wirelength.
-pub fn write_report<D: Desk>(desk: &mut D, routed: &RoutedDesign) -> Result<(), Failed>
-    requires one_each { length routed.now.trees.items ≡ length routed.now.design.nets }
-    requires pieces { All (ArePieces (size_of routed.now.design.grid)) routed.now.trees.items }
-    requires measured { IsMeasured routed.now }
-    ensures { Ends (D.told desk.old) (D.told desk.new) Report (report_of routed.now.design routed.now.trees.items) result }
+/// Puts the line of the budget, where there is one.
+fn put_budget<D: Desk>(pen: &mut Pen<'_, D>, budget: Option<Budget>)
+    ensures same_desk { HasSameDesk pen.old pen.new }
+    ensures puts { Puts (pen_told D.told pen.old) (pen_told D.told pen.new) (budget_line budget) }
 {
-    write_routes(desk, Port::Report, &routed.design, routed.trees.as_slice())?;
-    write_measure(desk, &routed.measure)
+    match budget {
+        Some(budget) => put_line(pen, b"budget", &[budget.most]),
+        None => {}
+    }
 }
 
-/// Writes the overflow and the wirelength.
-fn write_measure<D: Desk>(desk: &mut D, measure: &Measure) -> Result<(), Failed>
-    ensures { Ends (D.told desk.old) (D.told desk.new) Report (measure_lines measure.now.overflow measure.now.wirelength) result }
+/// Puts the report of routes that no round of repair changed.
+fn put_report<D: Desk>(pen: &mut Pen<'_, D>, cert: &Cert)
+    ensures same_desk { HasSameDesk pen.old pen.new }
+    ensures puts { Puts (pen_told D.told pen.old) (pen_told D.told pen.new) (report_text cert.now.overflow 0 cert.now) }
+{
+    put_line(pen, b"nets", &[u64::from(cert.nets)]);
+    put_line(pen, b"forced", &[u64::from(cert.forced)]);
+    put_line(pen, b"rounded", &[cert.overflow]);
+    put_line(pen, b"rounds", &[0]);
+    put_line(pen, b"overflow", &[cert.overflow]);
+    put_line(pen, b"wirelength", &[cert.wirelength]);
+    put_labelled_fraction(pen, b"peak", cert.peak);
+    put_labelled_fraction(pen, b"bound", cert.bound);
+    put_budget(pen, cert.budget);
+}
+
+/// Writes the report of routes that no round of repair changed.
+pub(crate) fn write_report<D: Desk>(desk: &mut D, cert: &Cert) -> Result<(), Failed>
+    ensures { Ends (D.told desk.old) (D.told desk.new) Report (report_text cert.now.overflow 0 cert.now) result }
 {
     let mut pen = Pen::new(desk, Port::Report);
-    put_line(&mut pen, b"overflow", &[measure.overflow]);
-    put_line(&mut pen, b"wirelength", &[measure.wirelength]);
+    put_report(&mut pen, cert);
     pen.finish()
 }

@@ -3,45 +3,107 @@
 ghost use Rattle.std.specs.Prelude.{◌≡◌, ◌⊎◌, ℕ, take};
 ghost use Rattle.gr_desk.specs.declared.port.Port.TheVariants.{Report};
 ghost use Rattle.gr_desk.specs.Runs.{Adds};
-ghost use Rattle.router_cli.specs.Measured.{IsRouted};
-ghost use Rattle.router_cli.specs.RouteRun.{IsRouteRun, report_of};
+ghost use Rattle.price_workers.specs.Settings.{AreSettings};
+ghost use Rattle.router_cli.specs.Finishing.{texts_of, MakesFiles, Finishes};
+ghost use Rattle.router_cli.specs.Lines.{done_status, unwritten_status, unwritten_line, report_text};
+ghost use Rattle.router_cli.specs.Routed.{IsRoutedDesign};
+ghost use Rattle.router_cli.specs.RouteRun.{IsRouteRun};
+ghost use Rattle.router_cli.specs.Tasks.{settings_of, task_of};
 ghost use Rattle.router_cli.specs.Traces.{OutputFailed};
 
+use crate::lines::write_unwritten;
+use crate::outputs::{make_cert, make_routes};
 use crate::prepared::prepare;
 use crate::refuse::refuse;
 use crate::report::write_report;
 use crate::routed_design::RoutedDesign;
+use cert_text::Cert;
+use command_words::RouteRequest;
 use gr_desk::{Desk, Failed};
+use price_workers::{Gate, Settings};
 use std::alloc::Global;
+use std::thread::Threads;
 
-/// The status of a run whose report was written whole.
+/// The status of a run whose files and report were written whole.
 const DONE: u8 = 0;
 
-/// The status of a run whose report could not be written whole.
+/// The status of a run whose files or report could not be written whole.
 const UNWRITTEN: u8 = 7;
 
-/// Routes the design under the name, reports the routes, and answers the status.
-pub(crate) fn route<D: Desk>(alloc: Global, name: &str, desk: &mut D) -> u8
-    ensures { IsRouteRun name.now (D.told desk.old) (D.told desk.new) result }
+/// The settings that a command asks for.
+fn settings_of(request: &RouteRequest<'_>) -> Settings
+    ensures { result ≡ settings_of request.now }
 {
-    match prepare(alloc, name, desk) {
-        Ok(routed) => report(desk, &routed),
+    Settings {
+        workers: request.workers,
+        phases: request.phases,
+        rounds: 0,
+        seed: request.seed,
+        budget: request.budget,
+    }
+}
+
+/// Routes the design under the input's name, writes the routes and their certificate, reports what it says, and answers the status.
+pub(crate) fn route<R: Threads + Sync, D: Desk, G: Gate>(
+    rt: &R,
+    alloc: Global,
+    request: &RouteRequest<'_>,
+    desk: &mut D,
+    gate: &G,
+) -> u8
+    requires settings { AreSettings (settings_of request.now) }
+    ensures { IsRouteRun (task_of request.now) (D.told desk.old) (D.told desk.new) result }
+{
+    let settings = settings_of(request);
+    match prepare(rt, alloc, request.input, &settings, desk, gate) {
+        Ok(routed) => finish(desk, request, &routed),
         Err(refusal) => refuse(desk, refusal),
     }
 }
 
-/// Writes the report, and answers the status.
-fn report<D: Desk>(desk: &mut D, routed: &RoutedDesign) -> u8
-    requires { IsRouted routed.now }
-    ensures whole { result ≡ 0 → Adds (D.told desk.old) (D.told desk.new) Report (report_of routed.now.design routed.now.trees.items) }
-    ensures part { result ≡ 7 → (n : ℕ)
-        × Adds (D.told desk.old) (D.told desk.new) Report (take n (report_of routed.now.design routed.now.trees.items)) }
-    ensures statuses { (result ≡ 0) ⊎ (result ≡ 7) }
-    ensures cause { result ≡ 7 → OutputFailed (D.told desk.old) (D.told desk.new) }
-    ensures quiet { result ≡ 0 → (D.told desk.new).out_faults ≡ (D.told desk.old).out_faults }
+/// Makes the files and writes the report, and answers the status.
+fn finish<D: Desk>(desk: &mut D, request: &RouteRequest<'_>, routed: &RoutedDesign) -> u8
+    requires routed { IsRoutedDesign (settings_of request.now) routed.now }
+    ensures { Finishes (task_of request.now) (texts_of routed.now) (D.told desk.old) (D.told desk.new) result }
 {
-    match write_report(desk, routed) {
+    match make_files(desk, request, routed) {
+        Ok(()) => report(desk, &routed.cert),
+        Err(Failed) => say_unwritten(desk),
+    }
+}
+
+/// Makes the file of the routes, and then that of the certificate.
+fn make_files<D: Desk>(
+    desk: &mut D,
+    request: &RouteRequest<'_>,
+    routed: &RoutedDesign,
+) -> Result<(), Failed>
+    requires routed { IsRoutedDesign (settings_of request.now) routed.now }
+    ensures { MakesFiles (task_of request.now) (texts_of routed.now) (D.told desk.old) (D.told desk.new) result }
+{
+    make_routes(desk, request.routes, &routed.design, routed.trees.list())?;
+    make_cert(desk, request.certificate, &routed.cert)
+}
+
+/// Writes the report, and answers the status.
+fn report<D: Desk>(desk: &mut D, cert: &Cert) -> u8
+    ensures whole { result ≡ done_status → Adds (D.told desk.old) (D.told desk.new) Report (report_text cert.now.overflow 0 cert.now) }
+    ensures part { result ≡ unwritten_status → (n : ℕ) × Adds (D.told desk.old) (D.told desk.new) Report (take n (report_text cert.now.overflow 0 cert.now)) }
+    ensures statuses { (result ≡ done_status) ⊎ (result ≡ unwritten_status) }
+    ensures cause { result ≡ unwritten_status → OutputFailed (D.told desk.old) (D.told desk.new) }
+    ensures quiet { result ≡ done_status → (D.told desk.new).out_faults ≡ (D.told desk.old).out_faults }
+{
+    match write_report(desk, cert) {
         Ok(()) => DONE,
         Err(Failed) => UNWRITTEN,
     }
+}
+
+/// Says on the report that a file could not be written, as far as that can be written, and answers the status.
+fn say_unwritten<D: Desk>(desk: &mut D) -> u8
+    ensures status { result ≡ unwritten_status }
+    ensures part { (n : ℕ) × Adds (D.told desk.old) (D.told desk.new) Report (take n unwritten_line) }
+{
+    let _ = write_unwritten(desk, UNWRITTEN);
+    UNWRITTEN
 }

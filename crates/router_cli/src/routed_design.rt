@@ -1,12 +1,14 @@
 //! A design with its routes.
 
+use cert_text::Cert;
 use grid_graph::Design;
-use tree_set::{Measure, Tree};
+use price_workers::Trees;
 
-/// A design, one tree per net in file order, and what is measured of them.
+/// A design, one set per net in file order, the prices of the loads of all phases, and what is said of the sets.
 #[derive(Drop)]
 pub struct RoutedDesign {
     pub design: Design,
-    pub trees: Vec<Tree>,
-    pub measure: Measure,
+    pub trees: Trees,
+    pub prices: Vec<u32>,
+    pub cert: Cert,
 }

@@ -5,27 +5,36 @@ ghost use Rattle.router_cli.specs.Runs.{IsRun};
 use crate::refusal::Refusal;
 use crate::refuse::refuse;
 use crate::route::route;
-use crate::words::route_name;
+use command_words::{Command, WordsError, command_of};
 use gr_desk::Desk;
+use price_workers::Gate;
 use std::alloc::Global;
+use std::thread::Threads;
 
-/// All that the program does. `words` are the arguments without the program's name, and the answer
-/// is the status that the program ends with.
+/// All that the program does. `words` are the arguments without the program's name, `gate` is asked before the turn of each net,
+/// and the answer is the status that the program ends with.
 ///
 /// | Status | Comes |
 /// |---|---|
-/// | 0 | the report has a route for each net, their overflow and their wirelength |
+/// | 0 | the routes and their certificate are written, and the report says what the certificate says |
 /// | 2 | the words are no command |
-/// | 3 | the input is no design, or has a net of more than two terminals |
+/// | 3 | the input is no design |
 /// | 5 | a net is unreachable |
 /// | 6 | the input could not be opened or read |
-/// | 7 | a write to the report failed |
-/// | 8 | want of memory, before a report was begun |
-pub fn run<D: Desk>(alloc: Global, words: &Vec<String>, desk: &mut D) -> u8
+/// | 7 | a file could not be created or written, or the report not written whole |
+/// | 8 | want of memory, before a file was created |
+pub fn run<R: Threads + Sync, D: Desk, G: Gate>(
+    rt: &R,
+    alloc: Global,
+    words: &Vec<String>,
+    desk: &mut D,
+    gate: &G,
+) -> u8
     ensures { IsRun words.now.items (D.told desk.old) (D.told desk.new) result }
 {
-    match route_name(words) {
-        Some(name) => route(alloc, name, desk),
-        None => refuse(desk, Refusal::NoCommand),
+    match command_of(alloc, words.as_slice()) {
+        Ok(Command::Route(request)) => route(rt, alloc, &request, desk, gate),
+        Err(WordsError::Refused) => refuse(desk, Refusal::NoCommand),
+        Err(WordsError::NoMemory) => refuse(desk, Refusal::NoMemory),
     }
 }

@@ -1,25 +1,22 @@
-//! The worked designs, and the tests that need a whole design.
+//! The worked designs: texts of a few lines that a reader can work out by hand, and sets of pieces for their nets.
 //!
-//! Each design is a text of a few lines that a reader can work out by hand. The tests say what is read of it, what its
-//! nets are routed with, and what is measured and written then.
+//! ```text
+//! let design = design(alloc, 119, 144, THREE_NETS)?;
+//! ```
 //!
-//! It stands on every library of this repository that a run uses. Nothing stands on it.
+//! It stands on `ispd_reader`, `grid_graph` and `grid_base`. The tests of `design_tests` and `phase_tests` stand on it, and nothing
+//! that a run uses.
+//!
+//! Promised: nothing. The texts are what they are, and the tests say what is read of them.
 
 #![tactic(auto)]
 
-#[cfg(test)]
-mod design_text_tests;
-#[cfg(test)]
-mod designs;
-#[cfg(test)]
-mod grid_tests;
-#[cfg(test)]
-mod route_text_tests;
-#[cfg(test)]
-mod run_tests;
-#[cfg(test)]
-mod size_tests;
-#[cfg(test)]
-mod tree_tests;
-#[cfg(test)]
-mod trees;
+mod sets;
+mod texts;
+
+pub use sets::{ARCH, ROW_SET, STAR_SET};
+pub use texts::{
+    BLOCK, BRIDGE, CHOKED_SQUARE, CRLF, FORCED, LAYERED, ROUND, ROW, SHARED_LAYERS, SHARED_ROW,
+    SIX_IN_A_ROW, SQUARE, STACK, STACK_OF_TWO, STAR, THREE_NETS, WALLED, WIDE_WIRES, crowd, design,
+    edited, vast,
+};

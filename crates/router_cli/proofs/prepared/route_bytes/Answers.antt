@@ -1,12 +1,10 @@
-use Rattle.std.proofs.Common.{◌≡◌, List, ℕ, sym, subst, rules, refl, inl, inr}
+use Rattle.std.proofs.Common.{◌≡◌, List, ℕ, subst, refl, inl, inr}
 use Rattle.std.specs.Prelude.{◌⊎◌}
-use Rattle.std.proofs.lemmas.Slice.Zip.{AllZip-long}
 use Rattle.grid_graph.specs.declared.design.Design.{Design}
 use Rattle.grid_graph.specs.declared.ground_error.GroundError.{GroundError}
 use Rattle.grid_graph.specs.declared.ground_error.GroundError.TheVariants as ground_errors
 use Rattle.grid_graph.specs.Grounds.{IsFirstGroundError}
 use Rattle.ispd_reader.specs.Designs.{IsDesignOfText}
-use Rattle.tree_set.specs.Routings.{IsRoute}
 use Rattle.router_cli.specs.declared.refusal.Refusal.{Refusal}
 use Rattle.router_cli.specs.declared.refusal.Refusal.TheVariants.{NoMemory}
 use Rattle.router_cli.specs.Refusals.{IsRefusedFor}
@@ -24,14 +22,9 @@ abbrev IsTextRefusal : List ℕ → Refusal → Type 0
 IsTextRefusal text r = IsRefusedFor text r ⊎ (r ≡ NoMemory)
 
 pub returns-in_err-grounds-clause-refused : goal.returns-in_err-grounds-clause-refused
-returns-in_err-grounds-clause-refused c = λ r is.
+returns-in_err-grounds-clause-refused g c = λ r is.
     let d = c.in_ok-design.design in
     let named : IsDesignOfText c.args.bytes.now d = c.in_ok-design.ensures.design in
     let made : of_ground_error c.in_err-grounds.field-0.0 ≡ r = same_refusal c.from_residual-in_err-grounds.result _ r c.from_residual-in_err-grounds.ensures.1 is in
     subst (IsTextRefusal c.args.bytes.now) made
     (refused_for_grounds c.args.bytes.now d c.in_err-grounds.field-0.0 named c.in_err-grounds.ensures.cause)
-
-pub measure_of-requires-clause-one_each : goal.measure_of-requires-clause-one_each
-measure_of-requires-clause-one_each c =
-    let d = c.in_ok-design.design in
-    rw c.as_slice-2.ensures.value (AllZip-long (IsRoute d.grid) d.nets c.in_ok-trees.trees.items c.in_ok-trees.ensures.routing)

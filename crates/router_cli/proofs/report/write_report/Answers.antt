@@ -1,31 +1,16 @@
+use Rattle.std.proofs.Common.{rules, subst}
 use Rattle.gr_desk.specs.declared.port.Port.TheVariants.{Report}
-use Rattle.gr_desk.specs.Pens.{Ends}
-use Rattle.gr_desk.proofs.Pens.{ends-behind}
-use Rattle.route_text.specs.RouteText.{routes_text}
-use Rattle.tree_set.specs.Loads.{load}
-use Rattle.tree_set.specs.Measures.{overflow, wirelength}
-use Rattle.router_cli.specs.Lines.{measure_lines}
-use Rattle.router_cli.proofs.Endings.{ends-longer}
+use Rattle.gr_desk.specs.Pens.{Ends, pen_told}
+use Rattle.gr_desk.proofs.Pens.{ends-put}
+use Rattle.router_cli.specs.Lines.{report_text}
 use Rattle.router_cli.proofs.report.write_report.Goals as goal
-
-pub returns-in_err-write_routes : goal.returns-in_err-write_routes
-returns-in_err-write_routes g c =
-    let d = c.args.routed.now.design in
-    let trees = c.args.routed.now.trees.items in
-    let ends = rw c.as_slice.ensures.value at c.in_err-write_routes.ensures.ends in
-    ends-longer (g.D.Desk.told c.args.desk.now) (g.D.Desk.told c.write_routes.new.desk) Report
-    (routes_text d.grid d.nets trees) (measure_lines (overflow d.grid (load d.grid d.nets trees)) (wirelength trees))
-    c.from_residual.result ends.part ends.cause c.from_residual.ensures.0
 
 pub returns : goal.returns
 returns g c =
     let told = g.D.Desk.told in
-    let d = c.args.routed.now.design in
-    let trees = c.args.routed.now.trees.items in
-    let lines = measure_lines (overflow d.grid (load d.grid d.nets trees)) (wirelength trees) in
-    let measured = c.requires.measured in
-    let first = rw c.as_slice.ensures.value at c.in_ok-write_routes.ensures.ends in
-    let last : Ends (told c.write_routes.new.desk) (told c.write_measure.new.desk) Report lines c.write_measure.result =
-    rw (← measured.overflow_is, ← measured.wirelength_is) c.write_measure.ensures in
-    ends-behind (told c.args.desk.now) (told c.write_routes.new.desk) (told c.write_measure.new.desk) Report
-    (routes_text d.grid d.nets trees) lines c.write_measure.result first.all first.quiet last
+    let start = told c.args.desk.now in
+    let text = report_text c.args.cert.now.overflow 0 c.args.cert.now in
+    let new = c.new-pen.ensures in
+    let ended : Ends start (told c.finish.new.self.0) Report text c.finish.result =
+    ends-put start _ Report (pen_told told c.new-pen.result) _ text _ new.told new.port new.nothing new.well c.put_report.ensures.puts c.finish.ensures in
+    subst (λ (desk : g.row.D.Denot). Ends start (told desk) Report text c.finish.result) (search rules) ended

@@ -1,0 +1,14 @@
+//! The tests of workers, phases and bounds on whole designs.
+//!
+//! They stand apart from the other tests of designs, so that both are proved side by side. Nothing stands on it.
+
+#![tactic(auto)]
+
+#[cfg(test)]
+mod bound_tests;
+#[cfg(test)]
+mod repair_tests;
+#[cfg(test)]
+mod share_tests;
+#[cfg(test)]
+mod worker_tests;

@@ -1,0 +1,51 @@
+-- What a certificate says of a design and of its routes.
+use Rattle.std.specs.Prelude.{ℕ, ◌≡◌, List, length, take, slice_index, map, Option, Bool, true, false}
+use Rattle.std.specs.List.{filter, range_with_len, count_by}
+use Rattle.std.specs.Option.{option_map}
+use Rattle.grid_base.specs.declared.piece.Piece.{Piece}
+use Rattle.grid_graph.specs.declared.design.Design.{Design}
+use Rattle.grid_graph.specs.declared.grid.Grid.{Grid}
+use Rattle.grid_graph.specs.declared.ground.Ground.{Ground}
+use Rattle.grid_graph.specs.declared.ground.Ground.TheVariants.{Open, WithChoked}
+use Rattle.grid_graph.specs.Grids.{edge_numbers}
+use Rattle.grid_graph.specs.Grounds.{AreGrounds}
+use Rattle.edge_prices.specs.Weights.{is_open}
+use Rattle.tree_set.specs.declared.budget.Budget.{Budget}
+use Rattle.tree_set.specs.Loads.{load}
+use Rattle.tree_set.specs.Measures.{overflow, wirelength, IsPeakWith}
+use Rattle.dual_bound.specs.DesignBounds.{IsBoundOrNone}
+use Rattle.cert_text.specs.declared.cert.Cert.{Cert}
+
+-- a net of this ground is forced: it needs choked edges
+abbrev pub is_forced : Ground → Bool
+is_forced Open = false
+is_forced WithChoked = true
+
+-- so many nets of the design are forced
+pub record IsForcedCount (d : Design) (count : ℕ) : Type 0 where
+  pub grounds : List Ground
+  pub are_grounds : AreGrounds d.grid d.nets grounds
+  pub counted : count ≡ count_by is_forced grounds
+
+-- the open edges, in rising order
+abbrev pub open_edges : Grid → List ℕ
+open_edges g = filter (is_open g) (range_with_len 0 (edge_numbers g))
+
+-- the prices of the open edges in a price vector
+abbrev pub open_prices : Grid → List ℕ → List ℕ
+open_prices g prices = map (slice_index prices) (open_edges g)
+
+-- the budget with the wirelength's price, which stands last in a price vector
+abbrev pub priced_budget : Grid → List ℕ → Option ℕ → Option Budget
+priced_budget g prices budget = option_map (λ most. record { most = most; price = slice_index prices (edge_numbers g) }) budget
+
+-- the certificate says what is measured of these sets, one per net, and the bound at these prices
+pub record IsCertified (d : Design) (budget : Option ℕ) (trees : List (List Piece)) (prices : List ℕ) (c : Cert) : Type 0 where
+  pub nets : c.nets ≡ length d.nets
+  pub forced : IsForcedCount d c.forced
+  pub overflow_is : c.overflow ≡ overflow d.grid (load d.grid d.nets trees)
+  pub wirelength_is : c.wirelength ≡ wirelength trees
+  pub peak : IsPeakWith d.grid (load d.grid d.nets trees) (wirelength trees) budget c.peak
+  pub budget_is : c.budget ≡ priced_budget d.grid prices budget
+  pub bound : IsBoundOrNone d (take (edge_numbers d.grid) prices) c.budget c.bound
+  pub prices_are : c.prices ≡ open_prices d.grid prices
