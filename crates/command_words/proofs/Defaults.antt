@@ -47,7 +47,7 @@ front_found (r ∷ rows) more id has = step (bytes_eq r.id id) refl has (front_f
     step false e t next = rw e (next t)
 
 -- behind rows without the id
-back_found : (rows more : List Row) (id : Text) → has_row id rows ≡ false → row_at id (rows ++ more) ≡ row_at id more
+pub back_found : (rows more : List Row) (id : Text) → has_row id rows ≡ false → row_at id (rows ++ more) ≡ row_at id more
 back_found [] more id none = refl
 back_found (r ∷ rows) more id none = step (bytes_eq r.id id) refl none (back_found rows more id)
   where

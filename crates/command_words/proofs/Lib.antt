@@ -3,6 +3,8 @@ pub mod Walks
 pub mod Uses
 pub mod Defaults
 pub mod Values
-pub mod RouteWords
-pub mod RouteRead
-pub mod RouteResult
+pub mod Commands
+pub mod Rules
+pub mod Names
+pub mod Found
+pub mod Parts

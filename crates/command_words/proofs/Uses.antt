@@ -59,7 +59,7 @@ uses_walk c p (word ∷ text ∷ words) [] h are = absurd are
 uses_walk c p (word ∷ text ∷ words) (u ∷ us) h are =
     ap (λ w. fold (walked c []) w words) (use_step c p word text u h are.0 are.1 are.2) ∙ uses_walk c p words us (with_use c u h) are.3
 
-or_else_assoc : (a b k : Kinds) → or_else (or_else a b) k ≡ or_else a (or_else b k)
+pub or_else_assoc : (a b k : Kinds) → or_else (or_else a b) k ≡ or_else a (or_else b k)
 or_else_assoc [] b k = refl
 or_else_assoc (x ∷ a) b k = refl
 

@@ -1,17 +1,19 @@
 -- What clap makes of a value of digits alone.
-use Rattle.std.proofs.Common.{◌≡◌, ◌≤◌, ◌<◌, ◌^◌, ◌&&◌, ℕ, Bool, true, sym, arith, rules, true≢false, List, [], ◌∷◌, length, Option, Some, None, Result, Ok, Err, nat_le}
+use Rattle.std.proofs.Common.{◌≡◌, ◌≤◌, ◌<◌, ◌^◌, ◌&&◌, ◌∙◌, ◌-◌, ℕ, Bool, true, false, refl, ap, sym, subst, arith, rules, true≢false, List, [], ◌∷◌, length, Option, Some, None, Result, Ok, Err, nat_le}
 use Rattle.std.specs.Bool.{Decides}
 use Rattle.std.specs.Char.{is_ascii_digit}
 use Rattle.std.specs.List.{list_all}
 use Rattle.std.specs.Str.Parse.{IsNumeral, ParsesUnsigned, digits_value, without_leading_plus}
 use Rattle.std.proofs.lemmas.Bool.Decides.{nat_tests, same_from_decides}
-use Rattle.std.proofs.lemmas.Str.Parse.{IsNumeralModel, not_in_digits, numerals_by_value, parse_gives, without_leading_plus_none}
+use Rattle.std.proofs.lemmas.Str.Parse.{IsNumeralModel, not_in_digits, numerals_by_value, parse_digits, parse_gives, without_leading_plus_none}
 use Rattle.clap.specs.Words.{Accepts, Text}
 use Rattle.clap.specs.Matches.{ReadsOne}
 use Rattle.clap.specs.ValueTests.{accepts}
 use Rattle.clap.proofs.ValueTestLemmas.{Accepts-accepts, accepts-Accepts}
 use Rattle.clap.specs.declared.builder.value_parser.ValueParser.TheVariants as vp
-use Rattle.command_words.specs.CommandLine.{is_value_word}
+use Rattle.std.specs.Prelude.{MatchOption}
+use Rattle.std.specs.Result.{OkIff, result_ok}
+use Rattle.command_words.specs.CommandLine.{is_seed_name, is_value_word}
 use Rattle.command_words.proofs.Uses.{HasNoHyphen, parts_true}
 
 own : IsNumeralModel (λ ds. list_all is_ascii_digit ds ≡ true) (digits_value 10)
@@ -63,3 +65,21 @@ reads_number E G t (Some v) is small only read =
 reads_number E G t None is small only read =
     let same : ◌≡◌ {A = Result ℕ E} (Err read.0) (Ok (digits_value 10 t)) = parse_gives own 64 t (Err read.0) (only t (Err read.0) read.1) (digits_are t is) (not_empty t is) small in
     cc
+
+-- digits are read where their value is a seed
+pub seed_read : {E : Type 0} (t : Text) (r : Result ℕ E) (o : Option ℕ) → is_value_word t ≡ true → ParsesUnsigned 64 10 t r → o ≡ result_ok r
+    → MatchOption o (is_seed_name t ≡ false) (λ seed. (is_seed_name t ≡ true) × (digits_value 10 t ≡ seed))
+seed_read {E} t (Ok v) o is parsed same =
+    let read : OkIff {E = E} (Ok v) ((0 < length t) × (digits_value 10 t < 2 ^ 64)) (digits_value 10 t) = parse_digits own {E = E} 64 t (Ok v) parsed (digits_are t is) in
+    let small : digits_value 10 t < 2 ^ 64 = read.0.1 in
+    let fits : nat_le (digits_value 10 t) (2 ^ 64 - 1) ≡ true = grind (arith, nat_tests) in
+    subst (λ (q : Option ℕ). MatchOption q (is_seed_name t ≡ false) (λ seed. (is_seed_name t ≡ true) × (digits_value 10 t ≡ seed))) (sym same)
+    (ap (λ b. b && nat_le (digits_value 10 t) (2 ^ 64 - 1)) is ∙ fits, sym read.1)
+seed_read {E} t (Err e) o is parsed same =
+    let read : OkIff {E = E} (Err e) ((0 < length t) × (digits_value 10 t < 2 ^ 64)) (digits_value 10 t) = parse_digits own {E = E} 64 t (Err e) parsed (digits_are t is) in
+    subst (λ (q : Option ℕ). MatchOption q (is_seed_name t ≡ false) (λ seed. (is_seed_name t ≡ true) × (digits_value 10 t ≡ seed))) (sym same)
+    (ap (λ b. b && nat_le (digits_value 10 t) (2 ^ 64 - 1)) is ∙ large (nat_le (digits_value 10 t) (2 ^ 64 - 1)) refl read)
+  where
+    large : (b : Bool) → nat_le (digits_value 10 t) (2 ^ 64 - 1) ≡ b → ((0 < length t) × (digits_value 10 t < 2 ^ 64) → ⊥) → b ≡ false
+    large false e never = refl
+    large true e never = absurd (never (not_empty t is, grind (arith, nat_tests)))

@@ -1,12 +1,48 @@
--- The form of each command that the program knows by name.
-use Rattle.std.specs.Prelude.{◌≡◌, ℕ, false, List}
+-- The commands and options that the program knows by name.
+use Rattle.std.specs.Prelude.{ℕ, List, [], ◌∷◌, codes, drop}
 use Rattle.command_words.specs.declared.kind.Kind.{Kind}
-use Rattle.command_words.specs.declared.kind.Kind.TheVariants.{Route}
-use Rattle.command_words.specs.CommandLine.{CommandForm, has_shape, route_form}
+use Rattle.command_words.specs.declared.kind.Kind.TheVariants.{Route, Measure, Judge, Make, Trial}
+use Rattle.command_words.specs.declared.option_name.OptionName.{OptionName}
+use Rattle.command_words.specs.declared.option_name.OptionName.TheVariants.{Workers, Phases, Rounds, Seed, Budget}
+use Rattle.command_words.specs.declared.option_name.OptionName.TheVariants.{Cols, Rows, Layers, Nets}
+use Rattle.command_words.specs.CommandLine.{CommandForm, OptionForm}
+use Rattle.command_words.specs.CommandLine.{route_form, measure_form, judge_form, make_form, trial_form}
+use Rattle.command_words.specs.CommandLine.{workers_option, phases_option, rounds_option, seed_option, budget_option}
+use Rattle.command_words.specs.CommandLine.{cols_option, rows_option, layers_option, nets_option}
 
 abbrev pub form_of : Kind → CommandForm
 form_of Route = route_form
+form_of Measure = measure_form
+form_of Judge = judge_form
+form_of Make = make_form
+form_of Trial = trial_form
 
--- the words have the shape of no command
-abbrev pub HasNoShape : List (List ℕ) → Type 0
-HasNoShape words = (kind : Kind) → has_shape (form_of kind) words ≡ false
+abbrev pub option_of : OptionName → OptionForm
+option_of Workers = workers_option
+option_of Phases = phases_option
+option_of Rounds = rounds_option
+option_of Seed = seed_option
+option_of Budget = budget_option
+option_of Cols = cols_option
+option_of Rows = rows_option
+option_of Layers = layers_option
+option_of Nets = nets_option
+
+-- the option's word without the two hyphens
+abbrev pub id_of : OptionName → List ℕ
+id_of option = drop 2 (option_of option).word
+
+abbrev pub options_of : Kind → List OptionName
+options_of Route = Workers ∷ Phases ∷ Rounds ∷ Seed ∷ Budget ∷ []
+options_of Measure = []
+options_of Judge = []
+options_of Make = Seed ∷ Cols ∷ Rows ∷ Layers ∷ Nets ∷ []
+options_of Trial = Cols ∷ Rows ∷ Layers ∷ Nets ∷ []
+
+-- what each name of the command is called
+abbrev pub names_of : Kind → List (List ℕ)
+names_of Route = codes "IN" ∷ codes "ROUTES" ∷ codes "CERT" ∷ []
+names_of Measure = codes "IN" ∷ codes "ROUTES" ∷ []
+names_of Judge = codes "IN" ∷ codes "ROUTES" ∷ codes "CERT" ∷ []
+names_of Make = codes "OUT" ∷ []
+names_of Trial = codes "SEED" ∷ []

@@ -1,3 +1,3 @@
 pub mod CommandLine
 pub mod Kinds
-pub mod RouteApp
+pub mod Apps

@@ -3,7 +3,7 @@
 //! ```text
 //! // words: route a.gr a.routes a.cert --workers 4 --seed 7
 //! let command = command_of(alloc, words.as_slice())?;
-//! // Command::Route(RouteRequest { input: "a.gr", workers: 4, phases: 4, seed: 7, budget: None, .. })
+//! // Command::Route(RouteRequest { input: "a.gr", workers: 4, phases: 4, rounds: 4, seed: 7, budget: None, .. })
 //! ```
 //!
 //! It stands on the kit's `clap`, which gives the values, the defaults and the ranges, and on `thiserror`. The shape of
@@ -14,17 +14,29 @@
 //! for, with no word on how they are read.
 #![tactic(auto)]
 
+mod clap_command;
 mod command;
+mod judge_request;
 mod kind;
+mod make_request;
+mod measure_request;
+mod option_name;
 mod read;
-mod route_command;
+mod read_words;
+mod requests;
 mod route_request;
 mod shape;
+mod trial_request;
+mod word;
 mod words_error;
 
 pub use command::Command;
+pub use judge_request::JudgeRequest;
+pub use make_request::MakeRequest;
+pub use measure_request::MeasureRequest;
 pub use read::command_of;
 pub use route_request::RouteRequest;
+pub use trial_request::TrialRequest;
 pub use words_error::WordsError;
 
 #[cfg(test)]

@@ -1,12 +1,13 @@
 //! The command of the words.
 
-ghost use Rattle.std.specs.Prelude.{◌≡◌, IfOk, IfErr, map, string_bytes, false};
-ghost use Rattle.command_words.specs.CommandLine.{AsksFor, HasRanges, is_command};
+ghost use Rattle.std.specs.Prelude.{◌≡◌, IfOk, IfErr, map, string_bytes, false, true};
+ghost use Rattle.command_words.specs.CommandLine.{AsksFor, HasRanges, has_shape, is_command, is_command_of};
+ghost use Rattle.command_words.specs.Kinds.{form_of};
 ghost use Rattle.command_words.specs.declared.words_error.WordsError.TheVariants.{Refused};
 
 use crate::command::Command;
 use crate::kind::Kind;
-use crate::route_command::route_request;
+use crate::requests::{judge_request, make_request, measure_request, route_request, trial_request};
 use crate::shape::kind_of;
 use crate::words_error::WordsError;
 use std::alloc::Global;
@@ -19,6 +20,27 @@ pub fn command_of<'a>(alloc: Global, words: &'a [String]) -> Result<Command<'a>,
 {
     match kind_of(words) {
         None => Err(WordsError::Refused),
-        Some(Kind::Route) => Ok(Command::Route(route_request(alloc, words)?)),
+        Some(kind) => command_of_kind(alloc, kind, words),
+    }
+}
+
+/// What words of the command's shape ask for, where their values are in range.
+fn command_of_kind<'a>(
+    alloc: Global,
+    kind: Kind,
+    words: &'a [String],
+) -> Result<Command<'a>, WordsError>
+    requires { has_shape (form_of kind) (map string_bytes words.now) ≡ true }
+    ensures asked { IfOk result (AsksFor (map string_bytes words.now)) }
+    ensures ranges { IfOk result HasRanges }
+    ensures refused { IfErr result (λ e. e ≡ Refused
+        → is_command_of (map string_bytes words.now) (form_of kind) ≡ false) }
+{
+    match kind {
+        Kind::Route => Ok(Command::Route(route_request(alloc, words)?)),
+        Kind::Measure => Ok(Command::Measure(measure_request(alloc, words)?)),
+        Kind::Judge => Ok(Command::Judge(judge_request(alloc, words)?)),
+        Kind::Make => Ok(Command::Make(make_request(alloc, words)?)),
+        Kind::Trial => Ok(Command::Trial(trial_request(alloc, words)?)),
     }
 }

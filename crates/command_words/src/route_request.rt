@@ -9,6 +9,7 @@ pub struct RouteRequest<'a> {
     pub certificate: &'a str,
     pub workers: u32,
     pub phases: u32,
+    pub rounds: u32,
     pub seed: u64,
     pub budget: Option<u64>,
 }

@@ -1,21 +1,17 @@
 //! The shape of the words of a command: its word, its names, and options with their values.
 
-ghost use Rattle.std.specs.Prelude.{◌≡◌, ◌&&◌, map, take, drop, true, MatchOption, string_bytes};
-ghost use Rattle.std.specs.Char.{is_ascii_digit};
+ghost use Rattle.std.specs.Prelude.{◌≡◌, ◌&&◌, map, take, drop, false, true, MatchOption, string_bytes};
 ghost use Rattle.std.specs.List.{list_all, list_any};
 ghost use Rattle.std.specs.Str.{bytes_eq};
-ghost use Rattle.command_words.specs.CommandLine.{all_differ, are_names, are_options, has_shape, in_pairs};
-ghost use Rattle.command_words.specs.CommandLine.{is_file_name, is_value_word};
-ghost use Rattle.command_words.specs.Kinds.{form_of, HasNoShape};
+ghost use Rattle.command_words.specs.CommandLine.{all_differ, are_names, are_options, has_shape, in_pairs, is_command};
+ghost use Rattle.command_words.specs.Kinds.{form_of};
 
 use crate::kind::Kind;
+use crate::word::is_value_word;
 
-/// The most digits of a value.
-const MOST_DIGITS: usize = 20;
-
-/// The command whose shape the words have.
+/// The command whose shape the words have. Words with no such shape are no command.
 pub(crate) fn kind_of(words: &[String]) -> Option<Kind>
-    ensures { MatchOption result (HasNoShape (map string_bytes words.now))
+    ensures { MatchOption result (is_command (map string_bytes words.now) ≡ false)
         (λ kind. has_shape (form_of kind) (map string_bytes words.now) ≡ true) }
 {
     let (first, rest) = words.split_first()?;
@@ -32,34 +28,26 @@ fn has_parts(kind: Kind, words: &[String]) -> bool
     ensures { result ≡ (are_names (form_of kind) (take (form_of kind).names (map string_bytes words.now))
         && are_options (form_of kind) (drop (form_of kind).names (map string_bytes words.now))) }
 {
-    let names = kind.names();
+    let names = kind.name_count();
     if words.len() < names {
         return false;
     }
-    are_differing_names(&words[..names]) && are_options(kind, &words[names..])
+    are_differing_names(kind, &words[..names]) && are_options(kind, &words[names..])
 }
 
-/// Whether the words are names, and no two of them equal.
-fn are_differing_names(words: &[String]) -> bool
-    ensures { result ≡ (list_all is_file_name (map string_bytes words.now) && all_differ (map string_bytes words.now)) }
+/// Whether the words are names of the command, and no two of them equal.
+fn are_differing_names(kind: Kind, words: &[String]) -> bool
+    ensures { result ≡ (list_all (form_of kind).is_name (map string_bytes words.now)
+        && all_differ (map string_bytes words.now)) }
 {
     let mut left = words;
     while let [name, others @ ..] = left {
-        if !is_file_name(name.as_str()) || is_among(name.as_str(), others) {
+        if !kind.is_name(name.as_str()) || is_among(name.as_str(), others) {
             return false;
         }
         left = others;
     }
     true
-}
-
-fn is_file_name(word: &str) -> bool
-    ensures { result ≡ is_file_name word.now }
-{
-    match word.as_bytes() {
-        [] => false,
-        [first, ..] => *first != b'-',
-    }
 }
 
 fn is_among(name: &str, words: &[String]) -> bool
@@ -89,18 +77,6 @@ fn are_options(kind: Kind, words: &[String]) -> bool
         left = others;
     }
     left.is_empty()
-}
-
-fn is_value_word(word: &str) -> bool
-    ensures { result ≡ is_value_word word.now }
-{
-    1 <= word.len() && word.len() <= MOST_DIGITS && are_digits(word.as_bytes())
-}
-
-fn are_digits(bytes: &[u8]) -> bool
-    ensures { result ≡ list_all is_ascii_digit bytes.now }
-{
-    bytes.iter().all(|byte| byte.is_ascii_digit())
 }
 
 /// Whether the options and values begin a pair with this option.

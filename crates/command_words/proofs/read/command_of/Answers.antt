@@ -1,6 +1,7 @@
-use Rattle.std.proofs.Common.{refl}
-use Rattle.command_words.specs.declared.kind.Kind.TheVariants.{Route}
+use Rattle.std.proofs.Common.{map}
+use Rattle.std.specs.Prelude.{string_bytes}
+use Rattle.command_words.proofs.Commands.{refusals}
 use Rattle.command_words.proofs.read.command_of.Goals as goal
 
-pub returns-in-None-clause-refused : goal.returns-in-None-clause-refused
-returns-in-None-clause-refused c = λ is. rw (c.in-None.ensures Route) refl
+pub returns-in-Some-clause-refused : goal.returns-in-Some-clause-refused
+returns-in-Some-clause-refused c = refusals _ c.in-Some.kind (map string_bytes c.args.words.now) c.in-Some.ensures c.command_of_kind.ensures.refused
