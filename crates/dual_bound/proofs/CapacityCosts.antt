@@ -23,7 +23,7 @@ sum_by-range-more f first (suc count) =
       ap f place,
     )
 
-sum_by-range-same : (f h : ℕ → ℕ) (count first : ℕ) → ((r : ℕ) → r < first + count → f r ≡ h r) → sum_by f (range_with_len first count) ≡ sum_by h (range_with_len first count)
+pub sum_by-range-same : (f h : ℕ → ℕ) (count first : ℕ) → ((r : ℕ) → r < first + count → f r ≡ h r) → sum_by f (range_with_len first count) ≡ sum_by h (range_with_len first count)
 sum_by-range-same f h zero first same = refl
 sum_by-range-same f h (suc count) first same = omega (
   arith,

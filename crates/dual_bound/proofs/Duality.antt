@@ -39,7 +39,7 @@ one_net_more g n nets tree trees r =
     ∙ by_cases (r == edge_numbers g) (length tree) (wirelength trees) (net_load g n.width tree r) (load g nets trees r)
 
 -- a routing costs at least what all its routes cost at least
-routing_cost : (g : Grid) (prices : List ℕ) (budget : Option Budget) (nets : List NetSpec) (trees : List (List Piece)) (lows : List ℕ)
+pub routing_cost : (g : Grid) (prices : List ℕ) (budget : Option Budget) (nets : List NetSpec) (trees : List (List Piece)) (lows : List ℕ)
     → IsRouting g nets trees → AllZip (IsAtMostEachRoute g prices budget) nets lows
     → sum lows ≤ priced (price_at g prices budget) (load_on g nets trees) (range_with_len 0 (entries g))
 routing_cost g prices budget [] trees [] routes low = omega arith

@@ -5,6 +5,7 @@ pub mod Duality
 pub mod Entries
 pub mod NetLimits
 pub mod NetsOf
+pub mod Overfull
 pub mod PartSums
 pub mod LoadCosts
 pub mod Routes

@@ -7,6 +7,7 @@ pub use Rattle.lower_bound.specs.Costs
 pub use Rattle.lower_bound.specs.NetBounds
 pub mod Bounds
 pub mod DesignBounds
+pub mod LeastOverflow
 pub mod Limits
 pub mod Parts
 pub mod Prices

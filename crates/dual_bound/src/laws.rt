@@ -1,12 +1,18 @@
-//! Weak duality: the contracts of calls that do nothing.
+//! Weak duality, and what it says of overflow: the contracts of calls that do nothing.
 
-ghost use Rattle.std.specs.Prelude.{ℕ, ◌*◌, ◌<◌, ◌≤◌, List, Option};
+ghost use Rattle.std.specs.Prelude.{ℕ, ◌*◌, ◌<◌, ◌≤◌, List, Option, None};
 ghost use Rattle.std.specs.List.{AllZip, sum};
+ghost use Rattle.grid_base.specs.declared.piece.Piece.{Piece};
 ghost use Rattle.grid_graph.specs.declared.design.Design.{Design};
+ghost use Rattle.edge_prices.specs.Weights.{AreEdgePrices};
 ghost use Rattle.tree_set.specs.declared.budget.Budget.{Budget};
 ghost use Rattle.tree_set.specs.Budgets.{most_of};
+ghost use Rattle.tree_set.specs.Loads.{load};
+ghost use Rattle.tree_set.specs.Measures.{overflow};
+ghost use Rattle.tree_set.specs.Routings.{IsRouting};
 ghost use Rattle.dual_bound.specs.Bounds.{IsResource, BoundsDesign};
 ghost use Rattle.dual_bound.specs.DesignBounds.{IsAtMostEachRoute, IsSumOfBounds};
+ghost use Rattle.dual_bound.specs.LeastOverflow.{IsGreatestPrice, least_overflow};
 ghost use Rattle.dual_bound.specs.Prices.{ArePricesWith, capacity_cost};
 
 /// Weak duality. At any price list at which the capacities cost something, the sum of what the nets' routes cost at least
@@ -22,4 +28,14 @@ pub fn weak_duality()
         → IsSumOfBounds d.grid prices budget d.nets total
         → 1 ≤ b → a * capacity_cost d.grid prices budget ≤ total * b → BoundsDesign d (most_of budget) a b }
     ensures zero { (d : Design) (budget : Option ℕ) (r b : ℕ) → IsResource d.grid budget r → 1 ≤ b → BoundsDesign d budget 0 b }
+{}
+
+/// Prices show overflow. What the nets' routes cost at least beyond what all capacities cost has to be paid on edges that have
+/// more load than capacity, and each unit of such an excess pays the greatest price at most. So every routing, of whole
+/// routes, has at least so much overflow.
+pub fn prices_show_overflow()
+    ensures { (d : Design) (prices : List ℕ) (price total : ℕ) (trees : List (List Piece))
+        → AreEdgePrices d.grid prices → IsGreatestPrice prices price
+        → IsSumOfBounds d.grid prices None d.nets total → IsRouting d.grid d.nets trees
+        → least_overflow total (capacity_cost d.grid prices None) price ≤ overflow d.grid (load d.grid d.nets trees) }
 {}

@@ -24,4 +24,4 @@ mod priced;
 mod tiles;
 
 pub use design_bound::bound;
-pub use laws::weak_duality;
+pub use laws::{prices_show_overflow, weak_duality};
