@@ -1,0 +1,4 @@
+pub mod FieldTexts
+pub mod Levels
+pub mod Numbered
+pub mod WordCounts

@@ -1,0 +1,7 @@
+pub use Rattle.gr_desk.specs.Pens
+pub use Rattle.seed_words.specs.SeedWords
+pub mod Shapes
+pub mod RandomWords
+pub mod MadeNets
+pub mod MadeAdjustments
+pub mod MadeText

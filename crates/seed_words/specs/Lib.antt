@@ -1,0 +1,2 @@
+pub mod SeedWords
+pub mod DrawnStreams
