@@ -1,0 +1,15 @@
+pub mod Adjusting
+pub mod Contents
+pub mod Drawn
+pub mod Generated
+pub mod Heading
+pub mod LayerEdges
+pub mod Layers
+pub mod Lengths
+pub mod LineWords
+pub mod Lines
+pub mod Nets
+pub mod Parts
+pub mod Pins
+pub mod Reaching
+pub mod Tokens
