@@ -117,6 +117,32 @@ routed() {
 routed one_net
 routed detour --phases 1
 routed three_layers --phases 1 --workers 1
+expect 'no rounds of repair' 0 "$(sed 's/^rounds 4$/rounds 0/' "$here/three_layers.report")" route three_layers.gr a.routes a.cert --phases 1 --rounds 0
+made 'routes without repair' a.routes "$here/three_layers.routes"
+rm a.cert
+
+# two nets along a side of three tiles, on which only one has room
+row 2 2 1 '0 0 10 10' '2
+a 0 2 1
+5 5 1
+25 5 1
+b 1 2 1
+5 5 1
+25 5 1
+0' | sed 's/^grid 3 1 1$/grid 3 2 1/' >along.gr
+expect 'a net that goes round in the first round of repair' 0 'nets 2
+forced 0
+rounded 4
+rounds 1
+overflow 0
+wirelength 6
+peak 1/1
+bound 51032/68451' route along.gr a.routes a.cert --phases 1
+printf '%s\n' 'a 0' '(5,15,1)-(25,15,1)' '(5,5,1)-(5,15,1)' '(25,5,1)-(25,15,1)' '!' 'b 1' '(5,5,1)-(25,5,1)' '!' >"$room/along.routes"
+made 'its routes' a.routes "$room/along.routes"
+printf '%s\n' 'grouter certificate 1' 'nets 2' 'forced 0' 'overflow 0' 'wirelength 6' 'peak 1/1' 'bound 51032/68451' 'prices 7' \
+    12758 8587 12758 8587 8587 8587 8587 >"$room/along.cert"
+made 'its certificate' a.cert "$room/along.cert"
 
 row 0 4 1 '0 0 10 10' 0 >'no nets.gr'
 expect 'a design without nets, under a name with a space' 0 'nets 0
@@ -148,7 +174,7 @@ awk -v n=$many 'BEGIN { for (k = 0; k < n; k++) printf "n %d\n(5,5,1)-(25,5,1)\n
 expect 'two thousand nets' 0 'nets 2000
 forced 0
 rounded 7992
-rounds 0
+rounds 4
 overflow 7992
 wirelength 4000
 peak 1000/1
@@ -179,7 +205,7 @@ expect 'an option without a value' 2 "$usage" route one_net.gr a.routes a.cert -
 expect 'an option in one word' 2 "$usage" route one_net.gr a.routes a.cert --phases=2
 expect 'an option twice' 2 "$usage" route one_net.gr a.routes a.cert --phases 2 --phases 2
 expect 'an option before the names' 2 "$usage" route --phases 2 one_net.gr a.routes a.cert
-expect 'rounds, which are still to come' 2 "$usage" route one_net.gr a.routes a.cert --rounds 2
+expect 'too many rounds' 2 "$usage" route one_net.gr a.routes a.cert --rounds 17
 expect 'an option that is none' 2 "$usage" route one_net.gr a.routes a.cert --rows 2
 expect 'an option that is cut short' 2 "$usage" route one_net.gr a.routes a.cert --phase 2
 expect 'help' 2 "$usage" route --help
@@ -274,7 +300,7 @@ judge 'want of memory' 8
 # ---- what all runs left
 
 ls -R . >"$room/said"
-printf '%s\n' .: detour.gr folder many.gr 'no nets.gr' one_net.gr three_layers.gr vast.gr '' ./folder: crlf.gr >"$room/wanted"
+printf '%s\n' .: along.gr detour.gr folder many.gr 'no nets.gr' one_net.gr three_layers.gr vast.gr '' ./folder: crlf.gr >"$room/wanted"
 : >"$room/complained"
 got=0
 judge 'no other file was made' 0

@@ -7,8 +7,9 @@ use std::alloc::{AllocError, Global};
 use std::test::Fail;
 use std::thread::Threads;
 use worked_designs::{
-    CHOKED_SQUARE, CRLF, FORCED, LAYERED, ROUND, ROW, SHARED_LAYERS, SHARED_ROW, SIX_IN_A_ROW,
-    SQUARE, STACK, STACK_OF_TWO, STAR, THREE_NETS, WALLED, WIDE_WIRES, crowd, edited, vast,
+    CHOKED_SQUARE, CRLF, FORCED, LAYERED, NO_WAY_ROUND, ROUND, ROW, SHARED_LAYERS, SHARED_ROW,
+    SIX_IN_A_ROW, SQUARE, STACK, STACK_OF_TWO, STAR, THREE_NETS, TWO_ALONG, WALLED, WIDE_WIRES,
+    crowd, edited, vast,
 };
 
 /// The names of a run.
@@ -85,6 +86,26 @@ const UNWIRED_REPORT: Option<&str> = Some(
 
 const ONE_PHASE: &[&str] = &["--phases", "1"];
 
+const NO_ROUND: &[&str] = &["--rounds", "0"];
+
+const ONE_PHASE_NO_ROUND: &[&str] = &["--rounds", "0", "--phases", "1"];
+
+/// Three nets in the row, whose edges have room for two, and no other way.
+const CROWDED_ROUTES: Option<&str> = Some(
+    "a 0\n(5,5,1)-(25,5,1)\n!\nb 1\n(5,5,1)-(25,5,1)\n!\nc 2\n(5,5,1)-(25,5,1)\n!\n",
+);
+
+const CROWDED_CERT: Option<&str> = Some(
+    "grouter certificate 1\nnets 3\nforced 0\noverflow 4\nwirelength 6\npeak 3/2\nbound 3/2\nprices 2\n12758\n12758\n",
+);
+
+/// The row with its first edge choked, over which its net is forced.
+const FIRST_CHOKED: &[u8] = b"1\n0 0 1 1 0 1 0\n";
+
+const FIRST_CHOKED_CERT: Option<&str> = Some(
+    "grouter certificate 1\nnets 1\nforced 1\noverflow 2\nwirelength 2\npeak 1/2\nbound 1/2\nprices 1\n12758\n",
+);
+
 /// The numbers of the first part were worked out by hand. In the second part every net has only one set of least weight, and
 /// one phase gives each net a set at the prices of the nets before it.
 ///
@@ -92,8 +113,14 @@ const ONE_PHASE: &[&str] = &["--phases", "1"];
 /// which they are narrower. The edges of the first net in the shared layers then have a load of 2 of 12, which is one whole
 /// eighth and one step of the price, from 12446 to 12758. That is more than two vias, and so the second net goes up, and
 /// the third, which finds both layers alike, does not. In the shared row they have a load of 8 of 2, which is 32 steps: two
-/// edges at 12758 weigh more than four at 5777, and so the second net goes round, and the third does not.
-const ROUTED: [Routed; 29] = [
+/// edges at 12758 weigh more than four at 5777, and so the second net goes round, and the third does not. Repair changes none of
+/// these routes.
+///
+/// Of two nets along a side the first one goes round in the first round: without it its two edges have the load 2 of 2, which is
+/// 128 steps at the scale of repair, and the four edges round have none. Where there is room for no net on the way round, each
+/// round adds overflow, and the routes before all rounds are written. Prices and bound are those of the one phase in each case:
+/// the short way has a load of 4 of 2, which is 16 steps, from 8587 to 12758.
+const ROUTED: [Routed; 34] = [
     (ROW, 0, 0, b"", &[], ROW_ROUTES, ROW_CERT, ROW_REPORT),
     (
         ROW,
@@ -115,10 +142,20 @@ const ROUTED: [Routed; 29] = [
         144,
         THREE_NETS,
         &[],
-        Some("a 0\n(5,5,1)-(25,5,1)\n!\nb 1\n(5,5,1)-(25,5,1)\n!\nc 2\n(5,5,1)-(25,5,1)\n!\n"),
+        CROWDED_ROUTES,
+        CROWDED_CERT,
         Some(
-            "grouter certificate 1\nnets 3\nforced 0\noverflow 4\nwirelength 6\npeak 3/2\nbound 3/2\nprices 2\n12758\n12758\n",
+            "nets 3\nforced 0\nrounded 4\nrounds 4\noverflow 4\nwirelength 6\npeak 3/2\nbound 3/2\n",
         ),
+    ),
+    (
+        ROW,
+        119,
+        144,
+        THREE_NETS,
+        NO_ROUND,
+        CROWDED_ROUTES,
+        CROWDED_CERT,
         Some(
             "nets 3\nforced 0\nrounded 4\nrounds 0\noverflow 4\nwirelength 6\npeak 3/2\nbound 3/2\n",
         ),
@@ -166,12 +203,22 @@ const ROUTED: [Routed; 29] = [
         ROW,
         142,
         144,
-        b"1\n0 0 1 1 0 1 0\n",
+        FIRST_CHOKED,
         &[],
         ROW_ROUTES,
+        FIRST_CHOKED_CERT,
         Some(
-            "grouter certificate 1\nnets 1\nforced 1\noverflow 2\nwirelength 2\npeak 1/2\nbound 1/2\nprices 1\n12758\n",
+            "nets 1\nforced 1\nrounded 2\nrounds 4\noverflow 2\nwirelength 2\npeak 1/2\nbound 1/2\n",
         ),
+    ),
+    (
+        ROW,
+        142,
+        144,
+        FIRST_CHOKED,
+        NO_ROUND,
+        ROW_ROUTES,
+        FIRST_CHOKED_CERT,
         Some(
             "nets 1\nforced 1\nrounded 2\nrounds 0\noverflow 2\nwirelength 2\npeak 1/2\nbound 1/2\n",
         ),
@@ -396,6 +443,50 @@ const ROUTED: [Routed; 29] = [
         ),
         None,
         None,
+    ),
+    (
+        ROW,
+        0,
+        144,
+        TWO_ALONG,
+        ONE_PHASE,
+        Some(
+            "a 0\n(5,15,1)-(25,15,1)\n(5,5,1)-(5,15,1)\n(25,5,1)-(25,15,1)\n!\nb 1\n(5,5,1)-(25,5,1)\n!\n",
+        ),
+        Some(
+            "grouter certificate 1\nnets 2\nforced 0\noverflow 0\nwirelength 6\npeak 1/1\nbound 51032/68451\nprices 7\n12758\n8587\n12758\n8587\n8587\n8587\n8587\n",
+        ),
+        Some(
+            "nets 2\nforced 0\nrounded 4\nrounds 1\noverflow 0\nwirelength 6\npeak 1/1\nbound 51032/68451\n",
+        ),
+    ),
+    (
+        ROW,
+        0,
+        144,
+        TWO_ALONG,
+        ONE_PHASE_NO_ROUND,
+        Some("a 0\n(5,5,1)-(25,5,1)\n!\nb 1\n(5,5,1)-(25,5,1)\n!\n"),
+        Some(
+            "grouter certificate 1\nnets 2\nforced 0\noverflow 4\nwirelength 4\npeak 2/1\nbound 51032/68451\nprices 7\n12758\n8587\n12758\n8587\n8587\n8587\n8587\n",
+        ),
+        Some(
+            "nets 2\nforced 0\nrounded 4\nrounds 0\noverflow 4\nwirelength 4\npeak 2/1\nbound 51032/68451\n",
+        ),
+    ),
+    (
+        ROW,
+        0,
+        144,
+        NO_WAY_ROUND,
+        ONE_PHASE,
+        Some("a 0\n(5,5,1)-(15,5,1)\n!\nb 1\n(5,5,1)-(15,5,1)\n!\n"),
+        Some(
+            "grouter certificate 1\nnets 2\nforced 0\noverflow 2\nwirelength 2\npeak 2/1\nbound 51032/51277\nprices 4\n12758\n8587\n8587\n8587\n",
+        ),
+        Some(
+            "nets 2\nforced 0\nrounded 2\nrounds 4\noverflow 2\nwirelength 2\npeak 2/1\nbound 51032/51277\n",
+        ),
     ),
 ];
 

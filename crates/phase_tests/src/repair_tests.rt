@@ -10,7 +10,7 @@ use std::hint::spin_loop;
 use std::sync::atomic::{AtomicU64, Ordering};
 use std::test::Fail;
 use std::thread::Threads;
-use worked_designs::{THREE_NETS, design};
+use worked_designs::{NO_WAY_ROUND, THREE_NETS, TWO_ALONG, design};
 
 /// A design's sets after one phase and then at most so many rounds, without a budget.
 fn repaired_by<R: Threads + Sync, G: Gate>(
@@ -45,16 +45,6 @@ fn repaired_by<R: Threads + Sync, G: Gate>(
     )?;
     Ok(routed)
 }
-
-/// Two nets from one corner to the next along a side of three tiles. Both first take the short way of two edges, on which
-/// only one has room. In the first round one of them goes round by the other side, which has room for it.
-const TWO_ALONG: &[u8] =
-    b"grid 3 2 1\nvertical capacity 2\nhorizontal capacity 2\nminimum width 1\nminimum spacing 1\nvia spacing 1\n0 0 10 10\nnum net 2\na 0 2 1\n5 5 1\n25 5 1\nb 1 2 1\n5 5 1\n25 5 1\n0\n";
-
-/// Two nets between two tiles, whose edge has room for one. The three edges of the other way have room for none, so that going
-/// round there makes the overflow 3 in place of 2.
-const NO_WAY_ROUND: &[u8] =
-    b"grid 2 2 1\nvertical capacity 2\nhorizontal capacity 2\nminimum width 1\nminimum spacing 1\nvia spacing 1\n0 0 10 10\nnum net 2\na 0 2 1\n5 5 1\n15 5 1\nb 1 2 1\n5 5 1\n15 5 1\n3\n0 0 1 0 1 1 1\n1 0 1 1 1 1 1\n0 1 1 1 1 1 1\n";
 
 /// The row with the bytes between two places replaced, the numbers of workers and of rounds at most, the overflow before repair,
 /// the rounds, and the loads of the result, with that of the wirelength at their end.

@@ -12,3 +12,4 @@ pub mod OpenPrices
 pub mod Causes
 pub mod ReadBack
 pub mod Bounded
+pub mod Repairs

@@ -80,7 +80,7 @@ run-routed q a b c status r is_true named reads calm ends =
     let cert_same : b.ports CertOut ≡ a.ports CertOut = before CertOut (λ h. cc) in
     let report_same : b.ports Report ≡ a.ports Report = before Report (λ h. cc) in
     let are : AreTexts q.input q.settings a texts =
-    record { design = d; named = named; trees = r.trees; prices = r.prices.items; cert = r.cert; is_true = is_true; routes_are = refl; cert_is = refl; report_is = refl } in
+    record { design = d; named = named; trees = r.trees; prices = r.prices.items; rounded = r.rounded; rounds = r.rounds; cert = r.cert; is_true = is_true; routes_are = refl; cert_is = refl; report_is = refl } in
     let failed : status ≡ unwritten_status → OutputFailed a c = λ seven. failed-after_reads _ a b c reads (ends.failed seven) in
     record {
       routed = λ zero. record {

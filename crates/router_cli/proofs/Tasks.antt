@@ -1,30 +1,41 @@
 -- The task of words is that of the request which they make.
-use Rattle.std.proofs.Common.{◌≡◌, ℕ, List, [], ◌∷◌, ◌∙◌, ap, sym, refl, true, false, arith, subst, ◌≤◌}
+use Rattle.std.proofs.Common.{◌≡◌, ℕ, List, [], ◌∷◌, ◌∙◌, ap, sym, refl, true, false, subst, ◌≤◌}
 use Rattle.std.specs.Prelude.{Option, Some, None, IfSome, unwrap_or, slice_index_or}
 use Rattle.command_words.specs.declared.route_request.RouteRequest.{RouteRequest}
-use Rattle.command_words.specs.CommandLine.{AsksForRoute, HasRouteRanges, is_command, is_command_of, names_in, route_form, workers_option, phases_option, seed_option, budget_option}
+use Rattle.command_words.specs.CommandLine.{AsksForRoute, HasRouteRanges, is_command, is_command_of, route_form, workers_option, phases_option, rounds_option, seed_option, budget_option}
 use Rattle.std.specs.Option.{ForSome}
 use Rattle.grid_graph.specs.Limits.{max_budget}
 use Rattle.price_workers.specs.Settings.{AreSettings}
 use Rattle.router_cli.specs.Tasks.{RouteTask, settings_of, task_of, task_of_words, value_in}
 
 -- a task by its names and the values of its options
-abbrev of_values : List (List ℕ) → Option ℕ → Option ℕ → Option ℕ → Option ℕ → RouteTask
-of_values names workers phases seed budget = record {
+abbrev of_values : List (List ℕ) → Option ℕ → Option ℕ → Option ℕ → Option ℕ → Option ℕ → RouteTask
+of_values names workers phases rounds seed budget = record {
   input = slice_index_or names 0 [];
   routes = slice_index_or names 1 [];
   cert = slice_index_or names 2 [];
-  settings = record { workers = unwrap_or workers 0; phases = unwrap_or phases 0; rounds = 0; seed = unwrap_or seed 0; budget = budget };
+  settings = record {
+    workers = unwrap_or workers 0;
+    phases = unwrap_or phases 0;
+    rounds = unwrap_or rounds 0;
+    seed = unwrap_or seed 0;
+    budget = budget;
+  };
 }
 
 pub task_of-asked : (words : List (List ℕ)) (r : RouteRequest) → AsksForRoute words r → task_of_words words ≡ task_of r
 task_of-asked words r asks =
     let names : List (List ℕ) = r.input.now ∷ r.routes.now ∷ r.certificate.now ∷ [] in
-    ap (λ (n : List (List ℕ)). of_values n (value_in words workers_option) (value_in words phases_option) (value_in words seed_option) (value_in words budget_option)) asks.names
-    ∙ ap (λ (w : Option ℕ). of_values names w (value_in words phases_option) (value_in words seed_option) (value_in words budget_option)) asks.workers
-    ∙ ap (λ (p : Option ℕ). of_values names (Some r.workers) p (value_in words seed_option) (value_in words budget_option)) asks.phases
-    ∙ ap (λ (s : Option ℕ). of_values names (Some r.workers) (Some r.phases) s (value_in words budget_option)) asks.seed
-    ∙ ap (λ (b : Option ℕ). of_values names (Some r.workers) (Some r.phases) (Some r.seed) b) asks.budget
+    let phases = value_in words phases_option in
+    let rounds = value_in words rounds_option in
+    let seed = value_in words seed_option in
+    let budget = value_in words budget_option in
+    ap (λ (n : List (List ℕ)). of_values n (value_in words workers_option) phases rounds seed budget) asks.names
+    ∙ ap (λ (w : Option ℕ). of_values names w phases rounds seed budget) asks.workers
+    ∙ ap (λ (p : Option ℕ). of_values names (Some r.workers) p rounds seed budget) asks.phases
+    ∙ ap (λ (k : Option ℕ). of_values names (Some r.workers) (Some r.phases) k seed budget) asks.rounds
+    ∙ ap (λ (s : Option ℕ). of_values names (Some r.workers) (Some r.phases) (Some r.rounds) s budget) asks.seed
+    ∙ ap (λ (b : Option ℕ). of_values names (Some r.workers) (Some r.phases) (Some r.rounds) (Some r.seed) b) asks.budget
 
 -- words that are no command are no command `route`
 pub no_command-no_route : (words : List (List ℕ)) → is_command words ≡ false → is_command_of words route_form ≡ true → ⊥
@@ -45,6 +56,6 @@ settings-in_range r ranges = record {
   workers = ranges.workers.1;
   some_phases = ranges.phases.0;
   phases = ranges.phases.1;
-  rounds = omega arith;
+  rounds = ranges.rounds.1;
   budget = for_some r.budget (λ most. (1 ≤ most) × (most ≤ max_budget)) ranges.budget;
 }

@@ -21,7 +21,7 @@ abbrev pub texts_of : RoutedDesign → Texts
 texts_of r = record {
   routes = routes_text r.design.grid r.design.nets r.trees;
   cert = cert_text r.cert;
-  report = report_text r.cert.overflow 0 r.cert;
+  report = report_text r.rounded r.rounds r.cert;
 }
 
 -- both files are created in order

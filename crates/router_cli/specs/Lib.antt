@@ -13,6 +13,7 @@ pub use Rattle.tree_set.specs.Order
 pub use Rattle.tree_set.specs.Routings
 pub use Rattle.sharing_runs.specs.SharingRuns
 pub use Rattle.sharing_runs.specs.NetSteps
+pub use Rattle.sharing_runs.specs.RepairRuns
 pub use Rattle.rounding_pick.specs.ChosenRoutings
 pub use Rattle.dual_bound.specs.Bounds
 pub use Rattle.dual_bound.specs.DesignBounds

@@ -1,6 +1,6 @@
 -- What a run of `route` is to do.
 use Rattle.std.specs.Prelude.{ℕ, List, [], Option, unwrap_or, slice_index_or}
-use Rattle.command_words.specs.CommandLine.{OptionForm, names_in, given_options, value_for, route_form, workers_option, phases_option, seed_option, budget_option}
+use Rattle.command_words.specs.CommandLine.{OptionForm, names_in, given_options, value_for, route_form, workers_option, phases_option, rounds_option, seed_option, budget_option}
 use Rattle.command_words.specs.declared.route_request.RouteRequest.{RouteRequest}
 use Rattle.price_workers.specs.declared.settings.Settings.{Settings}
 
@@ -11,9 +11,9 @@ pub record RouteTask : Type 0 where
   pub cert : List ℕ
   pub settings : Settings
 
--- the settings that a command asks for; there are no rounds of repair
+-- the settings that a command asks for
 abbrev pub settings_of : RouteRequest → Settings
-settings_of r = record { workers = r.workers; phases = r.phases; rounds = 0; seed = r.seed; budget = r.budget }
+settings_of r = record { workers = r.workers; phases = r.phases; rounds = r.rounds; seed = r.seed; budget = r.budget }
 
 -- what a command asks for
 abbrev pub task_of : RouteRequest → RouteTask
@@ -32,7 +32,7 @@ task_of_words words = record {
   settings = record {
     workers = unwrap_or (value_in words workers_option) 0;
     phases = unwrap_or (value_in words phases_option) 0;
-    rounds = 0;
+    rounds = unwrap_or (value_in words rounds_option) 0;
     seed = unwrap_or (value_in words seed_option) 0;
     budget = value_in words budget_option;
   };

@@ -12,14 +12,14 @@
 //! // bound 1/2
 //! ```
 //!
-//! It stands on `command_words` for the words, `ispd_reader` for the design, `grid_graph` for the nets' grounds, `sharing_phases` and
-//! `rounding_pick` for the routes and their prices, `tree_set` for their measures, `dual_bound` for the bound, `route_text` and
-//! `cert_text` for the texts, `gr_desk` to read from and write to, and `itoa`.
+//! It stands on `command_words` for the words, `ispd_reader` for the design, `grid_graph` for the nets' grounds, `sharing_phases`,
+//! `rounding_pick` and `ripup_repair` for the routes and their prices, `tree_set` for their measures, `dual_bound` for the bound,
+//! `route_text` and `cert_text` for the texts, `gr_desk` to read from and write to, and `itoa`.
 //!
 //! Promised, in the words of `specs/Runs.antt`, which is the page to begin with: where the status is 0, the routes that were
-//! written join their nets' pins inside the grid, the printed numbers are those of these routes, and the printed bound is at
-//! most the greatest load/capacity of every routing; every other status but 8, want of memory, has its cause, and but for 7
-//! no file is touched.
+//! written join their nets' pins inside the grid, and are the result of a run of phases, picks and rounds of repair; the printed
+//! numbers are those of these routes and of this run, and the printed bound is at most the greatest load/capacity of every
+//! routing; every other status but 8, want of memory, has its cause, and but for 7 no file is touched.
 
 #![tactic(auto)]
 
@@ -35,6 +35,6 @@ mod route;
 mod routed_design;
 mod top;
 
-pub use laws::routes_of_designs_read_back;
+pub use laws::{repair_adds_no_overflow, routes_of_designs_read_back};
 pub use refusal::Refusal;
 pub use top::run;

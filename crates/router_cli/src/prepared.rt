@@ -19,6 +19,7 @@ use grid_base::NoMemory;
 use grid_graph::{Design, Ground};
 use ispd_reader::{MAX_BYTES, read_design};
 use price_workers::{Gate, Settings};
+use ripup_repair::repair;
 use rounding_pick::round;
 use sharing_phases::share;
 use std::alloc::Global;
@@ -76,7 +77,7 @@ fn route_bytes<R: Threads + Sync, G: Gate>(
     Ok(route_design(rt, alloc, design, grounds.as_slice(), settings, gate)?)
 }
 
-/// The design with its routes: each net has its set of the phase that is picked for it.
+/// The design with its routes: each net keeps its set of the phase that is picked for it, and rounds of repair replace some.
 fn route_design<R: Threads + Sync, G: Gate>(
     rt: &R,
     alloc: Global,
@@ -92,19 +93,22 @@ fn route_design<R: Threads + Sync, G: Gate>(
 {
     let shared = share(rt, alloc, &design, grounds, settings, gate)?;
     let chosen = round(&design, shared, settings.seed);
+    let routed = repair(rt, alloc, &design, grounds, chosen, settings, gate)?;
     let cert = certificate(
         rt,
         alloc,
         &design,
         grounds,
-        chosen.trees.list(),
-        chosen.prices.as_slice(),
+        routed.trees.list(),
+        routed.prices.as_slice(),
         settings.budget,
     )?;
     Ok(RoutedDesign {
         design,
-        trees: chosen.trees,
-        prices: chosen.prices,
+        trees: routed.trees,
+        prices: routed.prices,
+        rounded: routed.rounded,
+        rounds: routed.rounds,
         cert,
     })
 }

@@ -21,15 +21,15 @@ fn put_budget<D: Desk>(pen: &mut Pen<'_, D>, budget: Option<Budget>)
     }
 }
 
-/// Puts the report of routes that no round of repair changed.
-fn put_report<D: Desk>(pen: &mut Pen<'_, D>, cert: &Cert)
+/// Puts the report of routes: the overflow before repair, the number of its rounds, and what the certificate says.
+fn put_report<D: Desk>(pen: &mut Pen<'_, D>, rounded: u64, rounds: u32, cert: &Cert)
     ensures same_desk { HasSameDesk pen.old pen.new }
-    ensures puts { Puts (pen_told D.told pen.old) (pen_told D.told pen.new) (report_text cert.now.overflow 0 cert.now) }
+    ensures puts { Puts (pen_told D.told pen.old) (pen_told D.told pen.new) (report_text rounded rounds cert.now) }
 {
     put_line(pen, b"nets", &[u64::from(cert.nets)]);
     put_line(pen, b"forced", &[u64::from(cert.forced)]);
-    put_line(pen, b"rounded", &[cert.overflow]);
-    put_line(pen, b"rounds", &[0]);
+    put_line(pen, b"rounded", &[rounded]);
+    put_line(pen, b"rounds", &[u64::from(rounds)]);
     put_line(pen, b"overflow", &[cert.overflow]);
     put_line(pen, b"wirelength", &[cert.wirelength]);
     put_labelled_fraction(pen, b"peak", cert.peak);
@@ -37,11 +37,16 @@ fn put_report<D: Desk>(pen: &mut Pen<'_, D>, cert: &Cert)
     put_budget(pen, cert.budget);
 }
 
-/// Writes the report of routes that no round of repair changed.
-pub(crate) fn write_report<D: Desk>(desk: &mut D, cert: &Cert) -> Result<(), Failed>
-    ensures { Ends (D.told desk.old) (D.told desk.new) Report (report_text cert.now.overflow 0 cert.now) result }
+/// Writes the report of routes: the overflow before repair, the number of its rounds, and what the certificate says.
+pub(crate) fn write_report<D: Desk>(
+    desk: &mut D,
+    rounded: u64,
+    rounds: u32,
+    cert: &Cert,
+) -> Result<(), Failed>
+    ensures { Ends (D.told desk.old) (D.told desk.new) Report (report_text rounded rounds cert.now) result }
 {
     let mut pen = Pen::new(desk, Port::Report);
-    put_report(&mut pen, cert);
+    put_report(&mut pen, rounded, rounds, cert);
     pen.finish()
 }

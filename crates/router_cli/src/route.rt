@@ -5,7 +5,7 @@ ghost use Rattle.gr_desk.specs.declared.port.Port.TheVariants.{Report};
 ghost use Rattle.gr_desk.specs.Runs.{Adds};
 ghost use Rattle.price_workers.specs.Settings.{AreSettings};
 ghost use Rattle.router_cli.specs.Finishing.{texts_of, MakesFiles, Finishes};
-ghost use Rattle.router_cli.specs.Lines.{done_status, unwritten_status, unwritten_line, report_text};
+ghost use Rattle.router_cli.specs.Lines.{done_status, unwritten_status, unwritten_line};
 ghost use Rattle.router_cli.specs.Routed.{IsRoutedDesign};
 ghost use Rattle.router_cli.specs.RouteRun.{IsRouteRun};
 ghost use Rattle.router_cli.specs.Tasks.{settings_of, task_of};
@@ -17,7 +17,6 @@ use crate::prepared::prepare;
 use crate::refuse::refuse;
 use crate::report::write_report;
 use crate::routed_design::RoutedDesign;
-use cert_text::Cert;
 use command_words::RouteRequest;
 use gr_desk::{Desk, Failed};
 use price_workers::{Gate, Settings};
@@ -37,7 +36,7 @@ fn settings_of(request: &RouteRequest<'_>) -> Settings
     Settings {
         workers: request.workers,
         phases: request.phases,
-        rounds: 0,
+        rounds: request.rounds,
         seed: request.seed,
         budget: request.budget,
     }
@@ -67,7 +66,7 @@ fn finish<D: Desk>(desk: &mut D, request: &RouteRequest<'_>, routed: &RoutedDesi
     ensures { Finishes (task_of request.now) (texts_of routed.now) (D.told desk.old) (D.told desk.new) result }
 {
     match make_files(desk, request, routed) {
-        Ok(()) => report(desk, &routed.cert),
+        Ok(()) => report(desk, routed),
         Err(Failed) => say_unwritten(desk),
     }
 }
@@ -86,14 +85,14 @@ fn make_files<D: Desk>(
 }
 
 /// Writes the report, and answers the status.
-fn report<D: Desk>(desk: &mut D, cert: &Cert) -> u8
-    ensures whole { result ≡ done_status → Adds (D.told desk.old) (D.told desk.new) Report (report_text cert.now.overflow 0 cert.now) }
-    ensures part { result ≡ unwritten_status → (n : ℕ) × Adds (D.told desk.old) (D.told desk.new) Report (take n (report_text cert.now.overflow 0 cert.now)) }
+fn report<D: Desk>(desk: &mut D, routed: &RoutedDesign) -> u8
+    ensures whole { result ≡ done_status → Adds (D.told desk.old) (D.told desk.new) Report (texts_of routed.now).report }
+    ensures part { result ≡ unwritten_status → (n : ℕ) × Adds (D.told desk.old) (D.told desk.new) Report (take n (texts_of routed.now).report) }
     ensures statuses { (result ≡ done_status) ⊎ (result ≡ unwritten_status) }
     ensures cause { result ≡ unwritten_status → OutputFailed (D.told desk.old) (D.told desk.new) }
     ensures quiet { result ≡ done_status → (D.told desk.new).out_faults ≡ (D.told desk.old).out_faults }
 {
-    match write_report(desk, cert) {
+    match write_report(desk, routed.rounded, routed.rounds, &routed.cert) {
         Ok(()) => DONE,
         Err(Failed) => UNWRITTEN,
     }

@@ -4,8 +4,8 @@
 //! let design = design(alloc, 119, 144, THREE_NETS)?;
 //! ```
 //!
-//! It stands on `ispd_reader`, `grid_graph` and `grid_base`. The tests of `design_tests` and `phase_tests` stand on it, and nothing
-//! that a run uses.
+//! It stands on `ispd_reader`, `grid_graph` and `grid_base`. The tests of `design_tests`, `judge_tests` and `phase_tests` stand
+//! on it, and nothing that a run uses.
 //!
 //! Promised: nothing. The texts are what they are, and the tests say what is read of them.
 
@@ -16,7 +16,7 @@ mod texts;
 
 pub use sets::{ARCH, ROW_SET, STAR_SET};
 pub use texts::{
-    BLOCK, BRIDGE, CHOKED_SQUARE, CRLF, FORCED, LAYERED, ROUND, ROW, SHARED_LAYERS, SHARED_ROW,
-    SIX_IN_A_ROW, SQUARE, STACK, STACK_OF_TWO, STAR, THREE_NETS, WALLED, WIDE_WIRES, crowd, design,
-    edited, vast,
+    BLOCK, BRIDGE, CHOKED_SQUARE, CRLF, FORCED, LAYERED, NO_WAY_ROUND, ROUND, ROW, SHARED_LAYERS,
+    SHARED_ROW, SIX_IN_A_ROW, SQUARE, STACK, STACK_OF_TWO, STAR, THREE_NETS, TWO_ALONG, WALLED,
+    WIDE_WIRES, crowd, design, edited, vast,
 };

@@ -63,6 +63,16 @@ pub const SHARED_LAYERS: &[u8] =
 pub const SHARED_ROW: &[u8] =
     b"grid 3 2 1\nvertical capacity 2\nhorizontal capacity 2\nminimum width 1\nminimum spacing 1\nvia spacing 1\n0 0 10 10\nnum net 3\na 0 2 7\n5 5 1\n25 5 1\nb 1 2 7\n5 5 1\n25 5 1\nc 2 2 7\n5 5 1\n25 5 1\n0\n";
 
+/// Two nets from one corner to the next along a side of three tiles. Both first take the short way of two edges, on which
+/// only one has room. In the first round of repair one of them goes round by the other side, which has room for it.
+pub const TWO_ALONG: &[u8] =
+    b"grid 3 2 1\nvertical capacity 2\nhorizontal capacity 2\nminimum width 1\nminimum spacing 1\nvia spacing 1\n0 0 10 10\nnum net 2\na 0 2 1\n5 5 1\n25 5 1\nb 1 2 1\n5 5 1\n25 5 1\n0\n";
+
+/// Two nets between two tiles, whose edge has room for one. The three edges of the other way have room for none, so that going
+/// round there makes the overflow 3 in place of 2.
+pub const NO_WAY_ROUND: &[u8] =
+    b"grid 2 2 1\nvertical capacity 2\nhorizontal capacity 2\nminimum width 1\nminimum spacing 1\nvia spacing 1\n0 0 10 10\nnum net 2\na 0 2 1\n5 5 1\n15 5 1\nb 1 2 1\n5 5 1\n15 5 1\n3\n0 0 1 0 1 1 1\n1 0 1 1 1 1 1\n0 1 1 1 1 1 1\n";
+
 /// Five rows and columns on two layers, and a net with a pin in the middle of each side and one in the middle.
 pub const STAR: &[u8] =
     b"grid 5 5 2\nvertical capacity 8 8\nhorizontal capacity 8 8\nminimum width 1 1\nminimum spacing 1 1\nvia spacing 1 1\n0 0 10 10\nnum net 1\na 0 5 1\n25 5 1\n25 45 1\n5 25 1\n45 25 1\n25 25 2\n0\n";

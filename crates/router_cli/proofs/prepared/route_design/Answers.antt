@@ -12,19 +12,19 @@ use Rattle.router_cli.proofs.prepared.route_design.Goals as goal
 pub certificate-requires-clause-one_each : goal.certificate-requires-clause-one_each
 certificate-requires-clause-one_each g c =
     let d = c.args.design in
-    λ _ _. rw c.list.ensures (AllZip-long (IsRoute d.grid) d.nets c.round-chosen.result.trees c.round-chosen.ensures.whole.routing)
+    λ _ _. rw c.list.ensures (AllZip-long (IsRoute d.grid) d.nets c.in_ok-routed.routed.trees c.in_ok-routed.ensures.routing)
 
 pub certificate-requires-clause-pieces : goal.certificate-requires-clause-pieces
 certificate-requires-clause-pieces g c =
     let d = c.args.design in
-    λ _ _. rw c.list.ensures (routes_are_pieces d.grid d.nets c.round-chosen.result.trees c.round-chosen.ensures.whole.routing)
+    λ _ _. rw c.list.ensures (routes_are_pieces d.grid d.nets c.in_ok-routed.routed.trees c.in_ok-routed.ensures.routing)
 
 pub certificate-requires-clause-prices : goal.certificate-requires-clause-prices
 certificate-requires-clause-prices g c =
     let d = c.args.design in
     let s = c.in_ok-shared.shared in
-    let vector = c.in_ok-shared.ensures.prices in
-    λ _ _. rw (c.as_slice.ensures.value, c.round-chosen.ensures.prices, vector) (price_vector-IsPriceList d.grid s.loads.items 1 c.args.settings.now.budget)
+    let vector = c.in_ok-routed.ensures.prices ∙ c.round-chosen.ensures.prices ∙ c.in_ok-shared.ensures.prices in
+    λ _ _. rw (c.as_slice.ensures.value, vector) (price_vector-IsPriceList d.grid s.loads.items 1 c.args.settings.now.budget)
 
 pub returns-clause-routed : goal.returns-clause-routed
 returns-clause-routed g c =
@@ -32,17 +32,32 @@ returns-clause-routed g c =
     let s = c.in_ok-shared.shared in
     let shared = c.in_ok-shared.ensures in
     let chosen = c.round-chosen.ensures in
+    let routed = c.in_ok-routed.ensures in
+    let repaired = routed.repaired in
     let cert = c.in_ok-cert.ensures in
     let budget = c.args.settings.now.budget in
-    let trees = c.round-chosen.result.trees in
-    let prices = c.round-chosen.result.prices.items in
+    let trees = c.in_ok-routed.routed.trees in
+    let prices = c.in_ok-routed.routed.prices.items in
     let prices_are : prices ≡ price_vector d.grid (phases_loads d.grid d.nets s.phases) 1 budget =
-    chosen.prices ∙ shared.prices ∙ ap (λ (loads : List ℕ). price_vector d.grid loads 1 budget) shared.whole.loads in
+    routed.prices ∙ chosen.prices ∙ shared.prices ∙ ap (λ (loads : List ℕ). price_vector d.grid loads 1 budget) shared.whole.loads in
     let certified : IsCertified d budget trees prices c.in_ok-cert.cert =
     rw (c.list.ensures, c.as_slice.ensures.value) at cert.certified in
     record {
-      routing = chosen.whole.routing;
-      run = record { phases = s.phases; count = shared.phases; sharing = shared.run.run; chosen = chosen.chosen; prices_are = prices_are };
+      routing = routed.routing;
+      run = record {
+        phases = s.phases;
+        count = shared.phases;
+        sharing = shared.run.run;
+        picked = c.round-chosen.result.trees;
+        picks = chosen.chosen;
+        routings = repaired.routings;
+        begins = repaired.begins;
+        repairs = repaired.run;
+        result = repaired.result;
+        rounded_is = routed.rounded;
+        rounds_are = repaired.rounds;
+        prices_are = prices_are;
+      };
       certified = certified;
       bounds = cert.bounds;
       some = states_bound d (phases_loads d.grid d.nets s.phases) 1 budget trees prices c.in_ok-cert.cert prices_are certified;

@@ -9,7 +9,7 @@ pub returns : goal.returns
 returns g c =
     let told = g.D.Desk.told in
     let start = told c.args.desk.now in
-    let text = report_text c.args.cert.now.overflow 0 c.args.cert.now in
+    let text = report_text c.args.rounded c.args.rounds c.args.cert.now in
     let new = c.new-pen.ensures in
     let ended : Ends start (told c.finish.new.self.0) Report text c.finish.result =
     ends-put start _ Report (pen_told told c.new-pen.result) _ text _ new.told new.port new.nothing new.well c.put_report.ensures.puts c.finish.ensures in
