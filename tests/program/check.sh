@@ -187,6 +187,30 @@ head -c 1000 many.gr >a.routes
 head -c 1000 many.gr >a.cert
 routed one_net
 
+# ---- routes that are measured and judged
+
+measured='nets 1
+forced 0
+beyond 0
+overflow 0
+wirelength 2
+peak 1/2'
+cp "$here/one_net.routes" b.routes
+cp "$here/one_net.cert" b.cert
+expect 'routes that are measured' 0 "$measured" measure one_net.gr b.routes
+expect 'routes and a certificate that are accepted' 0 "yes
+$measured
+bound 1/2" judge one_net.gr b.routes b.cert
+sed 's/^bound .*/bound 5\/1/' b.cert >c.cert
+expect 'a bound that is too high' 1 'no 52 5/1 1/2' judge one_net.gr b.routes c.cert
+: >c.routes
+expect 'a net without routes' 1 'no 43 0' measure one_net.gr c.routes
+expect 'a text that is no route text' 4 'refused 4 31 8' measure one_net.gr b.cert
+expect 'a text that is no certificate' 4 'refused 4 32 0' judge one_net.gr b.routes c.routes
+expect 'no routes' 6 'refused 6' judge one_net.gr none.routes b.cert
+expect_unheard 'an answer that can not be said' 7 measure one_net.gr b.routes
+rm b.routes b.cert c.routes c.cert
+
 # ---- words that are no command
 
 usage='refused 2
@@ -196,7 +220,8 @@ expect 'a command without its names' 2 "$usage" route
 expect 'a name too few' 2 "$usage" route one_net.gr a.routes
 expect 'a name too many' 2 "$usage" route one_net.gr a.routes a.cert b.cert
 expect 'two names that are one' 2 "$usage" route one_net.gr a.routes a.routes
-expect 'another command' 2 "$usage" judge one_net.gr a.routes a.cert
+expect 'a name too few for another command' 2 "$usage" judge one_net.gr a.routes
+expect 'an option of another command' 2 "$usage" measure one_net.gr a.routes --seed 1
 expect 'a command in capitals' 2 "$usage" ROUTE one_net.gr a.routes a.cert
 expect 'a name that begins with a dash' 2 "$usage" route one_net.gr -a.routes a.cert
 expect 'an empty name' 2 "$usage" route one_net.gr '' a.cert

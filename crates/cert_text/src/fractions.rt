@@ -17,7 +17,7 @@ pub(crate) fn put_number<D: Desk, I: Integer>(pen: &mut Pen<'_, D>, number: I)
 }
 
 /// Puts a fraction as numerator, `/` and denominator, or the word `none`.
-pub(crate) fn put_fraction<D: Desk>(pen: &mut Pen<'_, D>, fraction: Option<Fraction>)
+pub fn put_fraction<D: Desk>(pen: &mut Pen<'_, D>, fraction: Option<Fraction>)
     ensures same_desk { HasSameDesk pen.old pen.new }
     ensures puts { Puts (pen_told D.told pen.old) (pen_told D.told pen.new) (fraction_text fraction) }
 {

@@ -10,6 +10,8 @@ mod design_text_tests;
 #[cfg(test)]
 mod grid_tests;
 #[cfg(test)]
+mod judge_run_tests;
+#[cfg(test)]
 mod route_text_tests;
 #[cfg(test)]
 mod run_tests;

@@ -689,7 +689,7 @@ const ENDED: [Ended; 21] = [
         NOTHING,
     ),
     (
-        &["judge", "a.gr", "a.routes", "a.cert"],
+        &["judge", "a.gr", "a.routes"],
         b"4",
         None,
         2,

@@ -62,7 +62,7 @@ fn needs_choked_edges(over: Ground) -> bool
 }
 
 /// How many of the grounds are those of forced nets.
-fn forced_count(grounds: &[Ground]) -> u64
+pub fn forced_count(grounds: &[Ground]) -> u64
     ensures { result ≡ counts.forced_count grounds.now }
 {
     let mut count = 0;

@@ -44,6 +44,7 @@ mod stop;
 mod verdict;
 
 pub use checked::Checked;
+pub use claims::forced_count;
 pub use counted::Counted;
 pub use judging::judge;
 pub use laws::{one_reason_is_found, short_texts_can_be_judged};

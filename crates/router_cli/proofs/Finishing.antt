@@ -1,11 +1,11 @@
 -- How a run ends that has routed its design.
-use Rattle.std.proofs.Common.{◌≡◌, ◌≢◌, ◌<◌, ℕ, List, [], ◌∷◌, take, Contains, refl, sym, ◌∙◌, ap, subst, arith, lit<, inl, inr, IsErr, IsOk, OnOk, OnErr, Ok, Err}
+use Rattle.std.proofs.Common.{◌≡◌, ◌≢◌, ℕ, List, [], ◌∷◌, take, refl, sym, ◌∙◌, ap, subst, arith, lit<, inl, inr, IsErr, IsOk, Ok, Err}
 use Rattle.std.specs.Prelude.{Result, ◌⊎◌, Some}
 use Rattle.std.specs.Io.KnownBytes.{Appends}
 use Rattle.gr_desk.specs.declared.port.Port.{Port}
 use Rattle.gr_desk.specs.declared.port.Port.TheVariants.{RoutesOut, CertOut, Report}
 use Rattle.gr_desk.specs.declared.state.State.TheVariants.{Fresh}
-use Rattle.gr_desk.specs.Calls.{created, IsOrderlyCreate}
+use Rattle.gr_desk.specs.Calls.{IsOrderlyCreate}
 use Rattle.gr_desk.specs.Causes.{Rose}
 use Rattle.gr_desk.specs.Runs.{Adds}
 use Rattle.gr_desk.specs.Told.{Told, PortTold}
@@ -13,7 +13,6 @@ use Rattle.router_cli.specs.Finishing.{AreOrderlyCreates, MakesFiles, Finishes}
 use Rattle.router_cli.specs.Headline.{Texts}
 use Rattle.router_cli.specs.Lines.{done_status, unwritten_status, unwritten_line}
 use Rattle.router_cli.specs.Outputs.{HasFile, HasPart, Makes}
-use Rattle.router_cli.specs.RouteRun.{EndsEarly}
 use Rattle.router_cli.specs.Tasks.{RouteTask}
 use Rattle.router_cli.specs.Traces.{ReportGains, TouchesOnly, OutputFailed, but_for_output}
 use Rattle.router_cli.proofs.Traces.{contained_in_two, but_for_output-of}

@@ -3,6 +3,10 @@ pub mod Endings
 pub mod Fields
 pub mod Outcomes
 pub mod Traces
+pub mod ReadFiles
+pub mod RefusedRuns
+pub mod AnsweredRuns
+pub mod JudgedRuns
 pub mod MadeFiles
 pub mod Finishing
 pub mod RouteRuns
@@ -13,3 +17,4 @@ pub mod Causes
 pub mod ReadBack
 pub mod Bounded
 pub mod Repairs
+pub mod CommandRuns

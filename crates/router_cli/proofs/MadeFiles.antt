@@ -1,5 +1,5 @@
 -- Files that are created and written.
-use Rattle.std.proofs.Common.{◌≡◌, ◌≢◌, ℕ, List, take, refl, sym, ◌∙◌, ap, subst, arith, inl, inr, IsErr, IsOk, OnOk, OnErr, Ok, Err}
+use Rattle.std.proofs.Common.{◌≡◌, ℕ, List, take, ◌∙◌, ap, subst, arith, inl, inr, IsErr, Ok, Err}
 use Rattle.std.specs.Prelude.{Result, option_map}
 use Rattle.std.specs.Io.KnownBytes.{Appends}
 use Rattle.gr_desk.specs.declared.port.Port.{Port}
@@ -10,8 +10,7 @@ use Rattle.gr_desk.specs.Causes.{Rose}
 use Rattle.gr_desk.specs.Pens.{Ends}
 use Rattle.gr_desk.specs.Runs.{Adds}
 use Rattle.gr_desk.specs.Told.{Told, PortTold}
-use Rattle.router_cli.specs.Outputs.{HasFile, HasPart, Makes}
-use Rattle.router_cli.proofs.Endings.{adds-some}
+use Rattle.router_cli.specs.Outputs.{HasFile, Makes}
 
 -- a port where a file was created in order may be written to
 orderly-created : (a b : Told) (port : Port) (name : List ℕ) → IsOrderlyCreate a port name → b.ports port ≡ created (a.ports port) name → IsOrderlyWrite b port

@@ -1,10 +1,8 @@
 -- The two ways in which a run of `route` ends: with a routed design, or refused.
-use Rattle.std.proofs.Common.{◌≡◌, ◌≢◌, ℕ, List, [], ◌∷◌, take, Some, refl, sym, ◌∙◌, ap, subst, arith, inl, inr}
+use Rattle.std.proofs.Common.{◌≡◌, ◌≢◌, ℕ, List, take, Some, refl, sym, ◌∙◌, ap, subst, inl, inr}
 use Rattle.std.specs.Prelude.{◌⊎◌}
 use Rattle.std.specs.Io.KnownBytes.{Appends}
 use Rattle.gr_desk.specs.declared.port.Port.TheVariants.{In, RoutesOut, CertOut, Report}
-use Rattle.gr_desk.specs.Calls.{IsOrderlyOpen}
-use Rattle.gr_desk.specs.Causes.{Rose}
 use Rattle.gr_desk.specs.Runs.{Adds}
 use Rattle.gr_desk.specs.Told.{Told, PortTold}
 use Rattle.ispd_reader.specs.Designs.{IsDesignOfText}
@@ -13,7 +11,7 @@ use Rattle.router_cli.specs.declared.refusal.Refusal.TheVariants.{NoCommand, Unr
 use Rattle.router_cli.specs.declared.routed_design.RoutedDesign.{RoutedDesign}
 use Rattle.router_cli.specs.Finishing.{Finishes, texts_of, AreOrderlyCreates}
 use Rattle.router_cli.specs.Headline.{Texts, AreTexts}
-use Rattle.router_cli.specs.Lines.{done_status, unwritten_status, unwritten_line, lines_of, status_of}
+use Rattle.router_cli.specs.Lines.{unwritten_status, unwritten_line, lines_of, status_of}
 use Rattle.router_cli.specs.Outputs.{HasFile, HasPart}
 use Rattle.router_cli.specs.Refusals.{IsCause}
 use Rattle.router_cli.specs.RouteRun.{IsRouted, IsCutShort, IsRefused, EndsEarly, ExpectsNames, IsRouteRun}
@@ -21,10 +19,13 @@ use Rattle.router_cli.specs.Routed.{IsRoutedDesign}
 use Rattle.router_cli.specs.Runs.{IsNoCommandRun}
 use Rattle.router_cli.specs.Steps.{OnlyReads}
 use Rattle.router_cli.specs.Tasks.{RouteTask}
-use Rattle.router_cli.specs.Traces.{ReportGains, ReportsRefusal, OutputFailed, TouchesOnly}
-use Rattle.router_cli.proofs.Causes.{routed_reachable, not_refused, refused_once, text_or_memory, cause-later}
+use Rattle.router_cli.specs.Traces.{ReportGains, ReportsRefusal, OutputFailed}
+use Rattle.router_cli.specs.Sources.{design_source, AreOrderlyOpens}
+use Rattle.router_cli.proofs.Causes.{routed_reachable, not_refused, refused_once, text_or_memory}
+use Rattle.router_cli.proofs.ReadFiles.{reads-nothing}
+use Rattle.router_cli.proofs.RefusedRuns.{is_refused}
 use Rattle.router_cli.proofs.Outcomes.{status-no_report}
-use Rattle.router_cli.proofs.Traces.{gains-after_reads, failed-after_reads, touches-none, touches-in, touches-more, touches-then, in_order-after_reads}
+use Rattle.router_cli.proofs.Traces.{not_design, report_not_design, failed-after_reads, touches-none, touches-more, touches-then, in_order-after_reads}
 
 -- what ended early after a step that left the three ports alone
 early-after_reads : (q : RouteTask) (texts : Texts) (a b c : Told)
@@ -55,8 +56,8 @@ early-after_reads q texts a b c routes cert report early =
     ]
 
 -- the desk expects the names where the code opens and creates them
-expected-open : (q : RouteTask) (a : Told) → ExpectsNames q a → IsOrderlyOpen a In q.input
-expected-open q a expects = record { input = refl; fresh = expects.fresh In; expected = expects.input }
+expected-open : (q : RouteTask) (a : Told) → ExpectsNames q a → AreOrderlyOpens a (design_source q.input)
+expected-open q a expects = (record { input = refl; fresh = expects.fresh In; expected = expects.input }, tt)
 
 expected-creates : (q : RouteTask) (a b : Told) → ExpectsNames q a → b.ports RoutesOut ≡ a.ports RoutesOut → b.ports CertOut ≡ a.ports CertOut → AreOrderlyCreates q b
 expected-creates q a b expects routes cert = (
@@ -68,14 +69,14 @@ expected-creates q a b expects routes cert = (
 pub run-routed : (q : RouteTask) (a b c : Told) (status : ℕ) (r : RoutedDesign)
     → IsRoutedDesign q.settings r
     → ((bytes : List ℕ) → a.files q.input ≡ Some bytes → IsDesignOfText bytes r.design)
-    → OnlyReads (IsOrderlyOpen a In q.input) a b
+    → OnlyReads (design_source q.input) a b
     → b.in_faults ≡ a.in_faults
     → Finishes q (texts_of r) b c status
     → IsRouteRun q a c status
 run-routed q a b c status r is_true named reads calm ends =
     let d = r.design in
     let texts = texts_of r in
-    let before : (p : _) → p ≢ In → b.ports p ≡ a.ports p = λ p apart. reads.others.ports p apart in
+    let before : (p : _) → p ≢ In → b.ports p ≡ a.ports p = λ p apart. reads.others p (not_design q.input p apart) in
     let routes_same : b.ports RoutesOut ≡ a.ports RoutesOut = before RoutesOut (λ h. cc) in
     let cert_same : b.ports CertOut ≡ a.ports CertOut = before CertOut (λ h. cc) in
     let report_same : b.ports Report ≡ a.ports Report = before Report (λ h. cc) in
@@ -98,69 +99,53 @@ run-routed q a b c status r is_true named reads calm ends =
         failed = failed seven;
       };
       refused = λ not_zero not_seven. elim ends.statuses [
-        | inl zero ↦ absurd {A = IsRefused q.input a c status} (not_zero zero)
-        | inr seven ↦ absurd {A = IsRefused q.input a c status} (not_seven seven)
+        | inl zero ↦ absurd {A = IsRefused (design_source q.input) a c status} (not_zero zero)
+        | inr seven ↦ absurd {A = IsRefused (design_source q.input) a c status} (not_seven seven)
       ];
       tested = λ bytes refusal under refused in_ok. inr (absurd (not_refused bytes d refusal (named bytes under) (routed_reachable d.grid d.nets r.trees is_true.routing) refused));
       complete = λ bytes design under is reachable in_ok out_ok. elim ends.statuses [
         | inl zero ↦ inl zero
         | inr seven ↦ absurd (out_ok (failed seven))
       ];
-      touches = touches-then _ a b c reads ends.touches ends.still;
+      touches = touches-then q.input a b c reads ends.touches ends.still;
       unread = λ not_six. ends.still ∙ calm;
       in_order = λ expects. ends.in_order (expected-creates q a b expects routes_same cert_same) ∙ reads.in_order (expected-open q a expects);
     }
 
 -- a run that was refused
 pub run-refused : (q : RouteTask) (a b c : Told) (status n : ℕ) (r : Refusal)
-    → IsCause q.input a b r
-    → OnlyReads (IsOrderlyOpen a In q.input) a b
+    → IsCause (design_source q.input) a b r
+    → OnlyReads (design_source q.input) a b
     → (r ≢ Unread → b.in_faults ≡ a.in_faults)
     → status ≡ status_of r
     → Adds b c Report (take n (lines_of r))
     → (¬ OutputFailed b c → Adds b c Report (lines_of r))
     → IsRouteRun q a c status
 run-refused q a b c status n r why reads calm is part whole =
-    let says : ReportsRefusal a c r = record {
-      count = n;
-      part = gains-after_reads _ a b c (take n (lines_of r)) reads part;
-      whole = λ ok. gains-after_reads _ a b c (lines_of r) reads (whole (λ failed. ok (failed-after_reads _ a b c reads failed)));
-    } in
-    let cause : IsCause q.input a c r = cause-later q.input a b c r part.still why in
-    let touches : TouchesOnly (In ∷ []) [] a c = touches-in _ a b c (take n (lines_of r)) reads part in
+    let refused = is_refused (design_source q.input) a b c status n r (report_not_design q.input) why reads is part whole in
     record {
       routed = λ zero. absurd {A = IsRouted q a c} ((status-no_report r).0 (sym is ∙ zero));
       cut_short = λ seven. absurd {A = IsCutShort q a c} ((status-no_report r).1 (sym is ∙ seven));
-      refused = λ not_zero not_seven. record { refusal = r; status_is = is; cause = cause; says = says; touches = touches };
-      tested = λ bytes refusal under refused in_ok. elim (text_or_memory q.input bytes a c r cause under in_ok) [
+      refused = λ not_zero not_seven. refused;
+      tested = λ bytes refusal under due in_ok. elim (text_or_memory q.input bytes a c r refused.cause under in_ok) [
         | inl for_this ↦
-            let same : r ≡ refusal = refused_once bytes r refusal for_this refused in
-            inl (is ∙ ap status_of same, subst (ReportsRefusal a c) same says)
+            let same : r ≡ refusal = refused_once bytes r refusal for_this due in
+            inl (is ∙ ap status_of same, subst (ReportsRefusal a c) same refused.says)
         | inr memory ↦ inr (is ∙ ap status_of memory)
       ];
-      complete = λ bytes d under named reachable in_ok out_ok. elim (text_or_memory q.input bytes a c r cause under in_ok) [
+      complete = λ bytes d under named reachable in_ok out_ok. elim (text_or_memory q.input bytes a c r refused.cause under in_ok) [
         | inl for_this ↦ absurd (not_refused bytes d r named reachable for_this)
         | inr memory ↦ inr (is ∙ ap status_of memory)
       ];
-      touches = touches-more a c touches;
+      touches = touches-more a c refused.touches;
       unread = λ not_six. part.still ∙ calm (λ six. not_six (is ∙ ap status_of six));
       in_order = λ expects. in_order-after_reads _ a b c (take n (lines_of r)) reads part (expected-open q a expects);
     }
 
--- a step that does nothing
-reads-nothing : (Orderly : Type 0) (a : Told) → OnlyReads Orderly a a
-reads-nothing Orderly a = record {
-  others = record { files = refl; ports = λ p apart. refl };
-  only = refl;
-  in_order = λ _. refl;
-  later = omega arith;
-  still = refl;
-}
-
 -- a run that had no memory to read its words
 pub run-no_memory : (q : RouteTask) (a c : Told) (status n : ℕ)
     → status ≡ status_of NoMemory → Adds a c Report (take n (lines_of NoMemory)) → (¬ OutputFailed a c → Adds a c Report (lines_of NoMemory)) → IsRouteRun q a c status
-run-no_memory q a c status n is part whole = run-refused q a a c status n NoMemory tt (reads-nothing _ a) (λ _. refl) is part whole
+run-no_memory q a c status n is part whole = run-refused q a a c status n NoMemory tt (reads-nothing (design_source q.input) a) (λ _. refl) is part whole
 
 -- a run on words that are no command
 pub run-no_command : (a c : Told) (status n : ℕ) (r : Refusal) → (r ≡ NoCommand) ⊎ (r ≡ NoMemory)

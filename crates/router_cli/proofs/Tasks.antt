@@ -1,8 +1,8 @@
 -- The task of words is that of the request which they make.
-use Rattle.std.proofs.Common.{◌≡◌, ℕ, List, [], ◌∷◌, ◌∙◌, ap, sym, refl, true, false, subst, ◌≤◌}
+use Rattle.std.proofs.Common.{◌≡◌, ℕ, List, [], ◌∷◌, ◌∙◌, ap, subst, ◌≤◌}
 use Rattle.std.specs.Prelude.{Option, Some, None, IfSome, unwrap_or, slice_index_or}
 use Rattle.command_words.specs.declared.route_request.RouteRequest.{RouteRequest}
-use Rattle.command_words.specs.CommandLine.{AsksForRoute, HasRouteRanges, is_command, is_command_of, route_form, workers_option, phases_option, rounds_option, seed_option, budget_option}
+use Rattle.command_words.specs.CommandLine.{AsksForRoute, HasRouteRanges, workers_option, phases_option, rounds_option, seed_option, budget_option}
 use Rattle.std.specs.Option.{ForSome}
 use Rattle.grid_graph.specs.Limits.{max_budget}
 use Rattle.price_workers.specs.Settings.{AreSettings}
@@ -36,13 +36,6 @@ task_of-asked words r asks =
     ∙ ap (λ (k : Option ℕ). of_values names (Some r.workers) (Some r.phases) k seed budget) asks.rounds
     ∙ ap (λ (s : Option ℕ). of_values names (Some r.workers) (Some r.phases) (Some r.rounds) s budget) asks.seed
     ∙ ap (λ (b : Option ℕ). of_values names (Some r.workers) (Some r.phases) (Some r.rounds) (Some r.seed) b) asks.budget
-
--- words that are no command are no command `route`
-pub no_command-no_route : (words : List (List ℕ)) → is_command words ≡ false → is_command_of words route_form ≡ true → ⊥
-no_command-no_route words none is =
-    let some : is_command words ≡ true = rw is refl in
-    let both : true ≡ false = sym some ∙ none in
-    cc
 
 -- what holds of the value that there may be
 for_some : (b : Option ℕ) (P : ℕ → Type 0) → IfSome b P → ForSome b P

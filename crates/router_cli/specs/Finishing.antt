@@ -1,5 +1,5 @@
 -- From a routed design to the end of a run.
-use Rattle.std.specs.Prelude.{◌≡◌, ◌≢◌, ◌⊎◌, ℕ, List, [], ◌∷◌, Result, OnOk, OnErr}
+use Rattle.std.specs.Prelude.{◌≡◌, ◌≢◌, ◌⊎◌, ℕ, [], ◌∷◌, Result, OnOk, OnErr}
 use Rattle.gr_desk.specs.declared.port.Port.{Port}
 use Rattle.gr_desk.specs.declared.port.Port.TheVariants.{RoutesOut, CertOut}
 use Rattle.gr_desk.specs.Calls.{IsOrderlyCreate}

@@ -19,6 +19,17 @@ pub use Rattle.dual_bound.specs.Bounds
 pub use Rattle.dual_bound.specs.DesignBounds
 pub use Rattle.cert_text.specs.CertText
 pub use Rattle.command_words.specs.CommandLine
+pub use Rattle.route_judge.specs.Answers
+pub use Rattle.route_judge.specs.Counts
+pub use Rattle.route_judge.specs.Counted
+pub use Rattle.route_judge.specs.Judgements
+pub use Rattle.route_judge.specs.Limits
+pub use Rattle.route_judge.specs.Measured
+pub use Rattle.route_judge.specs.Objections
+pub use Rattle.route_judge.specs.Orders
+pub use Rattle.route_judge.specs.Reasons
+pub use Rattle.cert_text.specs.Certs
+pub use Rattle.cert_text.specs.StatedCerts
 pub use Rattle.route_text.specs.RouteText
 pub use Rattle.route_text.specs.Blocks
 pub use Rattle.route_text.specs.ReadBack
@@ -27,7 +38,14 @@ pub mod Headline
 pub mod RouterRuns
 pub mod Certified
 pub mod RouteRun
+pub mod AnsweredRun
+pub mod MeasureRun
+pub mod JudgeRun
+pub mod AnswerLines
 pub mod Tasks
+pub mod Sources
+pub mod JudgedTexts
+pub mod TextFaults
 pub mod Refusals
 pub mod Lines
 pub mod Outputs
@@ -35,3 +53,4 @@ pub mod Traces
 pub mod Routed
 pub mod Finishing
 pub mod Steps
+pub mod Saying

@@ -9,7 +9,8 @@ use Rattle.ispd_reader.specs.declared.wanted.Wanted.{Wanted}
 use Rattle.ispd_reader.specs.Faults.{input_fault_number, fields_of, wanted_of}
 use Rattle.ispd_reader.specs.Words.{spelling}
 use Rattle.router_cli.specs.declared.refusal.Refusal.{Refusal}
-use Rattle.router_cli.specs.declared.refusal.Refusal.TheVariants.{NoCommand, Input, Unreachable, Unread, NoMemory}
+use Rattle.router_cli.specs.declared.refusal.Refusal.TheVariants.{NoCommand, Input, Unreachable, Text, Unread, NoMemory}
+use Rattle.router_cli.specs.TextFaults.{text_fault_number, text_fault_place}
 
 -- numbers, each behind a space
 abbrev pub fields : List ℕ → List ℕ
@@ -47,6 +48,10 @@ wanted_part (Some wanted) = codes " " ++ spelling wanted
 abbrev pub done_status : ℕ
 done_status = 0
 
+-- the status of a run that reported a reason against what it judged
+abbrev pub objected_status : ℕ
+objected_status = 1
+
 -- the status of a run whose files or whose report could not be written whole
 abbrev pub unwritten_status : ℕ
 unwritten_status = 7
@@ -55,14 +60,21 @@ unwritten_status = 7
 abbrev pub status_of : Refusal → ℕ
 status_of NoCommand = 2
 status_of (Input fault) = 3
+status_of (Text fault) = 4
 status_of (Unreachable net) = 5
 status_of Unread = 6
 status_of NoMemory = 8
+
+-- the place of a fault, where it has one
+abbrev pub place_numbers : Option ℕ → List ℕ
+place_numbers None = []
+place_numbers (Some at) = at ∷ []
 
 -- the numbers behind the status: the fault's number, where there is a fault, and what the fault names
 abbrev pub numbers_of : Refusal → List ℕ
 numbers_of (Input fault) = input_fault_number fault ∷ fields_of fault
 numbers_of (Unreachable net) = unreachable_number ∷ net.id ∷ net.terminal ∷ []
+numbers_of (Text fault) = text_fault_number fault ∷ place_numbers (text_fault_place fault)
 numbers_of _ = []
 
 -- what stands behind the numbers: the word that was wanted, and the line's end; and how the program is called

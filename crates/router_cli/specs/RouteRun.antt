@@ -12,6 +12,7 @@ use Rattle.router_cli.specs.Headline.{Texts, AreTexts}
 use Rattle.router_cli.specs.Lines.{done_status, unwritten_status, unwritten_line, status_of}
 use Rattle.router_cli.specs.Outputs.{HasFile, HasPart}
 use Rattle.router_cli.specs.Refusals.{AreReachable, IsRefusedFor, IsCause}
+use Rattle.router_cli.specs.Sources.{Source, ports_of, design_source}
 use Rattle.router_cli.specs.Tasks.{RouteTask}
 use Rattle.router_cli.specs.Traces.{ReportGains, ReportsRefusal, TouchesOnly, InputFailed, OutputFailed}
 
@@ -47,13 +48,14 @@ pub record IsCutShort (q : RouteTask) (before after : Told) : Type 0 where
   pub early : EndsEarly q texts before after
   pub failed : OutputFailed before after
 
--- the run was refused: for a cause, with the status of the refusal, and it said so; no file was created
-pub record IsRefused (name : List ℕ) (before after : Told) (status : ℕ) : Type 0 where
+-- the run, which reads these files, was refused: for a cause, with the status of the refusal, and it said so; no file was
+-- created
+pub record IsRefused (sources : List Source) (before after : Told) (status : ℕ) : Type 0 where
   pub refusal : Refusal
   pub status_is : status ≡ status_of refusal
-  pub cause : IsCause name before after refusal
+  pub cause : IsCause sources before after refusal
   pub says : ReportsRefusal before after refusal
-  pub touches : TouchesOnly (In ∷ []) [] before after
+  pub touches : TouchesOnly (ports_of sources) [] before after
 
 -- every port is fresh, and the desk expects the task's names where they belong and no name elsewhere
 pub record ExpectsNames (q : RouteTask) (told : Told) : Type 0 where
@@ -72,7 +74,7 @@ pub record IsRouteRun (q : RouteTask) (before after : Told) (status : ℕ) : Typ
   -- a run that is unwritten could not write them whole
   pub cut_short : status ≡ unwritten_status → IsCutShort q before after
   -- every other status is that of a refusal, which has its cause and is said on the report
-  pub refused : status ≢ done_status → status ≢ unwritten_status → IsRefused q.input before after status
+  pub refused : status ≢ done_status → status ≢ unwritten_status → IsRefused (design_source q.input) before after status
   -- a text that has to be refused is, for that very cause, where no open or read failed and memory sufficed
   pub tested : (bytes : List ℕ) (r : Refusal)
       → before.files q.input ≡ Some bytes

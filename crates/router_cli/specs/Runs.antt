@@ -6,8 +6,14 @@
 --   Certified    what the certificate says of them
 --   RouteRun     what a run of `route` leaves on each status
 --   Tasks        what its words ask for
+--   MeasureRun   what a run of `measure` says of routes, and
+--   JudgeRun     what a run of `judge` says of routes and a certificate: neither needs a word of how routes are found
+--   AnsweredRun  what a run of these two leaves on each status
+--   Sources      the files that a command reads
+--   JudgedTexts  what the texts say that are judged
 --   Refusals     why a run can be refused, and what it then says
---   Lines        the lines of the report, byte for byte
+--   Lines        the lines of the report, byte for byte, and
+--   AnswerLines  those of what is said of routes that are judged
 --   Outputs      the files that a run makes
 --   Traces       what a run does to the desk that it reads from and writes to
 -- and in the crates below, as the names there lead: `CommandLine` of `command_words` for which words are a command, `Told` of
@@ -17,10 +23,12 @@
 use Rattle.std.specs.Prelude.{◌≡◌, ◌⊎◌, ℕ, List, [], map, string_bytes, true, false}
 use Rattle.std.specs.declared.string.String.{String}
 use Rattle.gr_desk.specs.Told.{Told}
-use Rattle.command_words.specs.CommandLine.{is_command, is_command_of, route_form}
+use Rattle.command_words.specs.CommandLine.{is_command, is_command_of, route_form, measure_form, judge_form}
 use Rattle.router_cli.specs.declared.refusal.Refusal.{Refusal}
 use Rattle.router_cli.specs.declared.refusal.Refusal.TheVariants.{NoCommand, NoMemory}
 use Rattle.router_cli.specs.Lines.{status_of}
+use Rattle.router_cli.specs.JudgeRun.{IsJudgeRun, judge_task_of_words}
+use Rattle.router_cli.specs.MeasureRun.{IsMeasureRun, measure_task_of_words}
 use Rattle.router_cli.specs.RouteRun.{IsRouteRun}
 use Rattle.router_cli.specs.Tasks.{task_of_words}
 use Rattle.router_cli.specs.Traces.{ReportsRefusal, TouchesOnly}
@@ -42,3 +50,5 @@ pub record IsNoCommandRun (before after : Told) (status : ℕ) : Type 0 where
 pub record IsRun {Z : Type 0} (words : List (String Z)) (before after : Told) (status : ℕ) : Type 0 where
   pub no_command : is_command (map string_bytes words) ≡ false → IsNoCommandRun before after status
   pub route : is_command_of (map string_bytes words) route_form ≡ true → IsRouteRun (task_of_words (map string_bytes words)) before after status
+  pub measure : is_command_of (map string_bytes words) measure_form ≡ true → IsMeasureRun (measure_task_of_words (map string_bytes words)) before after status
+  pub judge : is_command_of (map string_bytes words) judge_form ≡ true → IsJudgeRun (judge_task_of_words (map string_bytes words)) before after status

@@ -17,15 +17,20 @@
 //! `route_text` and `cert_text` for the texts, `gr_desk` to read from and write to, and `itoa`.
 //!
 //! Promised, in the words of `specs/Runs.antt`, which is the page to begin with: where the status is 0, the routes that were
-//! written join their nets' pins inside the grid, and are the result of a run of phases, picks and rounds of repair; the printed
-//! numbers are those of these routes and of this run, and the printed bound is at most the greatest load/capacity of every
-//! routing; every other status but 8, want of memory, has its cause, and but for 7 no file is touched.
+//! written join their nets' pins inside the grid, the printed numbers are those of these routes, and the printed bound is at
+//! most the greatest load/capacity of every routing; every other status but 8, want of memory, has its cause, and but for 7
+//! no file is touched.
 
 #![tactic(auto)]
 
+mod answer;
+mod answer_lines;
 mod certificate;
+mod grounded_design;
+mod judge;
 mod laws;
 mod lines;
+mod measure;
 mod outputs;
 mod prepared;
 mod refusal;
@@ -33,8 +38,16 @@ mod refuse;
 mod report;
 mod route;
 mod routed_design;
+mod routes_report;
+mod say;
+mod sources;
+mod statuses;
+mod text_fault;
 mod top;
 
+pub use answer::Answer;
 pub use laws::{repair_adds_no_overflow, routes_of_designs_read_back};
 pub use refusal::Refusal;
+pub use routes_report::RoutesReport;
+pub use text_fault::TextFault;
 pub use top::run;

@@ -6,12 +6,13 @@ ghost use Rattle.gr_desk.specs.Pens.{Puts, Ends, pen_told, HasSameDesk};
 ghost use Rattle.router_cli.specs.Lines.{fields, line, wanted_part, numbers_of, ending_of, lines_of};
 
 use crate::refusal::Refusal;
+use crate::text_fault::TextFault;
 use gr_desk::{Desk, Failed, Pen, Port};
 use ispd_reader::Wanted;
 use itoa::Buffer;
 
 /// Puts numbers, each behind a space.
-fn put_fields<D: Desk>(pen: &mut Pen<'_, D>, numbers: &[u64])
+pub(crate) fn put_fields<D: Desk>(pen: &mut Pen<'_, D>, numbers: &[u64])
     ensures same_desk { HasSameDesk pen.old pen.new }
     ensures puts { Puts (pen_told D.told pen.old) (pen_told D.told pen.new) (fields numbers.now) }
 {
@@ -45,6 +46,18 @@ fn put_wanted<D: Desk>(pen: &mut Pen<'_, D>, wanted: Option<Wanted>)
     }
 }
 
+/// Puts the numbers of a fault of a text that is judged.
+fn put_text_fault<D: Desk>(pen: &mut Pen<'_, D>, fault: TextFault)
+    ensures same_desk { HasSameDesk pen.old pen.new }
+    ensures puts { Puts (pen_told D.told pen.old) (pen_told D.told pen.new) (fields (numbers_of (Refusal.Text fault))) }
+{
+    put_fields(pen, &[u64::from(fault.number())]);
+    match fault.place() {
+        Some(at) => put_fields(pen, &[at as u64]),
+        None => {}
+    }
+}
+
 /// Puts the numbers that stand behind the status of a refusal.
 fn put_numbers<D: Desk>(pen: &mut Pen<'_, D>, refusal: Refusal)
     ensures same_desk { HasSameDesk pen.old pen.new }
@@ -63,6 +76,7 @@ fn put_numbers<D: Desk>(pen: &mut Pen<'_, D>, refusal: Refusal)
                 u64::from(net.terminal),
             ],
         ),
+        Refusal::Text(fault) => put_text_fault(pen, fault),
         Refusal::NoCommand | Refusal::Unread | Refusal::NoMemory => {}
     }
 }
@@ -78,7 +92,7 @@ fn put_ending<D: Desk>(pen: &mut Pen<'_, D>, refusal: Refusal)
             put_wanted(pen, fault.wanted());
             pen.put(b"\n");
         }
-        Refusal::Unreachable(_) | Refusal::Unread | Refusal::NoMemory => {
+        Refusal::Text(_) | Refusal::Unreachable(_) | Refusal::Unread | Refusal::NoMemory => {
             pen.put(b"\n");
         }
     }

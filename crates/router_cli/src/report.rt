@@ -11,7 +11,7 @@ use gr_desk::{Desk, Failed, Pen, Port};
 use tree_set::Budget;
 
 /// Puts the line of the budget, where there is one.
-fn put_budget<D: Desk>(pen: &mut Pen<'_, D>, budget: Option<Budget>)
+pub(crate) fn put_budget<D: Desk>(pen: &mut Pen<'_, D>, budget: Option<Budget>)
     ensures same_desk { HasSameDesk pen.old pen.new }
     ensures puts { Puts (pen_told D.told pen.old) (pen_told D.told pen.new) (budget_line budget) }
 {

@@ -17,17 +17,12 @@ use crate::prepared::prepare;
 use crate::refuse::refuse;
 use crate::report::write_report;
 use crate::routed_design::RoutedDesign;
+use crate::statuses::{DONE, UNWRITTEN};
 use command_words::RouteRequest;
 use gr_desk::{Desk, Failed};
 use price_workers::{Gate, Settings};
 use std::alloc::Global;
 use std::thread::Threads;
-
-/// The status of a run whose files and report were written whole.
-const DONE: u8 = 0;
-
-/// The status of a run whose files or report could not be written whole.
-const UNWRITTEN: u8 = 7;
 
 /// The settings that a command asks for.
 fn settings_of(request: &RouteRequest<'_>) -> Settings

@@ -2,6 +2,8 @@
 
 ghost use Rattle.router_cli.specs.Runs.{IsRun};
 
+use crate::judge::judge;
+use crate::measure::measure;
 use crate::refusal::Refusal;
 use crate::refuse::refuse;
 use crate::route::route;
@@ -16,11 +18,13 @@ use std::thread::Threads;
 ///
 /// | Status | Comes |
 /// |---|---|
-/// | 0 | the routes and their certificate are written, and the report says what the certificate says |
+/// | 0 | the routes and their certificate are written, and the report says what the certificate says; or routes were accepted |
+/// | 1 | routes or a certificate are not accepted, and the report says why |
 /// | 2 | the words are no command |
 /// | 3 | the input is no design |
+/// | 4 | a text that is to be judged is no route text or no certificate |
 /// | 5 | a net is unreachable |
-/// | 6 | the input could not be opened or read |
+/// | 6 | a file could not be opened or read |
 /// | 7 | a file could not be created or written, or the report not written whole |
 /// | 8 | want of memory, before a file was created |
 pub fn run<R: Threads + Sync, D: Desk, G: Gate>(
@@ -34,6 +38,9 @@ pub fn run<R: Threads + Sync, D: Desk, G: Gate>(
 {
     match command_of(alloc, words.as_slice()) {
         Ok(Command::Route(request)) => route(rt, alloc, &request, desk, gate),
+        Ok(Command::Measure(request)) => measure(alloc, &request, desk),
+        Ok(Command::Judge(request)) => judge(rt, alloc, &request, desk),
+        Ok(Command::Make(_)) | Ok(Command::Trial(_)) => refuse(desk, Refusal::NoMemory),
         Err(WordsError::Refused) => refuse(desk, Refusal::NoCommand),
         Err(WordsError::NoMemory) => refuse(desk, Refusal::NoMemory),
     }

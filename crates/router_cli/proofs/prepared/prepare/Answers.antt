@@ -1,7 +1,7 @@
-use Rattle.router_cli.proofs.Causes.{cause-of_text}
+use Rattle.std.proofs.Common.{sym, subst}
+use Rattle.ispd_reader.specs.Designs.{IsDesignOfText}
 use Rattle.router_cli.proofs.prepared.prepare.Goals as goal
 
-pub returns-clause-refused : goal.returns-clause-refused
-returns-clause-refused g c = λ r is.
-    cause-of_text c.args.name.now c.in_ok-bytes.bytes.items (g.D.Desk.told c.args.desk.now) (g.D.Desk.told c.read_input.new.desk) r
-    c.in_ok-bytes.ensures.bytes (rw c.as_slice.ensures.value at (c.route_bytes.ensures.refused r is))
+pub returns-clause-named : goal.returns-clause-named
+returns-clause-named g c = λ bytes under.
+    subst (IsDesignOfText bytes) (sym c.in_ok-route_design.ensures.design) (c.in_ok-design.ensures.named bytes under)

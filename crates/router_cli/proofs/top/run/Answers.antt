@@ -1,57 +1,66 @@
-use Rattle.std.proofs.Common.{◌≡◌, List, ℕ, refl, sym, subst, inl, inr, string_bytes, map}
-use Rattle.command_words.specs.declared.command.Command.{Command}
-use Rattle.command_words.specs.declared.command.Command.TheVariants.{Route}
-use Rattle.command_words.specs.declared.route_request.RouteRequest.{RouteRequest}
-use Rattle.command_words.specs.CommandLine.{AsksForRoute, HasRouteRanges}
-use Rattle.router_cli.specs.declared.refusal.Refusal.TheVariants.{NoCommand, NoMemory}
+use Rattle.std.proofs.Common.{refl, sym, subst, lit<, string_bytes, map}
+use Rattle.command_words.specs.CommandLine.{AsksForRoute, AsksForMeasure, AsksForJudge, HasRouteRanges, route_form, measure_form, judge_form}
+use Rattle.router_cli.specs.JudgeRun.{IsJudgeRun, JudgeTask}
+use Rattle.router_cli.specs.MeasureRun.{IsMeasureRun, MeasureTask}
 use Rattle.router_cli.specs.RouteRun.{IsRouteRun}
-use Rattle.router_cli.specs.Tasks.{RouteTask, task_of, task_of_words}
-use Rattle.router_cli.proofs.RouteRuns.{run-no_memory, run-no_command}
-use Rattle.router_cli.proofs.Tasks.{task_of-asked, settings-in_range, no_command-no_route}
+use Rattle.router_cli.specs.Tasks.{RouteTask}
+use Rattle.router_cli.proofs.CommandRuns.{no_command-not, not_both, measure_task-asked, judge_task-asked, run-without_memory, run-without_command}
+use Rattle.router_cli.proofs.Tasks.{task_of-asked, settings-in_range}
 use Rattle.router_cli.proofs.top.run.Goals as goal
-
--- a command is one to route
-is_route : (command : Command) → (request : RouteRequest) × (command ≡ Route request)
-is_route (Route request) = (request, refl)
 
 pub route-requires-clause-settings : goal.route-requires-clause-settings
 route-requires-clause-settings g c =
-    let is = is_route c.in-Ok-Route.field-0 in
-    let ranges : HasRouteRanges is.0 = rw is.1 at c.in-Ok-Route.ensures.ranges in
-    λ _ _. rw is.1 (settings-in_range is.0 ranges)
+    let ranges : HasRouteRanges c.in-Ok-Route.request = rw c.in-Ok-Route.field-0-is at c.in-Ok-Route.ensures.ranges in
+    λ _ _. settings-in_range c.in-Ok-Route.request ranges
 
 pub returns-in-Ok-Route : goal.returns-in-Ok-Route
 returns-in-Ok-Route g c =
     let words = map string_bytes c.args.words.now.items in
     let told = g.D.Desk.told in
-    let is = is_route c.in-Ok-Route.field-0 in
-    let asks : AsksForRoute words is.0 = rw (c.as_slice.ensures.value, is.1) at c.in-Ok-Route.ensures.asked in
-    let ran : IsRouteRun (task_of is.0) (told c.args.desk.now) (told c.route.new.desk) c.route.result = rw is.1 at c.route.ensures in
+    let r = c.in-Ok-Route.request in
+    let asks : AsksForRoute words r = rw (c.as_slice.ensures.value, c.in-Ok-Route.field-0-is) at c.in-Ok-Route.ensures.asked in
     record {
-      no_command = λ none. absurd (no_command-no_route words none asks.is_route);
-      route = λ same. subst (λ (q : RouteTask). IsRouteRun q (told c.args.desk.now) (told c.route.new.desk) c.route.result)
-          (sym (task_of-asked words is.0 asks)) ran;
+      no_command = λ none. absurd (no_command-not words route_form (0, lit< tt, refl) none asks.is_route);
+      route = λ _. subst (λ (q : RouteTask). IsRouteRun q (told c.args.desk.now) (told c.route.new.desk) c.route.result) (sym (task_of-asked words r asks)) c.route.ensures;
+      measure = λ other. absurd (not_both route_form measure_form refl words asks.is_route other);
+      judge = λ other. absurd (not_both route_form judge_form refl words asks.is_route other);
+    }
+
+pub returns-in-Ok-Measure : goal.returns-in-Ok-Measure
+returns-in-Ok-Measure g c =
+    let words = map string_bytes c.args.words.now.items in
+    let told = g.D.Desk.told in
+    let r = c.in-Ok-Measure.request in
+    let asks : AsksForMeasure words r = rw (c.as_slice.ensures.value, c.in-Ok-Measure.field-0-is) at c.in-Ok-Measure.ensures.asked in
+    record {
+      no_command = λ none. absurd (no_command-not words measure_form (1, lit< tt, refl) none asks.is_measure);
+      route = λ other. absurd (not_both measure_form route_form refl words asks.is_measure other);
+      measure = λ _. subst (λ (q : MeasureTask). IsMeasureRun q (told c.args.desk.now) (told c.measure.new.desk) c.measure.result) (sym (measure_task-asked words r asks)) c.measure.ensures;
+      judge = λ other. absurd (not_both measure_form judge_form refl words asks.is_measure other);
+    }
+
+pub returns-in-Ok-Judge : goal.returns-in-Ok-Judge
+returns-in-Ok-Judge g c =
+    let words = map string_bytes c.args.words.now.items in
+    let told = g.D.Desk.told in
+    let r = c.in-Ok-Judge.request in
+    let asks : AsksForJudge words r = rw (c.as_slice.ensures.value, c.in-Ok-Judge.field-0-is) at c.in-Ok-Judge.ensures.asked in
+    record {
+      no_command = λ none. absurd (no_command-not words judge_form (2, lit< tt, refl) none asks.is_judge);
+      route = λ other. absurd (not_both judge_form route_form refl words asks.is_judge other);
+      measure = λ other. absurd (not_both judge_form measure_form refl words asks.is_judge other);
+      judge = λ _. subst (λ (q : JudgeTask). IsJudgeRun q (told c.args.desk.now) (told c.judge.new.desk) c.judge.result) (sym (judge_task-asked words r asks)) c.judge.ensures;
     }
 
 pub returns-in-Err-Refused : goal.returns-in-Err-Refused
 returns-in-Err-Refused g c =
-    let words = map string_bytes c.args.words.now.items in
     let told = g.D.Desk.told in
-    let part = c.refuse.ensures.part in
-    record {
-      no_command = λ none. run-no_command (told c.args.desk.now) (told c.refuse.new.desk) c.refuse.result part.0 NoCommand (inl refl)
-          c.refuse.ensures.status part.1 c.refuse.ensures.whole;
-      route = λ is. absurd (no_command-no_route words (rw c.as_slice.ensures.value at (c.in-Err-Refused.ensures.refused c.in-Err-Refused.field-0-is)) is);
-    }
+    let said = c.refuse-in-Err-Refused.ensures in
+    run-without_command c.args.words.now.items (told c.args.desk.now) (told c.refuse-in-Err-Refused.new.desk) c.refuse-in-Err-Refused.result said.part.0
+    (rw c.as_slice.ensures.value at (c.in-Err-Refused.ensures.refused c.in-Err-Refused.field-0-is)) said.status said.part.1 said.whole
 
 pub returns-in-Err-NoMemory : goal.returns-in-Err-NoMemory
 returns-in-Err-NoMemory g c =
-    let words = map string_bytes c.args.words.now.items in
     let told = g.D.Desk.told in
-    let part = c.refuse-in-Err-NoMemory.ensures.part in
-    record {
-      no_command = λ none. run-no_command (told c.args.desk.now) (told c.refuse-in-Err-NoMemory.new.desk) c.refuse-in-Err-NoMemory.result part.0 NoMemory (inr refl)
-          c.refuse-in-Err-NoMemory.ensures.status part.1 c.refuse-in-Err-NoMemory.ensures.whole;
-      route = λ is. run-no_memory (task_of_words words) (told c.args.desk.now) (told c.refuse-in-Err-NoMemory.new.desk) c.refuse-in-Err-NoMemory.result part.0
-          c.refuse-in-Err-NoMemory.ensures.status part.1 c.refuse-in-Err-NoMemory.ensures.whole;
-    }
+    let said = c.refuse-in-Err-NoMemory.ensures in
+    run-without_memory c.args.words.now.items (told c.args.desk.now) (told c.refuse-in-Err-NoMemory.new.desk) c.refuse-in-Err-NoMemory.result said.part.0 said.status said.part.1 said.whole

@@ -10,7 +10,7 @@ use Rattle.router_cli.specs.declared.refusal.Refusal.TheVariants.{NoMemory}
 use Rattle.router_cli.specs.Refusals.{IsRefusedFor}
 use Rattle.router_cli.specs.Steps.{of_ground_error}
 use Rattle.router_cli.proofs.Outcomes.{same_refusal}
-use Rattle.router_cli.proofs.prepared.route_bytes.Goals as goal
+use Rattle.router_cli.proofs.sources.grounded.Goals as goal
 
 -- a design without grounds is refused for its first net that is cut off, or for want of memory
 refused_for_grounds : (text : List ℕ) (d : Design) (e : GroundError) → IsDesignOfText text d → IsFirstGroundError d.grid d.nets e → IsRefusedFor text (of_ground_error e) ⊎ (of_ground_error e ≡ NoMemory)
@@ -22,7 +22,7 @@ abbrev IsTextRefusal : List ℕ → Refusal → Type 0
 IsTextRefusal text r = IsRefusedFor text r ⊎ (r ≡ NoMemory)
 
 pub returns-in_err-grounds-clause-refused : goal.returns-in_err-grounds-clause-refused
-returns-in_err-grounds-clause-refused g c = λ r is.
+returns-in_err-grounds-clause-refused c = λ r is.
     let d = c.in_ok-design.design in
     let named : IsDesignOfText c.args.bytes.now d = c.in_ok-design.ensures.design in
     let made : of_ground_error c.in_err-grounds.field-0.0 ≡ r = same_refusal c.from_residual-in_err-grounds.result _ r c.from_residual-in_err-grounds.ensures.1 is in

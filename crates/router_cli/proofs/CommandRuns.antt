@@ -1,0 +1,101 @@
+-- Runs by their words, which are one command at most.
+use Rattle.std.proofs.Common.{◌≡◌, ◌∙◌, ◌&&◌, ℕ, List, [], ◌∷◌, Contains, take, true, false, refl, sym, ap, subst, lit<, inl, inr, string_bytes, map}
+use Rattle.std.specs.Prelude.{slice_index_or}
+use Rattle.std.specs.declared.string.String.{String}
+use Rattle.std.specs.Str.{bytes_eq}
+use Rattle.std.proofs.lemmas.Bool.{and_parts}
+use Rattle.std.proofs.lemmas.List.Folds.{list_any_at}
+use Rattle.std.proofs.lemmas.Slice.Eq.{bytes_eq-Decides}
+use Rattle.command_words.specs.declared.judge_request.JudgeRequest.{JudgeRequest}
+use Rattle.command_words.specs.declared.measure_request.MeasureRequest.{MeasureRequest}
+use Rattle.command_words.specs.CommandLine.{CommandForm, AsksForJudge, AsksForMeasure, are_names, are_options, begins_with, command_forms, has_shape, has_values_in_range, is_command, is_command_of, names_in, option_words}
+use Rattle.command_words.specs.CommandLine.{route_form, measure_form, judge_form}
+use Rattle.gr_desk.specs.declared.port.Port.TheVariants.{Report}
+use Rattle.gr_desk.specs.Runs.{Adds}
+use Rattle.gr_desk.specs.Told.{Told}
+use Rattle.router_cli.specs.declared.answer.Answer.{Answer}
+use Rattle.router_cli.specs.declared.refusal.Refusal.TheVariants.{NoCommand, NoMemory}
+use Rattle.router_cli.specs.AnsweredRun.{IsAnsweredRun}
+use Rattle.router_cli.specs.JudgeRun.{JudgeTask, IsJudgeAnswer, judge_sources, judge_task_of, judge_task_of_words}
+use Rattle.router_cli.specs.Lines.{lines_of, status_of}
+use Rattle.router_cli.specs.MeasureRun.{MeasureTask, IsMeasureAnswer, measure_sources, measure_task_of, measure_task_of_words}
+use Rattle.router_cli.specs.Runs.{IsRun}
+use Rattle.router_cli.specs.Sources.{Source, ports_of}
+use Rattle.router_cli.specs.Tasks.{task_of_words}
+use Rattle.router_cli.specs.Traces.{OutputFailed}
+use Rattle.router_cli.proofs.AnsweredRuns.{AreInputs, run-not_said}
+use Rattle.router_cli.proofs.JudgedRuns.{report-not_measured, report-not_judged}
+use Rattle.router_cli.proofs.ReadFiles.{reads-nothing}
+use Rattle.router_cli.proofs.RouteRuns.{run-no_memory, run-no_command}
+
+-- ---- which command words are
+
+-- words that are no command are none of the commands
+pub no_command-not : (words : List (List ℕ)) (form : CommandForm) → Contains command_forms form → is_command words ≡ false → is_command_of words form ≡ true → ⊥
+no_command-not words form at none is =
+    let some : is_command words ≡ true = list_any_at (is_command_of words) command_forms at.0 form at.1 (ap (is_command_of words) at.2 ∙ is) in
+    let both : true ≡ false = sym some ∙ none in
+    cc
+
+-- words of a command begin with its word
+begins : (form : CommandForm) (words : List (List ℕ)) → is_command_of words form ≡ true → begins_with form.word words ≡ true
+begins form words is =
+    let shaped = (and_parts (has_shape form words) (has_values_in_range form words) is).0 in
+    (and_parts (begins_with form.word words) (are_names form (names_in form words) && are_options form (option_words form words)) shaped).0
+
+-- so they are none of another word
+pub not_both : (form other : CommandForm) → bytes_eq form.word other.word ≡ false → (words : List (List ℕ)) → is_command_of words form ≡ true → is_command_of words other ≡ true → ⊥
+not_both form other apart [] one both = let some : false ≡ true = begins form [] one in cc
+not_both form other apart (first ∷ rest) one both =
+    let same : first ≡ form.word = (bytes_eq-Decides first form.word).0 (begins form (first ∷ rest) one) in
+    let equal : bytes_eq form.word other.word ≡ true = subst (λ (word : List ℕ). bytes_eq word other.word ≡ true) same (begins other (first ∷ rest) both) in
+    let clash : true ≡ false = sym equal ∙ apart in
+    cc
+
+-- ---- what they ask for
+
+abbrev measure_of_names : List (List ℕ) → MeasureTask
+measure_of_names names = record { input = slice_index_or names 0 []; routes = slice_index_or names 1 [] }
+
+pub measure_task-asked : (words : List (List ℕ)) (r : MeasureRequest) → AsksForMeasure words r → measure_task_of_words words ≡ measure_task_of r
+measure_task-asked words r asks = ap measure_of_names asks.names
+
+abbrev judge_of_names : List (List ℕ) → JudgeTask
+judge_of_names names = record { input = slice_index_or names 0 []; routes = slice_index_or names 1 []; cert = slice_index_or names 2 [] }
+
+pub judge_task-asked : (words : List (List ℕ)) (r : JudgeRequest) → AsksForJudge words r → judge_task_of_words words ≡ judge_task_of r
+judge_task-asked words r asks = ap judge_of_names asks.names
+
+-- ---- runs that are refused before a file is read
+
+-- a run that was to answer, and had no memory to read its words
+answered-no_memory : (sources : List Source) (IsRight : Answer → Type 0) (a c : Told) (status n : ℕ) → ¬ Contains (ports_of sources) Report → AreInputs sources
+    → status ≡ status_of NoMemory → Adds a c Report (take n (lines_of NoMemory)) → (¬ OutputFailed a c → Adds a c Report (lines_of NoMemory)) → IsAnsweredRun sources IsRight a c status
+answered-no_memory sources IsRight a c status n apart inputs is part whole =
+    run-not_said sources IsRight a a c status n NoMemory apart inputs tt (reads-nothing sources a) (λ _. refl) is part whole
+
+-- a run that had no memory to read its words, whatever they are
+pub run-without_memory : {Z : Type 0} (words : List (String Z)) (a c : Told) (status n : ℕ)
+    → status ≡ status_of NoMemory → Adds a c Report (take n (lines_of NoMemory)) → (¬ OutputFailed a c → Adds a c Report (lines_of NoMemory)) → IsRun words a c status
+run-without_memory words a c status n is part whole =
+    let bytes = map string_bytes words in
+    let measure = measure_task_of_words bytes in
+    let judge = judge_task_of_words bytes in
+    record {
+      no_command = λ none. run-no_command a c status n NoMemory (inr refl) is part whole;
+      route = λ _. run-no_memory (task_of_words bytes) a c status n is part whole;
+      measure = λ _. answered-no_memory (measure_sources measure) (IsMeasureAnswer measure a) a c status n (report-not_measured measure) (refl, (refl, tt)) is part whole;
+      judge = λ _. answered-no_memory (judge_sources judge) (IsJudgeAnswer judge a) a c status n (report-not_judged judge) (refl, (refl, (refl, tt))) is part whole;
+    }
+
+-- a run whose words are no command
+pub run-without_command : {Z : Type 0} (words : List (String Z)) (a c : Told) (status n : ℕ) → is_command (map string_bytes words) ≡ false
+    → status ≡ status_of NoCommand → Adds a c Report (take n (lines_of NoCommand)) → (¬ OutputFailed a c → Adds a c Report (lines_of NoCommand)) → IsRun words a c status
+run-without_command words a c status n none is part whole =
+    let bytes = map string_bytes words in
+    record {
+      no_command = λ _. run-no_command a c status n NoCommand (inl refl) is part whole;
+      route = λ of. absurd (no_command-not bytes route_form (0, lit< tt, refl) none of);
+      measure = λ of. absurd (no_command-not bytes measure_form (1, lit< tt, refl) none of);
+      judge = λ of. absurd (no_command-not bytes judge_form (2, lit< tt, refl) none of);
+    }

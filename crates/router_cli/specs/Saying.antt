@@ -1,0 +1,15 @@
+-- What it does to the desk to say an answer.
+use Rattle.std.specs.Prelude.{◌≡◌, ◌⊎◌, ℕ, take}
+use Rattle.gr_desk.specs.declared.port.Port.TheVariants.{Report}
+use Rattle.gr_desk.specs.Runs.{Adds}
+use Rattle.gr_desk.specs.Told.{Told}
+use Rattle.router_cli.specs.declared.answer.Answer.{Answer}
+use Rattle.router_cli.specs.AnswerLines.{answer_text, answer_status}
+use Rattle.router_cli.specs.Lines.{unwritten_status}
+use Rattle.router_cli.specs.Traces.{OutputFailed}
+
+-- the answer was written whole, and the status is its own; or a write failed, and some part of it from its front was written
+abbrev pub Says : Answer → Told → Told → ℕ → Type 0
+Says answer before after status =
+    (status ≡ answer_status answer) × Adds before after Report (answer_text answer) × (after.out_faults ≡ before.out_faults)
+    ⊎ (status ≡ unwritten_status) × ((n : ℕ) × Adds before after Report (take n (answer_text answer))) × OutputFailed before after

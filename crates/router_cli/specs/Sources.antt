@@ -1,0 +1,24 @@
+-- The files that a command reads.
+use Rattle.std.specs.Prelude.{ℕ, List, [], ◌∷◌, map}
+use Rattle.gr_desk.specs.declared.port.Port.{Port}
+use Rattle.gr_desk.specs.declared.port.Port.TheVariants.{In}
+use Rattle.gr_desk.specs.Calls.{IsOrderlyOpen}
+use Rattle.gr_desk.specs.Told.{Told}
+
+-- a file that is read: at which port, and under which name
+pub record Source : Type 0 where
+  pub port : Port
+  pub name : List ℕ
+
+-- the ports of files that are read
+abbrev pub ports_of : List Source → List Port
+ports_of sources = map (λ s. s.port) sources
+
+-- what `route` reads: the design
+abbrev pub design_source : List ℕ → List Source
+design_source name = record { port = In; name = name } ∷ []
+
+-- the desk expects to have each of them opened
+abbrev pub AreOrderlyOpens : Told → List Source → Type 0
+AreOrderlyOpens told [] = Unit {0}
+AreOrderlyOpens told (s ∷ later) = IsOrderlyOpen told s.port s.name × AreOrderlyOpens told later

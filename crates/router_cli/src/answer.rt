@@ -1,0 +1,36 @@
+//! What is said of routes that are judged.
+
+ghost use Rattle.std.specs.Prelude.{◌≡◌};
+ghost use Rattle.router_cli.specs.AnswerLines.{answer_status};
+
+use crate::routes_report::RoutesReport;
+use crate::statuses::{DONE, OBJECTED};
+use route_judge::Reason;
+use tree_set::{Budget, Fraction};
+
+/// What a run says of routes, alone or with a certificate.
+#[derive(Clone, Copy, Debug, Drop, PartialEq, Eq)]
+pub enum Answer {
+    /// What is measured of routes that are accepted.
+    Measured(RoutesReport),
+    /// What is measured of routes that are accepted with a certificate, with its budget, and the bound that it states.
+    Yes {
+        report: RoutesReport,
+        bound: Option<Fraction>,
+        budget: Option<Budget>,
+    },
+    /// Why they are not.
+    No(Reason),
+}
+
+impl Answer {
+    /// The status that the program ends with.
+    pub fn status(self) -> u8
+        ensures { result ≡ answer_status self }
+    {
+        match self {
+            Answer::Measured(_) | Answer::Yes { .. } => DONE,
+            Answer::No(_) => OBJECTED,
+        }
+    }
+}
