@@ -1,7 +1,6 @@
 -- The sets of all nets, by the slots after all blocks.
-use Rattle.std.proofs.Common.{◌≡◌, ◌≢◌, ℕ, zero, suc, ◌<◌, ◌≤◌, List, [], ◌∷◌, ◌++◌, length, map, get_or, Bool, true, false, Contains, Option, None, Some, refl, sym, ◌∙◌, ap, subst, inl, inr, ⊎_elim, arith, All}
-use Rattle.std.specs.Prelude.{flat_map, unwrap_or}
-use Rattle.std.specs.List.{AllZip}
+use Rattle.std.proofs.Common.{◌≡◌, ℕ, zero, suc, ◌<◌, ◌≤◌, List, [], ◌∷◌, length, map, get_or, Contains, Option, None, Some, refl, sym, ◌∙◌, subst, ⊎_elim, arith, All}
+use Rattle.std.specs.Prelude.{unwrap_or}
 use Rattle.std.proofs.lemmas.Bool.{cases_lt}
 use Rattle.std.proofs.lemmas.List.{length-map}
 use Rattle.std.proofs.lemmas.Option.{slice_get_within, slice_get-get_or, same_Some}
@@ -17,7 +16,7 @@ use Rattle.grid_graph.specs.declared.net_spec.NetSpec.{NetSpec}
 use Rattle.grid_graph.specs.Grids.{size_of}
 use Rattle.route_text.specs.declared.block.Block.{Block}
 use Rattle.tree_set.proofs.Order.{empty-IsRising}
-use Rattle.route_judge.specs.NetSets.{HasBlock, IsSetOfNet, IsJoining, AreSetsOf, AreJoining}
+use Rattle.route_judge.specs.NetSets.{IsSetOfNet, IsJoining, AreSetsOf, AreJoining}
 use Rattle.route_judge.specs.Objections.{Objection, missing_net, Applies, Finds}
 use Rattle.route_judge.specs.Slots.{IsSlot, AreSlots}
 

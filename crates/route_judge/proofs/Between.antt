@@ -1,17 +1,16 @@
 -- The pieces between two places in line are those of a run along x, of a run along y and of a stack of vias from the lowest of
 -- the places on.
-use Rattle.std.proofs.Common.{◌≡◌, ℕ, ◌+◌, ◌-◌, ◌*◌, ◌<◌, ◌≤◌, ◌⊎◌, min, max, refl, sym, ◌∙◌, ap, subst, inl, inr, ⊎_elim, arith}
-use Rattle.std.specs.Prelude.{◌↔◌}
+use Rattle.std.proofs.Common.{◌≡◌, ℕ, ◌+◌, ◌-◌, ◌*◌, ◌<◌, ◌⊎◌, min, sym, ◌∙◌, ap, subst, inl, inr, ⊎_elim, arith}
 use Rattle.std.specs.Int.{abs_diff}
-use Rattle.grid_base.specs.declared.axis.Axis.TheVariants.{X, Y}
 use Rattle.grid_base.specs.declared.piece.Piece.{Piece}
 use Rattle.grid_base.specs.declared.place.Place.{Place}
 use Rattle.grid_base.specs.declared.size.Size.{Size}
 use Rattle.grid_base.specs.Lines.{AreInLine, IsBetween, IsFromTo}
-use Rattle.grid_base.specs.Numbers.{IsPiece, IsVertex, IsInside, vertex_number, cols, rows, layers, place_at, col_of, row_of, layer_of, start_of, end_place, to_next_col, to_next_row, to_next_layer}
+use Rattle.grid_base.specs.Numbers.{IsVertex, IsInside, vertex_number, cols, rows, place_at, col_of, row_of, layer_of, start_of, end_place, to_next_col, to_next_row, to_next_layer}
 use Rattle.grid_base.proofs.Places.{vertex_number-place, place_at-number, vertex_number-inside}
 use Rattle.grid_base.proofs.Pieces.{by_kind, end_place-to_next_col, end_place-to_next_row, start_of-to_next_col, start_of-to_next_row}
-use Rattle.route_judge.specs.Lines.{IsEdgeOfRun, IsViaOfStack, RunsBetween, lowest_corner}
+use Rattle.route_judge.specs.declared.direction.Direction.TheVariants.{East, North, Up}
+use Rattle.route_judge.specs.Lines.{IsOfRun, RunsBetween, lowest_corner}
 
 -- the piece goes from a place to a place
 record IsStep (s : Size) (p : Piece) (from to : Place) : Type 0 where
@@ -118,10 +117,10 @@ number_at s u col row layer in_col in_row in_layer =
 -- a piece between two places in line is one of the three
 abbrev pub IsOneBetween : Size → Place → Place → Piece → Type 0
 IsOneBetween s from to p =
-    (IsEdgeOfRun s X (lowest_corner s from to) (abs_diff from.col to.col) p ⊎ IsEdgeOfRun s Y (lowest_corner s from to) (abs_diff from.row to.row) p)
-    ⊎ IsViaOfStack s (lowest_corner s from to) (abs_diff from.layer to.layer) p
+    (IsOfRun s East (lowest_corner s from to) (abs_diff from.col to.col) p ⊎ IsOfRun s North (lowest_corner s from to) (abs_diff from.row to.row) p)
+    ⊎ IsOfRun s Up (lowest_corner s from to) (abs_diff from.layer to.layer) p
 
-col_between : (s : Size) (from to : Place) (u : ℕ) → AreInLine from to → RunsBetween s from to (to_next_col u) → IsEdgeOfRun s X (lowest_corner s from to) (abs_diff from.col to.col) (to_next_col u)
+col_between : (s : Size) (from to : Place) (u : ℕ) → AreInLine from to → RunsBetween s from to (to_next_col u) → IsOfRun s East (lowest_corner s from to) (abs_diff from.col to.col) (to_next_col u)
 col_between s from to u straight runs =
     let near : IsBetween from to (place_at s u) = subst (λ v. IsBetween from to (place_at s v)) (start_of-to_next_col u) runs.start in
     let far : IsBetween from to (at (col_of s u + 1) (row_of s u) (layer_of s u)) = subst (IsBetween from to) (end_place-to_next_col s u) runs.end in
@@ -133,7 +132,7 @@ col_between s from to u straight runs =
     let same : u ≡ lowest_corner s from to + i * 1 = is ∙ omega arith in
     (i, omega (arith, near.col.0, far.col.1), ap to_next_col same)
 
-row_between : (s : Size) (from to : Place) (u : ℕ) → AreInLine from to → RunsBetween s from to (to_next_row u) → IsEdgeOfRun s Y (lowest_corner s from to) (abs_diff from.row to.row) (to_next_row u)
+row_between : (s : Size) (from to : Place) (u : ℕ) → AreInLine from to → RunsBetween s from to (to_next_row u) → IsOfRun s North (lowest_corner s from to) (abs_diff from.row to.row) (to_next_row u)
 row_between s from to u straight runs =
     let near : IsBetween from to (place_at s u) = subst (λ v. IsBetween from to (place_at s v)) (start_of-to_next_row u) runs.start in
     let far : IsBetween from to (at (col_of s u) (row_of s u + 1) (layer_of s u)) = subst (IsBetween from to) (end_place-to_next_row s u) runs.end in
@@ -145,7 +144,7 @@ row_between s from to u straight runs =
     let same : u ≡ lowest_corner s from to + i * cols s = is ∙ omega arith in
     (i, omega (arith, near.row.0, far.row.1), ap to_next_row same)
 
-layer_between : (s : Size) (from to : Place) (u : ℕ) → AreInLine from to → RunsBetween s from to (to_next_layer u) → IsViaOfStack s (lowest_corner s from to) (abs_diff from.layer to.layer) (to_next_layer u)
+layer_between : (s : Size) (from to : Place) (u : ℕ) → AreInLine from to → RunsBetween s from to (to_next_layer u) → IsOfRun s Up (lowest_corner s from to) (abs_diff from.layer to.layer) (to_next_layer u)
 layer_between s from to u straight runs =
     let near : IsBetween from to (place_at s u) = runs.start in
     let far : IsBetween from to (at (col_of s u) (row_of s u) (layer_of s u + 1)) = runs.end in

@@ -1,5 +1,5 @@
 -- What is objected to a block, and what its set does to the slot of its net.
-use Rattle.std.proofs.Common.{◌≡◌, ◌≢◌, ℕ, ◌+◌, ◌<◌, ◌⊎◌, List, [], ◌∷◌, ◌++◌, length, get_or, take, slice_set, Bool, true, false, Contains, Option, None, Some, refl, sym, ◌∙◌, ap, subst, inl, inr, ⊎_elim, arith}
+use Rattle.std.proofs.Common.{◌≡◌, ◌≢◌, ℕ, ◌+◌, ◌<◌, ◌⊎◌, List, [], ◌∷◌, ◌++◌, length, get_or, take, slice_set, true, false, Contains, Option, None, Some, refl, sym, ◌∙◌, ap, subst, inl, inr, ⊎_elim, arith}
 use Rattle.std.specs.Prelude.{◌↔◌}
 use Rattle.std.specs.Option.{is_some}
 use Rattle.std.proofs.lemmas.List.Elements.{Contains-append_left, Contains-append_right, Contains-append_cases}
@@ -24,7 +24,7 @@ use Rattle.route_judge.specs.declared.stop.Stop.{Stop}
 use Rattle.route_judge.specs.declared.stop.Stop.TheVariants.{Refused, NoMemory}
 use Rattle.route_judge.specs.NetPlaces.{ArePlacesOf}
 use Rattle.route_judge.specs.NetSets.{HasBlock, IsJoining}
-use Rattle.route_judge.specs.Objections.{Objection, not_joined, Finds, LeavesApart}
+use Rattle.route_judge.specs.Objections.{not_joined, Finds, LeavesApart}
 use Rattle.route_judge.specs.Orders.{all_segment_objections, block_objections}
 use Rattle.route_judge.specs.Slots.{IsSlot, AreSlots}
 use Rattle.route_judge.specs.Stops.{StopsFor}

@@ -1,11 +1,10 @@
 -- The verdict, by what the steps of the judge stop for; and that a bound that isn't too high bounds the design.
-use Rattle.std.proofs.Common.{◌≡◌, ◌≢◌, ℕ, ◌+◌, ◌*◌, ◌<◌, ◌≤◌, ◌⊎◌, List, ◌++◌, length, Option, None, Some, refl, sym, ◌∙◌, ap, subst, inl, inr, ⊎_elim, arith}
+use Rattle.std.proofs.Common.{◌≡◌, ℕ, ◌+◌, ◌*◌, ◌<◌, ◌≤◌, List, ◌++◌, length, Option, None, Some, refl, sym, subst, inr, ⊎_elim, arith}
 use Rattle.std.specs.Prelude.{IfSome, IsSome}
 use Rattle.std.proofs.Math.Nat.{mul-le-mul_right, mul-le-mul_left}
 use Rattle.std.proofs.lemmas.Bool.{cases_lt}
-use Rattle.std.proofs.lemmas.Option.{same_Some}
 use Rattle.cert_text.specs.declared.cert.Cert.{Cert}
-use Rattle.dual_bound.specs.Bounds.{IsResource, IsUsedAt, BoundsDesign}
+use Rattle.dual_bound.specs.Bounds.{BoundsDesign}
 use Rattle.dual_bound.proofs.Duality.{nothing_bounds}
 use Rattle.grid_graph.specs.declared.design.Design.{Design}
 use Rattle.grid_graph.specs.declared.ground.Ground.{Ground}
@@ -20,9 +19,9 @@ use Rattle.route_judge.specs.Bounds.{HasResource, IsTooHigh}
 use Rattle.route_judge.specs.Judgements.{IsJudged, IsJudgedFor, IsMeasureWith, IsFound, StatesBound}
 use Rattle.route_judge.specs.Measured.{AreMeasured}
 use Rattle.route_judge.specs.Objections.{Objection, Finds}
-use Rattle.route_judge.specs.Orders.{AreRoutes, route_objections, measure_objections, count_objections, bound_objections, objections_but_bound, all_objections}
+use Rattle.route_judge.specs.Orders.{AreRoutes, route_objections, measure_objections, count_objections, bound_objections}
 use Rattle.route_judge.specs.Stops.{StopsFor}
-use Rattle.route_judge.proofs.Found.{found_before, found_behind, found_once, none_before}
+use Rattle.route_judge.proofs.Found.{found_before, found_behind, found_once}
 
 -- what is objected first isn't nothing
 something : (d : Design) (xs : List Objection) (reason : Reason) → Finds d xs (Some reason) → ¬ Finds d xs None

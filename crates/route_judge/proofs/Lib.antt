@@ -4,6 +4,8 @@ pub mod BlockTests
 pub mod Found
 pub mod Joining
 pub mod Judged
+pub mod Laying
+pub mod Marked
 pub mod OnSegments
 pub mod OpenEdges
 pub mod PlacesById

@@ -1,10 +1,9 @@
 -- What is objected to a segment, and the pieces of some segments.
-use Rattle.std.proofs.Common.{◌≡◌, ◌≢◌, ℕ, ◌+◌, ◌<◌, ◌≤◌, ◌⊎◌, All, List, [], ◌∷◌, ◌++◌, length, get_or, take, Contains, Option, None, Some, Result, Ok, Err, refl, sym, ◌∙◌, ap, subst, inl, inr, ⊎_elim, arith}
+use Rattle.std.proofs.Common.{◌≡◌, ℕ, ◌+◌, ◌<◌, ◌≤◌, All, List, [], ◌∷◌, ◌++◌, length, get_or, take, Contains, Some, Result, Ok, Err, refl, sym, ◌∙◌, ap, subst, inl, inr, ⊎_elim, arith}
 use Rattle.std.specs.Prelude.{◌↔◌, IfErr, OnOk}
 use Rattle.std.proofs.lemmas.List.{take_more, take_all}
 use Rattle.std.proofs.lemmas.List.Elements.{All-contains_itself, All-weaker, Contains-append_left, Contains-append_right, Contains-append_cases}
 use Rattle.std.proofs.lemmas.Option.{same_Some}
-use Rattle.grid_base.specs.declared.edge.Edge.{Edge as EdgeNumber}
 use Rattle.grid_base.specs.declared.piece.Piece.{Piece}
 use Rattle.grid_base.specs.declared.place.Place.{Place}
 use Rattle.grid_base.specs.Lines.{AreInLine}
@@ -19,7 +18,7 @@ use Rattle.route_judge.specs.declared.reason.Reason.TheVariants.{OnWall}
 use Rattle.route_judge.specs.declared.stop.Stop.{Stop}
 use Rattle.route_judge.specs.declared.stop.Stop.TheVariants.{Refused, NoMemory}
 use Rattle.route_judge.specs.Lines.{RunsBetween, ArePut, IsForWall}
-use Rattle.route_judge.specs.Objections.{IsOutside, IsSlanted, CrossesWall}
+use Rattle.route_judge.specs.Objections.{IsOutside, IsSlanted}
 use Rattle.route_judge.specs.Orders.{segment_objections}
 use Rattle.route_judge.specs.Stops.{StopsAt}
 use Rattle.route_judge.proofs.Puts.{put_then, put_same}

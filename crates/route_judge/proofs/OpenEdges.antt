@@ -1,12 +1,12 @@
 -- The open edges as they are counted, and the prices that are listed for them.
-use Rattle.std.proofs.Common.{◌≡◌, ℕ, suc, ◌+◌, ◌<◌, ◌≤◌, Bool, true, false, cond, List, [], ◌∷◌, ◌++◌, length, map, get_or, slice_index, All, refl, sym, ◌∙◌, ap, subst, ⊎_elim, arith, zero-add, ltb}
+use Rattle.std.proofs.Common.{◌≡◌, ℕ, suc, ◌+◌, ◌<◌, ◌≤◌, Bool, true, false, cond, List, [], ◌∷◌, ◌++◌, length, map, slice_index, All, refl, sym, ◌∙◌, ap, subst, ⊎_elim, arith, zero-add, ltb}
 use Rattle.std.specs.Int.{from_bool}
 use Rattle.std.specs.List.{range_with_len}
 use Rattle.std.proofs.lemmas.Bool.{cases_Bool, cases_lt}
 use Rattle.std.proofs.lemmas.List.{get_or_past}
 use Rattle.std.proofs.lemmas.List.FromFn.{length-map-range_with_len, get_or-map-range_with_len, map-range_with_len_more}
 use Rattle.grid_graph.specs.declared.grid.Grid.{Grid}
-use Rattle.grid_graph.specs.Grids.{capacity, edge_numbers}
+use Rattle.grid_graph.specs.Grids.{edge_numbers}
 use Rattle.edge_prices.specs.Limits.{max_price}
 use Rattle.edge_prices.specs.Weights.{AreEdgePrices, is_open}
 use Rattle.dual_bound.proofs.CapacityCosts.{sum_by-range-more}

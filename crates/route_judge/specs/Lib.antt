@@ -11,6 +11,7 @@ pub mod Bounds
 pub mod Counted
 pub mod Counts
 pub mod Judgements
+pub mod Laid
 pub mod Limits
 pub mod Lines
 pub mod Measured
@@ -20,4 +21,6 @@ pub mod Objections
 pub mod Orders
 pub mod Reasons
 pub mod Slots
+pub mod Stamps
 pub mod Stops
+pub mod Tables

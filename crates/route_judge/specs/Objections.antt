@@ -1,7 +1,6 @@
 -- What can be objected to routes and to a certificate, when each objection applies, and the reason that it gives.
 use Rattle.std.specs.Prelude.{ℕ, ◌≡◌, ◌≢◌, ◌*◌, ◌≤◌, ◌⊎◌, List, [], ◌∷◌, Contains, length, Option, Some, None}
 use Rattle.grid_base.specs.declared.edge.Edge.{Edge as EdgeNumber}
-use Rattle.grid_base.specs.declared.piece.Piece.{Piece}
 use Rattle.grid_base.specs.declared.piece.Piece.TheVariants.{Edge}
 use Rattle.grid_base.specs.declared.place.Place.{Place}
 use Rattle.grid_base.specs.Lines.{AreInLine}
@@ -12,7 +11,6 @@ use Rattle.grid_graph.specs.declared.kind.Kind.TheVariants.{Wall}
 use Rattle.grid_graph.specs.declared.net_spec.NetSpec.{NetSpec}
 use Rattle.grid_graph.specs.Grids.{kind, size_of}
 use Rattle.route_text.specs.declared.block.Block.{Block}
-use Rattle.route_text.specs.declared.point.Point.{Point}
 use Rattle.route_text.specs.declared.segment.Segment.{Segment}
 use Rattle.route_text.specs.BlockPieces.{point_place, LiesOn, IsPieceOf}
 use Rattle.tree_set.specs.declared.fraction.Fraction.{Fraction}

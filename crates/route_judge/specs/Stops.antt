@@ -1,5 +1,5 @@
 -- What a step of the judge answers.
-use Rattle.std.specs.Prelude.{List, Option, Some, None, Result, Ok, Err}
+use Rattle.std.specs.Prelude.{List, Some, None, Result, Ok, Err}
 use Rattle.grid_graph.specs.declared.design.Design.{Design}
 use Rattle.route_judge.specs.declared.stop.Stop.{Stop}
 use Rattle.route_judge.specs.declared.stop.Stop.TheVariants.{Refused, NoMemory}

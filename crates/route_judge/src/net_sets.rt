@@ -16,6 +16,7 @@ use crate::blocks::fill_slot;
 use crate::net_places::NetPlaces;
 use crate::reason::Reason;
 use crate::stop::Stop;
+use crate::tables::Tables;
 use grid_base::NoMemory;
 use grid_graph::Design;
 use route_text::Block;
@@ -41,8 +42,17 @@ fn filled_slots(alloc: Global, design: &Design, blocks: &[Block]) -> Result<Vec<
 {
     let places = NetPlaces::of(alloc, design.nets.list())?;
     let mut slots = empty_slots(alloc, design)?;
+    let mut tables = Tables::fresh(alloc, design.grid.size())?;
     for number in 0..blocks.len() {
-        fill_slot(alloc, design, &places, blocks, number, &mut slots)?;
+        fill_slot(
+            alloc,
+            design,
+            &places,
+            blocks,
+            number,
+            &mut tables,
+            &mut slots,
+        )?;
     }
     Ok(slots)
 }

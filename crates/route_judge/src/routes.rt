@@ -45,7 +45,8 @@ pub(crate) fn measure_routes(
 ///
 /// A set may use choked edges that are outside its net's ground. The answer counts the nets whose sets do.
 ///
-/// Takes about `n log n` steps for n nets, blocks and pieces, and one pass over the edges.
+/// Takes about `n log n` steps for n nets, segments and pieces, where a piece counts once for each block that has it, and a few
+/// passes over the grid.
 pub fn judge_routes(
     alloc: Global,
     design: &Design,

@@ -1,6 +1,6 @@
 //! The segments of a block.
 
-ghost use Rattle.std.specs.Prelude.{◌≡◌, ◌↔◌, ◌<◌, IsTrue, IfOk, OnOk, length, All, Contains};
+ghost use Rattle.std.specs.Prelude.{◌≡◌, ◌↔◌, [], ◌<◌, IsTrue, IfOk, OnOk, length, All, Contains};
 ghost use Rattle.grid_base.specs.declared.piece.Piece.{Piece};
 ghost use Rattle.grid_base.specs.Lines.{AreInLine};
 ghost use Rattle.grid_graph.specs.declared.ground.Ground.TheVariants.{WithChoked};
@@ -9,12 +9,13 @@ ghost use Rattle.route_text.specs.BlockPieces.{LiesOn, IsPieceOf};
 ghost use Rattle.route_text.specs.ReadLimits.{IsSegmentInRange, IsBlockInRange};
 ghost use Rattle.tree_set.specs.Order.{IsRising};
 ghost use Rattle.tree_set.specs.Routings.{KeepsTo};
+ghost use Rattle.route_judge.specs.Laid.{AreLaid};
 ghost use Rattle.route_judge.specs.Limits.{number_limit};
 ghost use Rattle.route_judge.specs.Lines.{ArePut};
 ghost use Rattle.route_judge.specs.Orders.{segment_objections, all_segment_objections};
 ghost use Rattle.route_judge.specs.Stops.{StopsAt};
 
-use crate::lines::put_between;
+use crate::lines::lay_between;
 use crate::placing::place_of;
 use crate::reason::Reason;
 use crate::stop::Stop;
@@ -34,17 +35,21 @@ fn are_in_line(from: Place, to: Place) -> bool
     same_row && same_layer || same_col && same_layer || same_col && same_row
 }
 
-/// Puts the pieces of a segment on the list. The segment has this number in its block, and the block has its own in the text.
-fn put_segment(
+/// Puts the pieces of a segment on the list and into the table. The segment has this number in its block, and the block has its
+/// own in the text.
+fn lay_segment(
     design: &Design,
     block: u32,
     number: u32,
     segment: Segment,
+    table: &mut [u32],
     pieces: &mut Vec<Piece>,
 ) -> Result<(), Stop>
-    requires { IsSegmentInRange segment }
+    requires range { IsSegmentInRange segment }
+    requires laid { AreLaid design.now.grid table.old pieces.old.items }
     ensures stops { StopsAt design.now (segment_objections block (number, segment)) result }
     ensures put { OnOk result (ArePut design.now.grid (LiesOn design.now.grid segment) pieces.old.items pieces.new.items) }
+    ensures laid { OnOk result (AreLaid design.now.grid table.new pieces.new.items) }
 {
     let outside = Stop::Refused(Reason::PointOutside {
         block,
@@ -66,27 +71,33 @@ fn put_segment(
         block,
         segment: number,
     };
-    put_between(&design.grid, from, to, wall, pieces)
+    lay_between(&design.grid, from, to, wall, table, pieces)
 }
 
-/// The set of the pieces of a block, which has this number in the text.
+/// The set of the pieces of a block, which has this number in the text. They are laid in a table in which nothing was.
+///
+/// Takes about `n log n` steps for n segments and distinct pieces, however long the segments are and however often they
+/// overlap.
 pub(crate) fn set_of(
     alloc: Global,
     design: &Design,
     number: u32,
     block: &Block,
+    table: &mut [u32],
 ) -> Result<Tree, Stop>
     requires short { length block.now.segments < number_limit }
     requires range { IsBlockInRange block.now }
+    requires laid { AreLaid design.now.grid table.old [] }
     ensures stops { StopsAt design.now (all_segment_objections number block.now.segments) result }
     ensures rising { IfOk result (λ tree. IsRising tree) }
     ensures pieces { IfOk result (λ tree. (p : Piece) → Contains tree p ↔ IsPieceOf design.now.grid block.now p) }
+    ensures laid { IfOk result (λ tree. AreLaid design.now.grid table.new tree) }
     ensures no_wall { IfOk result (λ tree. KeepsTo design.now.grid WithChoked tree) }
 {
     let segments = block.segments.list();
     let mut pieces = Vec::new(alloc);
     for i in 0..segments.len() {
-        put_segment(design, number, i as u32, segments[i], &mut pieces)?;
+        lay_segment(design, number, i as u32, segments[i], table, &mut pieces)?;
     }
     Ok(Tree::of(pieces))
 }

@@ -1,10 +1,5 @@
-use Rattle.std.proofs.Common.{◌≡◌, ℕ, true, ◌<◌, List, length, get_or, refl, sym, ◌∙◌, ap, subst, inl, inr, [], ◌∷◌, Some, None}
+use Rattle.std.proofs.Common.{◌≡◌, true, refl, inl, inr, [], ◌∷◌}
 use Rattle.std.proofs.lemmas.Result.{err_from_is_err_and}
-use Rattle.grid_base.specs.Lists.{At}
-use Rattle.grid_base.specs.Walks.{JoinsList}
-use Rattle.grid_graph.specs.declared.design.Design.{Design}
-use Rattle.grid_graph.specs.declared.net_spec.NetSpec.{NetSpec}
-use Rattle.grid_graph.specs.Grids.{size_of}
 use Rattle.grid_graph.proofs.Grounds.{at_place}
 use Rattle.route_judge.specs.Objections as objections
 use Rattle.route_judge.specs.Orders.{all_segment_objections}
@@ -21,7 +16,7 @@ pub returns-then-not-branch-clause-stops : goal.returns-then-not-branch-clause-s
 returns-then-not-branch-clause-stops c =
     let d = c.args.design.now in
     let found = at_place d.nets c.args.place c.requires.place in
-    let joins = c.in_ok-joins_net.ensures.joins found.0 found.1 in
+    let joins = c.in_ok-joins_net.ensures.joins c.in_ok-tree.tree found.0 c.in_ok-tree.ensures.laid found.1 in
     found_behind d (all_segment_objections c.args.number c.args.block.now.segments) (objections.not_joined c.args.block.now ∷ []) _ c.in_ok-tree.ensures.stops
     (inl (is_apart d c.args.block.now c.args.place found.0 c.in_ok-tree.tree found.1 (c.requires.net found.0 found.1) c.in_ok-tree.ensures.pieces (λ joined. let told : c.in_ok-joins_net.field-0 ≡ true = joins.1 joined in cc (told, c.if-not-branch.true)), refl))
 
@@ -29,10 +24,10 @@ pub returns-clause-stops : goal.returns-clause-stops
 returns-clause-stops c =
     let d = c.args.design.now in
     let found = at_place d.nets c.args.place c.requires.place in
-    let joins = c.in_ok-joins_net.ensures.joins found.0 found.1 in
+    let joins = c.in_ok-joins_net.ensures.joins c.in_ok-tree.tree found.0 c.in_ok-tree.ensures.laid found.1 in
     found_behind d (all_segment_objections c.args.number c.args.block.now.segments) (objections.not_joined c.args.block.now ∷ []) _ c.in_ok-tree.ensures.stops
     (inr (not_apart d c.args.block.now c.args.place found.0 c.in_ok-tree.tree found.1 (c.requires.net found.0 found.1) c.in_ok-tree.ensures.pieces (joins.0 c.if-not-branch.false), refl))
 
 pub returns-clause-joining : goal.returns-clause-joining
 returns-clause-joining c n at =
-    record { joined = (c.in_ok-joins_net.ensures.joins n at).0 c.if-not-branch.false; no_wall = c.in_ok-tree.ensures.no_wall }
+    record { joined = (c.in_ok-joins_net.ensures.joins c.in_ok-tree.tree n c.in_ok-tree.ensures.laid at).0 c.if-not-branch.false; no_wall = c.in_ok-tree.ensures.no_wall }

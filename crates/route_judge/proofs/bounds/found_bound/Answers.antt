@@ -1,6 +1,5 @@
 use Rattle.std.proofs.Common.{◌≡◌, List, ℕ, sym, ◌∙◌, ap, subst}
 use Rattle.edge_prices.specs.Weights.{AreEdgePrices}
-use Rattle.dual_bound.specs.DesignBounds.{IsBoundOrNone}
 use Rattle.route_judge.specs.Counts.{listed_prices}
 use Rattle.route_judge.proofs.OpenEdges.{listed_are_prices}
 use Rattle.route_judge.proofs.bounds.found_bound.Goals as goal

@@ -22,6 +22,7 @@ loop-number-preserved c =
       clear = none_numbered c.args.design.now (block_objections blocks) blocks blocks c.loop-number.number found.0 refl c.loop-number-test.true c.loop-number.invariant.clear
           (c.in_ok-fill_slot.ensures.stops _ (slice_get-get_or blocks c.loop-number.number found.0 c.loop-number-test.true));
       filled = c.in_ok-fill_slot.ensures.slots;
+      tables = c.in_ok-fill_slot.ensures.tables;
     }
 
 pub returns-clause-stops : goal.returns-clause-stops

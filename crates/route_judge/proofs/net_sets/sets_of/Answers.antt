@@ -1,12 +1,8 @@
-use Rattle.std.proofs.Common.{◌≡◌, List, map, None, refl, sym, subst}
+use Rattle.std.proofs.Common.{map, None, sym, subst}
 use Rattle.std.proofs.lemmas.Result.{err_from_is_err_and}
-use Rattle.grid_base.specs.declared.piece.Piece.{Piece}
-use Rattle.std.proofs.Common.{Option}
-use Rattle.route_judge.specs.NetSets.{AreSetsOf, AreJoining}
-use Rattle.route_judge.specs.Objections.{missing_net, Finds}
-use Rattle.route_judge.specs.Orders.{all_block_objections, route_objections}
+use Rattle.route_judge.specs.Objections.{missing_net}
+use Rattle.route_judge.specs.Orders.{all_block_objections}
 use Rattle.route_judge.specs.Slots.{AreSlots}
-use Rattle.route_judge.specs.Stops.{StopsFor}
 use Rattle.route_judge.proofs.AllSets.{sets_of_slots, joining_of_slots}
 use Rattle.route_judge.proofs.Found.{found_behind, stops_before, stops_behind}
 use Rattle.route_judge.proofs.net_sets.sets_of.Goals as goal

@@ -1,13 +1,10 @@
-use Rattle.std.proofs.Common.{◌≡◌, ℕ, ◌-◌, ◌<◌, true, false, Option, None, Some, IfSome, sym, ◌∙◌, ap, subst, ⊎_elim, arith, ℤ, pos, int_lt, nat_abs}
+use Rattle.std.proofs.Common.{◌≡◌, ℕ, ◌<◌, Option, None, Some, IfSome, sym, ◌∙◌, ap, subst, ℤ}
 use Rattle.std.specs.Option.{option_zip}
-use Rattle.std.proofs.lemmas.Bool.{cases_Bool}
-use Rattle.std.proofs.lemmas.Int.{ints}
 use Rattle.grid_base.specs.Numbers.{cols, rows, layers}
 use Rattle.grid_graph.specs.declared.grid.Grid.{Grid}
 use Rattle.grid_graph.specs.Grids.{layout_of, size_of, tile_of_position}
 use Rattle.grid_graph.specs.Tiles.{tile_index}
 use Rattle.grid_graph.proofs.Positions.{tile_below}
-use Rattle.route_text.specs.BlockPieces.{layer_index}
 use Rattle.route_judge.proofs.placing.place_of.Goals as goal
 
 zip_within : (a b : Option ℕ) (m n : ℕ) (t : ℕ × ℕ) → IfSome a (λ i. i < m) → IfSome b (λ i. i < n) → option_zip a b ≡ Some t → (t.0 < m) × (t.1 < n)

@@ -1,4 +1,4 @@
-use Rattle.std.proofs.Common.{◌≡◌, ℕ, ◌≤◌, List, length, All, sym, ◌∙◌, ap, subst, arith}
+use Rattle.std.proofs.Common.{◌≤◌, List, length, All, sym, ◌∙◌, ap, subst}
 use Rattle.std.proofs.lemmas.Slice.Zip.{AllZip-long}
 use Rattle.grid_base.specs.declared.piece.Piece.{Piece}
 use Rattle.grid_graph.specs.declared.ground.Ground.TheVariants.{WithChoked}
@@ -6,7 +6,6 @@ use Rattle.grid_graph.specs.Grids.{size_of}
 use Rattle.grid_graph.specs.Grounds.{IsGround}
 use Rattle.grid_graph.specs.Limits.{max_nets}
 use Rattle.tree_set.specs.Routings.{ArePieces, KeepsTo}
-use Rattle.route_judge.specs.NetSets.{AreJoining}
 use Rattle.route_judge.proofs.Joining.{joining_long, without_walls, all_pieces}
 use Rattle.route_judge.proofs.routes.measure_routes.Goals as goal
 

@@ -1,20 +1,21 @@
-use Rattle.std.proofs.Common.{◌≡◌, ◌<◌, ◌≤◌, length, [], refl, ap, subst, arith}
+use Rattle.std.proofs.Common.{◌<◌, ◌≤◌, length, [], refl, ap, subst, arith}
 use Rattle.std.proofs.lemmas.Result.{err_from_is_err_and}
 use Rattle.route_text.specs.declared.segment.Segment.{Segment}
 use Rattle.route_judge.specs.Orders.{segment_objections}
 use Rattle.route_judge.proofs.Found.{none_numbered, stops_numbered, none_in_all, read_again}
+use Rattle.route_judge.proofs.Laying.{laid_again}
 use Rattle.route_judge.proofs.OnSegments.{IsOnSome, none_on, one_more_segment, all_put, held_where_put, no_wall_held}
 use Rattle.route_judge.proofs.segments.set_of.Goals as goal
 
 pub loop-i-init : goal.loop-i-init
-loop-i-init c = rw c.new-pieces.ensures.items (record { clear = refl; put = none_on c.args.design.now.grid [] })
+loop-i-init c = rw c.new-pieces.ensures.items (record { clear = refl; put = none_on c.args.design.now.grid []; laid = c.requires.laid })
 
-pub returns-in_err-put_segment-clause-stops : goal.returns-in_err-put_segment-clause-stops
-returns-in_err-put_segment-clause-stops c =
+pub returns-in_err-lay_segment-clause-stops : goal.returns-in_err-lay_segment-clause-stops
+returns-in_err-lay_segment-clause-stops c =
     let exit = err_from_is_err_and c.from_residual.result c.from_residual.ensures.1 in
     let segments = c.args.block.now.segments in
     let below : c.loop-i.i < length segments = subst (λ xs. c.loop-i.i < length xs) c.list-segments.ensures c.loop-i-test.true in
-    rw (exit.1, exit.2) (stops_numbered c.args.design.now (segment_objections c.args.number) segments _ c.loop-i.i _ c.in_err-put_segment.field-0.0 c.list-segments.ensures below c.loop-i.invariant.clear c.in_err-put_segment.ensures.stops)
+    rw (exit.1, exit.2) (stops_numbered c.args.design.now (segment_objections c.args.number) segments _ c.loop-i.i _ c.in_err-lay_segment.field-0.0 c.list-segments.ensures below c.loop-i.invariant.clear c.in_err-lay_segment.ensures.stops)
 
 pub loop-i-preserved : goal.loop-i-preserved
 loop-i-preserved c =
@@ -22,9 +23,13 @@ loop-i-preserved c =
     let segments = c.args.block.now.segments in
     let below : c.loop-i.i < length segments = subst (λ xs. c.loop-i.i < length xs) c.list-segments.ensures c.loop-i-test.true in
     record {
-      clear = none_numbered c.args.design.now (segment_objections c.args.number) segments _ c.loop-i.i _ c.list-segments.ensures below c.loop-i.invariant.clear c.in_ok-put_segment.ensures.stops;
-      put = one_more_segment g segments c.loop-i.i _ [] c.loop-i.pieces.items c.put_segment.new.pieces.items below (read_again segments _ c.loop-i.i _ c.list-segments.ensures below) c.loop-i.invariant.put c.in_ok-put_segment.ensures.put;
+      clear = none_numbered c.args.design.now (segment_objections c.args.number) segments _ c.loop-i.i _ c.list-segments.ensures below c.loop-i.invariant.clear c.in_ok-lay_segment.ensures.stops;
+      put = one_more_segment g segments c.loop-i.i _ [] c.loop-i.pieces.items c.lay_segment.new.pieces.items below (read_again segments _ c.loop-i.i _ c.list-segments.ensures below) c.loop-i.invariant.put c.in_ok-lay_segment.ensures.put;
+      laid = c.in_ok-lay_segment.ensures.laid;
     }
+
+pub returns-clause-laid : goal.returns-clause-laid
+returns-clause-laid c = laid_again c.args.design.now.grid c.loop-i.table c.loop-i.pieces.items c.of.result c.of.ensures.same c.loop-i.invariant.laid
 
 pub returns-clause-stops : goal.returns-clause-stops
 returns-clause-stops c =
