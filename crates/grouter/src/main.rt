@@ -1,4 +1,4 @@
-//! The command line of the router: `grouter route IN ROUTES CERT`.
+//! The command line of the router: `grouter route IN ROUTES CERT`, `measure`, `judge`, `make` and `trial`.
 #![tactic(auto)]
 
 ghost use Rattle.std.specs.Prelude.{◌≡◌, ◌≢◌, [], drop, IsErr, IsOkAnd, IfOk, IfErr, IsErrAnd};

@@ -9,7 +9,7 @@ use Rattle.std.proofs.lemmas.Slice.Eq.{bytes_eq-Decides}
 use Rattle.command_words.specs.declared.judge_request.JudgeRequest.{JudgeRequest}
 use Rattle.command_words.specs.declared.measure_request.MeasureRequest.{MeasureRequest}
 use Rattle.command_words.specs.CommandLine.{CommandForm, AsksForJudge, AsksForMeasure, are_names, are_options, begins_with, command_forms, has_shape, has_values_in_range, is_command, is_command_of, names_in, option_words}
-use Rattle.command_words.specs.CommandLine.{route_form, measure_form, judge_form}
+use Rattle.command_words.specs.CommandLine.{route_form, measure_form, judge_form, make_form, trial_form}
 use Rattle.gr_desk.specs.declared.port.Port.TheVariants.{Report}
 use Rattle.gr_desk.specs.Runs.{Adds}
 use Rattle.gr_desk.specs.Told.{Told}
@@ -18,14 +18,17 @@ use Rattle.router_cli.specs.declared.refusal.Refusal.TheVariants.{NoCommand, NoM
 use Rattle.router_cli.specs.AnsweredRun.{IsAnsweredRun}
 use Rattle.router_cli.specs.JudgeRun.{JudgeTask, IsJudgeAnswer, judge_sources, judge_task_of, judge_task_of_words}
 use Rattle.router_cli.specs.Lines.{lines_of, status_of}
+use Rattle.router_cli.specs.MakeRun.{make_task_of_words}
 use Rattle.router_cli.specs.MeasureRun.{MeasureTask, IsMeasureAnswer, measure_sources, measure_task_of, measure_task_of_words}
 use Rattle.router_cli.specs.Runs.{IsRun}
 use Rattle.router_cli.specs.Sources.{Source, ports_of}
 use Rattle.router_cli.specs.Tasks.{task_of_words}
 use Rattle.router_cli.specs.Traces.{OutputFailed}
+use Rattle.router_cli.specs.TrialRun.{trial_task_of_words}
 use Rattle.router_cli.proofs.AnsweredRuns.{AreInputs, run-not_said}
 use Rattle.router_cli.proofs.JudgedRuns.{report-not_measured, report-not_judged}
 use Rattle.router_cli.proofs.ReadFiles.{reads-nothing}
+use Rattle.router_cli.proofs.MadeRuns.{make-no_memory, trial-no_memory}
 use Rattle.router_cli.proofs.RouteRuns.{run-no_memory, run-no_command}
 
 -- ---- which command words are
@@ -86,6 +89,8 @@ run-without_memory words a c status n is part whole =
       route = λ _. run-no_memory (task_of_words bytes) a c status n is part whole;
       measure = λ _. answered-no_memory (measure_sources measure) (IsMeasureAnswer measure a) a c status n (report-not_measured measure) (refl, (refl, tt)) is part whole;
       judge = λ _. answered-no_memory (judge_sources judge) (IsJudgeAnswer judge a) a c status n (report-not_judged judge) (refl, (refl, (refl, tt))) is part whole;
+      make = λ _. make-no_memory (make_task_of_words bytes) a c status n is part whole;
+      trial = λ _. trial-no_memory (trial_task_of_words bytes) a c status n is part whole;
     }
 
 -- a run whose words are no command
@@ -98,4 +103,6 @@ run-without_command words a c status n none is part whole =
       route = λ of. absurd (no_command-not bytes route_form (0, lit< tt, refl) none of);
       measure = λ of. absurd (no_command-not bytes measure_form (1, lit< tt, refl) none of);
       judge = λ of. absurd (no_command-not bytes judge_form (2, lit< tt, refl) none of);
+      make = λ of. absurd (no_command-not bytes make_form (3, lit< tt, refl) none of);
+      trial = λ of. absurd (no_command-not bytes trial_form (4, lit< tt, refl) none of);
     }

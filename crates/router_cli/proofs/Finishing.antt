@@ -99,10 +99,10 @@ files-both q texts a b c (Ok x) s (Err e) first ok second =
     }
 
 -- a port where a file was made keeps what no create and no write changes
-file-keeps : (x y : PortTold) (name text : List ℕ) → HasFile x y name text → y ≡ but_for_output x y
+pub file-keeps : (x y : PortTold) (name text : List ℕ) → HasFile x y name text → y ≡ but_for_output x y
 file-keeps x y name text file = but_for_output-of x y (ap (λ (p : PortTold). p.rest) file.only) (ap (λ (p : PortTold). p.expected) file.only)
 
-part-keeps : (x y : PortTold) (name text : List ℕ) → HasPart x y name text → y ≡ but_for_output x y
+pub part-keeps : (x y : PortTold) (name text : List ℕ) → HasPart x y name text → y ≡ but_for_output x y
 part-keeps x y name text (inl is) = but_for_output-of x y (ap (λ (p : PortTold). p.rest) is) (ap (λ (p : PortTold). p.expected) is)
 part-keeps x y name text (inr (n, file)) = file-keeps x y name (take n text) file
 

@@ -17,4 +17,11 @@ pub mod Causes
 pub mod ReadBack
 pub mod Bounded
 pub mod Repairs
+pub mod RisingRuns
+pub mod ListedBack
+pub mod TrueTexts
+pub mod InMemory
 pub mod CommandRuns
+pub mod TrialRuns
+pub mod MakeRuns
+pub mod MadeRuns

@@ -33,6 +33,9 @@ pub use Rattle.cert_text.specs.StatedCerts
 pub use Rattle.route_text.specs.RouteText
 pub use Rattle.route_text.specs.Blocks
 pub use Rattle.route_text.specs.ReadBack
+pub use Rattle.gr_make.specs.MadeText
+pub use Rattle.gr_make.specs.Shapes
+pub use Rattle.judge_laws.specs.Meeting
 pub mod Runs
 pub mod Headline
 pub mod RouterRuns
@@ -53,4 +56,8 @@ pub mod Traces
 pub mod Routed
 pub mod Finishing
 pub mod Steps
+pub mod TextsMeet
+pub mod WantOfMemory
+pub mod MakeRun
+pub mod TrialRun
 pub mod Saying

@@ -9,6 +9,9 @@
 --   MeasureRun   what a run of `measure` says of routes, and
 --   JudgeRun     what a run of `judge` says of routes and a certificate: neither needs a word of how routes are found
 --   AnsweredRun  what a run of these two leaves on each status
+--   MakeRun      what a run of `make` leaves, and
+--   TrialRun     what a run of `trial` does: it never finds a no, and TextsMeet says what the judge has to say of its texts
+--   WantOfMemory the one other way in which these two end
 --   Sources      the files that a command reads
 --   JudgedTexts  what the texts say that are judged
 --   Refusals     why a run can be refused, and what it then says
@@ -23,15 +26,17 @@
 use Rattle.std.specs.Prelude.{◌≡◌, ◌⊎◌, ℕ, List, [], map, string_bytes, true, false}
 use Rattle.std.specs.declared.string.String.{String}
 use Rattle.gr_desk.specs.Told.{Told}
-use Rattle.command_words.specs.CommandLine.{is_command, is_command_of, route_form, measure_form, judge_form}
+use Rattle.command_words.specs.CommandLine.{is_command, is_command_of, route_form, measure_form, judge_form, make_form, trial_form}
 use Rattle.router_cli.specs.declared.refusal.Refusal.{Refusal}
 use Rattle.router_cli.specs.declared.refusal.Refusal.TheVariants.{NoCommand, NoMemory}
 use Rattle.router_cli.specs.Lines.{status_of}
 use Rattle.router_cli.specs.JudgeRun.{IsJudgeRun, judge_task_of_words}
+use Rattle.router_cli.specs.MakeRun.{IsMakeRun, make_task_of_words}
 use Rattle.router_cli.specs.MeasureRun.{IsMeasureRun, measure_task_of_words}
 use Rattle.router_cli.specs.RouteRun.{IsRouteRun}
 use Rattle.router_cli.specs.Tasks.{task_of_words}
 use Rattle.router_cli.specs.Traces.{ReportsRefusal, TouchesOnly}
+use Rattle.router_cli.specs.TrialRun.{IsTrialRun, trial_task_of_words}
 
 -- a run on words that are no command
 pub record IsNoCommandRun (before after : Told) (status : ℕ) : Type 0 where
@@ -52,3 +57,5 @@ pub record IsRun {Z : Type 0} (words : List (String Z)) (before after : Told) (s
   pub route : is_command_of (map string_bytes words) route_form ≡ true → IsRouteRun (task_of_words (map string_bytes words)) before after status
   pub measure : is_command_of (map string_bytes words) measure_form ≡ true → IsMeasureRun (measure_task_of_words (map string_bytes words)) before after status
   pub judge : is_command_of (map string_bytes words) judge_form ≡ true → IsJudgeRun (judge_task_of_words (map string_bytes words)) before after status
+  pub make : is_command_of (map string_bytes words) make_form ≡ true → IsMakeRun (make_task_of_words (map string_bytes words)) before after status
+  pub trial : is_command_of (map string_bytes words) trial_form ≡ true → IsTrialRun (trial_task_of_words (map string_bytes words)) before after status

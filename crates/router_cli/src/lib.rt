@@ -14,12 +14,17 @@
 //!
 //! It stands on `command_words` for the words, `ispd_reader` for the design, `grid_graph` for the nets' grounds, `sharing_phases`,
 //! `rounding_pick` and `ripup_repair` for the routes and their prices, `tree_set` for their measures, `dual_bound` for the bound,
-//! `route_text` and `cert_text` for the texts, `gr_desk` to read from and write to, and `itoa`.
+//! `route_text` and `cert_text` for the texts, `route_judge` for the verdict on them, `gr_make` for generated designs,
+//! `made_designs` and `judge_laws` for the laws by which a trial never fails, `gr_desk` to read from and write to, and `itoa`.
 //!
 //! Promised, in the words of `specs/Runs.antt`, which is the page to begin with: where the status is 0, the routes that were
-//! written join their nets' pins inside the grid, the printed numbers are those of these routes, and the printed bound is at
-//! most the greatest load/capacity of every routing; every other status but 8, want of memory, has its cause, and but for 7
-//! no file is touched.
+//! written join their nets' pins inside the grid, and are the result of a run of phases, picks and rounds of repair; the printed
+//! numbers are those of these routes and of this run, and the printed bound is at most the greatest load/capacity of every
+//! routing; every other status but 8, want of memory, has its cause, and but for 7 no file is touched.
+//!
+//! `measure` and `judge` write no file: they say what is measured of routes that are accepted, with the bound of their
+//! certificate, which then holds of every routing; or the first reason against them, with status 1. `make` writes the design
+//! of a seed, and `trial` sees one through and never finds a no.
 
 #![tactic(auto)]
 
@@ -30,6 +35,7 @@ mod grounded_design;
 mod judge;
 mod laws;
 mod lines;
+mod make;
 mod measure;
 mod outputs;
 mod prepared;
@@ -44,9 +50,13 @@ mod sources;
 mod statuses;
 mod text_fault;
 mod top;
+mod trial;
+mod trial_texts;
 
 pub use answer::Answer;
-pub use laws::{repair_adds_no_overflow, routes_of_designs_read_back};
+pub use laws::{
+    repair_adds_no_overflow, routes_of_designs_read_back, texts_of_runs_meet_their_design,
+};
 pub use refusal::Refusal;
 pub use routes_report::RoutesReport;
 pub use text_fault::TextFault;

@@ -1,7 +1,9 @@
-//! The files that `route` makes.
+//! The files that a run makes.
 
 ghost use Rattle.std.specs.Prelude.{◌≡◌, length, All};
-ghost use Rattle.gr_desk.specs.declared.port.Port.TheVariants.{RoutesOut, CertOut};
+ghost use Rattle.gr_desk.specs.declared.port.Port.TheVariants.{RoutesOut, CertOut, DesignOut};
+ghost use Rattle.gr_make.specs.MadeText.{made_text};
+ghost use Rattle.gr_make.specs.Shapes.{IsShape};
 ghost use Rattle.grid_graph.specs.Grids.{size_of};
 ghost use Rattle.cert_text.specs.CertText.{cert_text};
 ghost use Rattle.route_text.specs.RouteText.{routes_text};
@@ -10,6 +12,7 @@ ghost use Rattle.router_cli.specs.Outputs.{Makes};
 
 use cert_text::{Cert, write_cert};
 use gr_desk::{Desk, Failed, Port};
+use gr_make::{Shape, make};
 use grid_graph::Design;
 use route_text::write_routes;
 use tree_set::Tree;
@@ -35,4 +38,18 @@ pub(crate) fn make_cert<D: Desk>(desk: &mut D, name: &str, cert: &Cert) -> Resul
 {
     desk.create(Port::CertOut, name)?;
     write_cert(desk, Port::CertOut, cert)
+}
+
+/// Creates a file under the name, and writes the design that is made from the seed to it.
+pub(crate) fn make_design<D: Desk>(
+    desk: &mut D,
+    name: &str,
+    seed: u64,
+    shape: Shape,
+) -> Result<(), Failed>
+    requires shape { IsShape shape }
+    ensures { Makes (D.told desk.old) (D.told desk.new) DesignOut name.now (made_text seed shape) result }
+{
+    desk.create(Port::DesignOut, name)?;
+    make(desk, Port::DesignOut, seed, shape)
 }

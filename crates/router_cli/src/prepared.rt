@@ -43,7 +43,7 @@ pub(crate) fn prepare<R: Threads + Sync, D: Desk, G: Gate>(
 }
 
 /// The design with its routes: each net keeps its set of the phase that is picked for it, and rounds of repair replace some.
-fn route_design<R: Threads + Sync, G: Gate>(
+pub(crate) fn route_design<R: Threads + Sync, G: Gate>(
     rt: &R,
     alloc: Global,
     design: Design,

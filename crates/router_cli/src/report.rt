@@ -22,7 +22,7 @@ pub(crate) fn put_budget<D: Desk>(pen: &mut Pen<'_, D>, budget: Option<Budget>)
 }
 
 /// Puts the report of routes: the overflow before repair, the number of its rounds, and what the certificate says.
-fn put_report<D: Desk>(pen: &mut Pen<'_, D>, rounded: u64, rounds: u32, cert: &Cert)
+pub(crate) fn put_report<D: Desk>(pen: &mut Pen<'_, D>, rounded: u64, rounds: u32, cert: &Cert)
     ensures same_desk { HasSameDesk pen.old pen.new }
     ensures puts { Puts (pen_told D.told pen.old) (pen_told D.told pen.new) (report_text rounded rounds cert.now) }
 {

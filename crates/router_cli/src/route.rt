@@ -94,7 +94,7 @@ fn report<D: Desk>(desk: &mut D, routed: &RoutedDesign) -> u8
 }
 
 /// Says on the report that a file could not be written, as far as that can be written, and answers the status.
-fn say_unwritten<D: Desk>(desk: &mut D) -> u8
+pub(crate) fn say_unwritten<D: Desk>(desk: &mut D) -> u8
     ensures status { result ≡ unwritten_status }
     ensures part { (n : ℕ) × Adds (D.told desk.old) (D.told desk.new) Report (take n unwritten_line) }
 {

@@ -61,7 +61,7 @@ fn read_source<D: Desk>(
 }
 
 /// The design that the bytes name, with its nets' grounds.
-fn grounded(alloc: Global, bytes: &[u8]) -> Result<GroundedDesign, Refusal>
+pub(crate) fn grounded(alloc: Global, bytes: &[u8]) -> Result<GroundedDesign, Refusal>
     ensures named { IfOk result (λ g. IsDesignOfText bytes.now g.design) }
     ensures grounds { IfOk result (λ g. AreGrounds g.design.grid g.design.nets g.grounds.items) }
     ensures refused { (r : Refusal) → IsErrOf result r → IsRefusedFor bytes.now r ⊎ (r ≡ Refusal.NoMemory) }

@@ -3,10 +3,12 @@
 ghost use Rattle.router_cli.specs.Runs.{IsRun};
 
 use crate::judge::judge;
+use crate::make::make;
 use crate::measure::measure;
 use crate::refusal::Refusal;
 use crate::refuse::refuse;
 use crate::route::route;
+use crate::trial::trial;
 use command_words::{Command, WordsError, command_of};
 use gr_desk::Desk;
 use price_workers::Gate;
@@ -18,7 +20,7 @@ use std::thread::Threads;
 ///
 /// | Status | Comes |
 /// |---|---|
-/// | 0 | the routes and their certificate are written, and the report says what the certificate says; or routes were accepted |
+/// | 0 | what was asked for is written and reported, or the routes are accepted |
 /// | 1 | routes or a certificate are not accepted, and the report says why |
 /// | 2 | the words are no command |
 /// | 3 | the input is no design |
@@ -40,7 +42,8 @@ pub fn run<R: Threads + Sync, D: Desk, G: Gate>(
         Ok(Command::Route(request)) => route(rt, alloc, &request, desk, gate),
         Ok(Command::Measure(request)) => measure(alloc, &request, desk),
         Ok(Command::Judge(request)) => judge(rt, alloc, &request, desk),
-        Ok(Command::Make(_)) | Ok(Command::Trial(_)) => refuse(desk, Refusal::NoMemory),
+        Ok(Command::Make(request)) => make(desk, &request),
+        Ok(Command::Trial(request)) => trial(rt, alloc, &request, desk, gate),
         Err(WordsError::Refused) => refuse(desk, Refusal::NoCommand),
         Err(WordsError::NoMemory) => refuse(desk, Refusal::NoMemory),
     }

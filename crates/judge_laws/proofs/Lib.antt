@@ -1,0 +1,11 @@
+pub mod RisingSets
+pub mod WrittenSegments
+pub mod NoObjections
+pub mod WrittenBlocks
+pub mod WrittenRanges
+pub mod OneMeasure
+pub mod OneBound
+pub mod Resources
+pub mod TrueClaims
+pub mod LowestTerms
+pub mod CertLimits

@@ -1,0 +1,42 @@
+//! What the words of the contracts amount to. Nothing is computed here: each contract is a law.
+
+ghost use Rattle.std.specs.Prelude.{◌≤◌, List, All};
+ghost use Rattle.cert_text.specs.declared.cert.Cert.{Cert};
+ghost use Rattle.cert_text.specs.Certs.{IsCertOf};
+ghost use Rattle.cert_text.specs.CertText.{cert_text};
+ghost use Rattle.edge_prices.specs.Limits.{max_price};
+ghost use Rattle.grid_base.specs.declared.piece.Piece.{Piece};
+ghost use Rattle.grid_graph.specs.Borders.{HasBordersInRange};
+ghost use Rattle.grid_graph.specs.declared.design.Design.{Design};
+ghost use Rattle.grid_graph.specs.declared.ground.Ground.{Ground};
+ghost use Rattle.grid_graph.specs.Grounds.{AreGrounds};
+ghost use Rattle.tree_set.specs.Order.{IsRising};
+ghost use Rattle.route_text.specs.declared.block.Block.{Block};
+ghost use Rattle.route_text.specs.Written.{written_blocks};
+ghost use Rattle.route_judge.specs.Limits.{AreBlocks};
+ghost use Rattle.route_judge.specs.NetSets.{AreSetsOf, AreJoining};
+ghost use Rattle.route_judge.specs.Orders.{AreRoutes};
+ghost use Rattle.judge_laws.specs.Meeting.{ClaimsTruly, Meet};
+
+/// The blocks that are written for sets that join the nets of a design without walls are routes of it, which give the nets these
+/// very sets. Where the design's borders are in range, the blocks can be judged.
+pub fn written_routes_are_accepted()
+    ensures routes { (d : Design) (trees : List (List Piece)) → All IsRising trees → AreJoining d trees → AreRoutes d (written_blocks d.grid d.nets trees) }
+    ensures sets { (d : Design) (trees : List (List Piece)) → All IsRising trees → AreJoining d trees → AreSetsOf d (written_blocks d.grid d.nets trees) trees }
+    ensures blocks { (d : Design) (trees : List (List Piece)) → HasBordersInRange d.grid → All IsRising trees → AreJoining d trees → AreBlocks (written_blocks d.grid d.nets trees) }
+{}
+
+/// Blocks that are routes of a design, and a certificate that claims what is true of the design and of the sets that they give
+/// its nets, meet the design: the judge's answer is a yes, and what it measures is what the certificate states.
+pub fn true_claims_are_accepted()
+    ensures { (d : Design) (over : List Ground) (trees : List (List Piece)) (blocks : List Block) (cert : Cert)
+        → AreRoutes d blocks → AreSetsOf d blocks trees → ClaimsTruly d over trees cert → Meet d over blocks cert }
+{}
+
+/// The text of a certificate that claims what is true, with prices within the limit, reads back: it is the text of this very
+/// certificate. So its numbers are within the limits of its version.
+pub fn true_certificates_read_back()
+    ensures { (d : Design) (over : List Ground) (trees : List (List Piece)) (cert : Cert)
+        → AreGrounds d.grid d.nets over → All IsRising trees → AreJoining d trees → All (λ price. price ≤ max_price) cert.prices
+        → ClaimsTruly d over trees cert → IsCertOf (cert_text cert) cert }
+{}

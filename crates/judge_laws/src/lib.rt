@@ -1,0 +1,16 @@
+//! Laws of the judge: what it has to say of routes that are written for sets that join their nets, and of a certificate that
+//! claims what is true of them.
+//!
+//! It stands on `route_judge` for the judgement, on `route_text` for the blocks that are written, on `cert_text` for
+//! certificates, and on `dual_bound`, `edge_prices`, `tree_set`, `grid_graph` and `grid_base`. Nothing is computed here.
+//!
+//! Promised: a design, sets that join its nets without walls and a true certificate of them have one judgement, a yes, and the
+//! judge measures what the certificate states. So whoever writes down what it knows to be true is never refused.
+
+#![tactic(auto)]
+
+mod laws;
+
+pub use laws::{
+    true_certificates_read_back, true_claims_are_accepted, written_routes_are_accepted,
+};

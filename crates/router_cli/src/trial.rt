@@ -1,0 +1,118 @@
+//! The command `trial`.
+
+ghost use Rattle.std.specs.Prelude.{◌≡◌, IfOk, IsErrOf};
+ghost use Rattle.command_words.specs.CommandLine.{HasTrialRanges};
+ghost use Rattle.gr_desk.specs.declared.port.Port.TheVariants.{Report};
+ghost use Rattle.gr_desk.specs.Pens.{Ends, Puts, pen_told, HasSameDesk};
+ghost use Rattle.gr_make.specs.Shapes.{IsShape};
+ghost use Rattle.price_workers.specs.Settings.{AreSettings};
+ghost use Rattle.router_cli.specs.declared.refusal.Refusal.{Refusal};
+ghost use Rattle.router_cli.specs.Saying.{SaysDone};
+ghost use Rattle.router_cli.specs.TrialRun.{IsTrialRun, ReportsTrial, trial_settings, trial_task_of, trial_text};
+
+use crate::grounded_design::GroundedDesign;
+use crate::prepared::route_design;
+use crate::refusal::Refusal;
+use crate::refuse::refuse;
+use crate::report::put_report;
+use crate::routed_design::RoutedDesign;
+use crate::statuses::{DONE, UNWRITTEN};
+use crate::trial_texts::{judge_texts, made_design};
+use command_words::TrialRequest;
+use gr_desk::{Desk, Failed, Pen, Port};
+use gr_make::Shape;
+use price_workers::{Gate, Settings};
+use std::alloc::Global;
+use std::thread::Threads;
+
+/// Routes the design that is made for the request, judges what is written of it, all of it in memory, reports the run, and
+/// answers the status.
+pub(crate) fn trial<R: Threads + Sync, D: Desk, G: Gate>(
+    rt: &R,
+    alloc: Global,
+    request: &TrialRequest,
+    desk: &mut D,
+    gate: &G,
+) -> u8
+    requires ranges { HasTrialRanges request.now }
+    ensures { IsTrialRun (trial_task_of request.now) (D.told desk.old) (D.told desk.new) result }
+{
+    match tried(rt, alloc, request, gate) {
+        Ok(routed) => say_tried(desk, &routed),
+        Err(refusal) => refuse(desk, refusal),
+    }
+}
+
+/// How large the design is to be.
+fn shape_of(request: &TrialRequest) -> Shape
+    requires { HasTrialRanges request.now }
+    ensures shape { result ≡ (trial_task_of request.now).shape }
+    ensures limits { IsShape result }
+{
+    Shape {
+        cols: request.cols,
+        rows: request.rows,
+        layers: request.layers,
+        nets: request.nets,
+    }
+}
+
+/// How it is routed.
+fn settings_of(request: &TrialRequest) -> Settings
+    ensures settings { result ≡ trial_settings request.now.seed }
+    ensures limits { AreSettings result }
+{
+    Settings {
+        workers: 1,
+        phases: 4,
+        rounds: 4,
+        seed: request.seed,
+        budget: None,
+    }
+}
+
+/// The design that is made for the request, with routes, of which the judge accepts what is written.
+fn tried<R: Threads + Sync, G: Gate>(
+    rt: &R,
+    alloc: Global,
+    request: &TrialRequest,
+    gate: &G,
+) -> Result<RoutedDesign, Refusal>
+    requires ranges { HasTrialRanges request.now }
+    ensures reports { IfOk result (λ r. ReportsTrial (trial_task_of request.now) (trial_text r.rounded r.rounds r.cert)) }
+    ensures refused { (r : Refusal) → IsErrOf result r → r ≡ Refusal.NoMemory }
+{
+    let GroundedDesign { design, grounds } = made_design(alloc, request.seed, shape_of(request))?;
+    let settings = settings_of(request);
+    let routed = route_design(rt, alloc, design, grounds.as_slice(), &settings, gate)?;
+    judge_texts(rt, alloc, &routed, grounds.as_slice())?;
+    Ok(routed)
+}
+
+/// Puts the lines of a routed design, and that the judge accepts its texts.
+fn put_tried<D: Desk>(pen: &mut Pen<'_, D>, routed: &RoutedDesign)
+    ensures same_desk { HasSameDesk pen.old pen.new }
+    ensures puts { Puts (pen_told D.told pen.old) (pen_told D.told pen.new) (trial_text routed.now.rounded routed.now.rounds routed.now.cert) }
+{
+    put_report(pen, routed.rounded, routed.rounds, &routed.cert);
+    pen.put(b"judge yes\n");
+}
+
+/// Writes these lines on the report.
+fn write_tried<D: Desk>(desk: &mut D, routed: &RoutedDesign) -> Result<(), Failed>
+    ensures { Ends (D.told desk.old) (D.told desk.new) Report (trial_text routed.now.rounded routed.now.rounds routed.now.cert) result }
+{
+    let mut pen = Pen::new(desk, Port::Report);
+    put_tried(&mut pen, routed);
+    pen.finish()
+}
+
+/// Says them on the report, and answers the status.
+fn say_tried<D: Desk>(desk: &mut D, routed: &RoutedDesign) -> u8
+    ensures { SaysDone (trial_text routed.now.rounded routed.now.rounds routed.now.cert) (D.told desk.old) (D.told desk.new) result }
+{
+    match write_tried(desk, routed) {
+        Ok(()) => DONE,
+        Err(Failed) => UNWRITTEN,
+    }
+}
