@@ -382,7 +382,7 @@ const SAID: [Said; 40] = [
         b"",
         b"",
         Some((Port::Report, CallKind::Write)),
-        7,
+        1,
         "",
     ),
 ];

@@ -12,11 +12,10 @@ use Rattle.router_cli.specs.declared.answer.Answer.{Answer}
 use Rattle.router_cli.specs.declared.answer.Answer.TheVariants.{Measured, Yes, No}
 use Rattle.router_cli.specs.declared.refusal.Refusal.{Refusal}
 use Rattle.router_cli.specs.declared.refusal.Refusal.TheVariants.{Unread}
-use Rattle.router_cli.specs.AnsweredRun.{IsSaid, IsSaidInPart, ExpectsSources, IsAnsweredRun}
-use Rattle.router_cli.specs.AnswerLines.{answer_text, answer_status}
+use Rattle.router_cli.specs.AnsweredRun.{IsSaid, IsSaidInPart, IsObjected, ExpectsSources, IsAnsweredRun}
+use Rattle.router_cli.specs.AnswerLines.{answer_text, answer_status, reason_text, unsaid_status}
 use Rattle.router_cli.specs.Lines.{done_status, objected_status, unwritten_status, lines_of, status_of}
-use Rattle.router_cli.specs.Refusals.{IsAcceptedAt, HasToBeRefused, IsCause}
-use Rattle.router_cli.specs.RouteRun.{IsRefused}
+use Rattle.router_cli.specs.Refusals.{IsAcceptedAt, HasToBeRefused, IsCause, IsRefused}
 use Rattle.router_cli.specs.Saying.{Says}
 use Rattle.router_cli.specs.Sources.{Source, ports_of, AreOrderlyOpens}
 use Rattle.router_cli.specs.Steps.{OnlyReads}
@@ -69,6 +68,46 @@ status-not_unwritten (Measured report) h = cc
 status-not_unwritten (Yes report bound budget) h = cc
 status-not_unwritten (No reason) h = cc
 
+-- where it can't be said the status is another
+unsaid-not_done : (answer : Answer) → unsaid_status answer ≢ done_status
+unsaid-not_done (Measured report) h = cc
+unsaid-not_done (Yes report bound budget) h = cc
+unsaid-not_done (No reason) h = cc
+
+unsaid-of_answer : (answer : Answer) → (unsaid_status answer ≡ objected_status) ⊎ (unsaid_status answer ≡ unwritten_status)
+unsaid-of_answer (Measured report) = inr refl
+unsaid-of_answer (Yes report bound budget) = inr refl
+unsaid-of_answer (No reason) = inl refl
+
+unsaid-accepts : (answer : Answer) → unsaid_status answer ≡ unwritten_status → answer_status answer ≡ done_status
+unsaid-accepts (Measured report) h = refl
+unsaid-accepts (Yes report bound budget) h = refl
+unsaid-accepts (No reason) h = let other : objected_status ≡ unwritten_status = h in cc
+
+-- an answer with the status of an objection is one
+objection-said : (sources : List Source) (IsRight : Answer → Type 0) (a b c : Told) (status : ℕ) (answer : Answer)
+    → ¬ Contains (ports_of sources) Report
+    → IsRight answer
+    → OnlyReads sources a b
+    → Says answer b c status
+    → status ≡ objected_status
+    → IsObjected IsRight a c
+objection-said sources IsRight a b c status (Measured report) apart right reads (inl whole) one =
+    let clash : done_status ≡ objected_status = sym whole.0 ∙ one in cc
+objection-said sources IsRight a b c status (Measured report) apart right reads (inr part) one =
+    let clash : unwritten_status ≡ objected_status = sym part.0 ∙ one in cc
+objection-said sources IsRight a b c status (Yes report bound budget) apart right reads (inl whole) one =
+    let clash : done_status ≡ objected_status = sym whole.0 ∙ one in cc
+objection-said sources IsRight a b c status (Yes report bound budget) apart right reads (inr part) one =
+    let clash : unwritten_status ≡ objected_status = sym part.0 ∙ one in cc
+objection-said sources IsRight a b c status (No reason) apart right reads (inl whole) one =
+    record { reason = reason; is_true = right; says = inl (gains-after_reads sources a b c (reason_text reason) apart reads whole.1) }
+objection-said sources IsRight a b c status (No reason) apart right reads (inr part) one = record {
+  reason = reason;
+  is_true = right;
+  says = inr (failed-after_reads sources a b c reads part.2, (part.1.0, gains-after_reads sources a b c (take part.1.0 (reason_text reason)) apart reads part.1.1));
+}
+
 -- a run that had an answer
 pub run-said : (sources : List Source) (IsRight : Answer → Type 0) (a b c : Told) (status : ℕ) (answer : Answer)
     → ¬ Contains (ports_of sources) Report
@@ -86,7 +125,7 @@ run-said sources IsRight a b c status answer apart inputs accepted right reads c
       | inr part ↦ (take part.1.0 text, part.1.1)
     ] in
     let adds = some.1 in
-    let said : status ≢ unwritten_status → IsSaid IsRight a c status = λ not_seven. elim says [
+    let said : status ≡ done_status → IsSaid IsRight a c status = λ zero. elim says [
       | inl whole ↦ record {
         answer = answer;
         is_true = right;
@@ -94,27 +133,31 @@ run-said sources IsRight a b c status answer apart inputs accepted right reads c
         report = gains-after_reads sources a b c text apart reads whole.1;
         quiet = whole.2 ∙ reads.still;
       }
-      | inr part ↦ absurd {A = IsSaid IsRight a c status} (not_seven part.0)
+      | inr part ↦ absurd {A = IsSaid IsRight a c status} (unsaid-not_done answer (sym part.0 ∙ zero))
     ] in
     let ends : (status ≡ done_status) ⊎ (status ≡ objected_status) ⊎ (status ≡ unwritten_status) = elim says [
       | inl whole ↦ elim (status-of_answer answer) [
         | inl zero ↦ inl (whole.0 ∙ zero)
         | inr one ↦ inr (inl (whole.0 ∙ one))
       ]
-      | inr part ↦ inr (inr part.0)
+      | inr part ↦ elim (unsaid-of_answer answer) [
+        | inl one ↦ inr (inl (part.0 ∙ one))
+        | inr seven ↦ inr (inr (part.0 ∙ seven))
+      ]
     ] in
     let failed : status ≡ unwritten_status → OutputFailed a c = λ seven. elim says [
       | inl whole ↦ absurd (status-not_unwritten answer (sym whole.0 ∙ seven))
       | inr part ↦ failed-after_reads sources a b c reads part.2
     ] in
     record {
-      accepted = λ zero. said (λ seven. let same : done_status ≡ unwritten_status = sym zero ∙ seven in cc);
-      objected = λ one. said (λ seven. let same : objected_status ≡ unwritten_status = sym one ∙ seven in cc);
+      accepted = said;
+      objected = λ one. objection-said sources IsRight a b c status answer apart right reads says one;
       cut_short = λ seven. elim says [
         | inl whole ↦ absurd {A = IsSaidInPart IsRight a c} (status-not_unwritten answer (sym whole.0 ∙ seven))
         | inr part ↦ record {
           answer = answer;
           is_true = right;
+          accepts = unsaid-accepts answer (sym part.0 ∙ seven);
           count = part.1.0;
           report = gains-after_reads sources a b c (take part.1.0 text) apart reads part.1.1;
           failed = failed-after_reads sources a b c reads part.2;
@@ -155,7 +198,7 @@ run-not_said sources IsRight a b c status n r apart inputs why reads calm is par
     let refused = is_refused sources a b c status n r apart why reads is part whole in
     record {
       accepted = λ zero. absurd {A = IsSaid IsRight a c status} ((status-no_report r).0 (sym is ∙ zero));
-      objected = λ one. absurd {A = IsSaid IsRight a c status} (status-no_objection r (sym is ∙ one));
+      objected = λ one. absurd {A = IsObjected IsRight a c} (status-no_objection r (sym is ∙ one));
       cut_short = λ seven. absurd {A = IsSaidInPart IsRight a c} ((status-no_report r).1 (sym is ∙ seven));
       refused = λ not_zero not_one not_seven. refused;
       tested = λ x due in_ok. elim (first_or_memory sources a c r refused.cause in_ok) [

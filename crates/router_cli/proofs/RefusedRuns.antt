@@ -5,8 +5,7 @@ use Rattle.gr_desk.specs.Runs.{Adds}
 use Rattle.gr_desk.specs.Told.{Told}
 use Rattle.router_cli.specs.declared.refusal.Refusal.{Refusal}
 use Rattle.router_cli.specs.Lines.{lines_of, status_of}
-use Rattle.router_cli.specs.Refusals.{IsCause}
-use Rattle.router_cli.specs.RouteRun.{IsRefused}
+use Rattle.router_cli.specs.Refusals.{IsCause, IsRefused}
 use Rattle.router_cli.specs.Sources.{Source, ports_of}
 use Rattle.router_cli.specs.Steps.{OnlyReads}
 use Rattle.router_cli.specs.Traces.{OutputFailed}

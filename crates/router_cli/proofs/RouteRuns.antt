@@ -13,8 +13,8 @@ use Rattle.router_cli.specs.Finishing.{Finishes, texts_of, AreOrderlyCreates}
 use Rattle.router_cli.specs.Headline.{Texts, AreTexts}
 use Rattle.router_cli.specs.Lines.{unwritten_status, unwritten_line, lines_of, status_of}
 use Rattle.router_cli.specs.Outputs.{HasFile, HasPart}
-use Rattle.router_cli.specs.Refusals.{IsCause}
-use Rattle.router_cli.specs.RouteRun.{IsRouted, IsCutShort, IsRefused, EndsEarly, ExpectsNames, IsRouteRun}
+use Rattle.router_cli.specs.Refusals.{IsCause, IsRefused}
+use Rattle.router_cli.specs.RouteRun.{IsRouted, IsCutShort, EndsEarly, ExpectsNames, IsRouteRun}
 use Rattle.router_cli.specs.Routed.{IsRoutedDesign}
 use Rattle.router_cli.specs.Runs.{IsNoCommandRun}
 use Rattle.router_cli.specs.Steps.{OnlyReads}

@@ -9,7 +9,7 @@ use Rattle.tree_set.specs.declared.fraction.Fraction.{Fraction}
 use Rattle.router_cli.specs.declared.answer.Answer.{Answer}
 use Rattle.router_cli.specs.declared.answer.Answer.TheVariants.{Measured, Yes, No}
 use Rattle.router_cli.specs.declared.routes_report.RoutesReport.{RoutesReport}
-use Rattle.router_cli.specs.Lines.{fields, line, budget_line, done_status, objected_status}
+use Rattle.router_cli.specs.Lines.{fields, line, budget_line, done_status, objected_status, unwritten_status}
 
 -- two fractions or none, each behind a space
 abbrev pub fraction_fields : Option Fraction → Option Fraction → List ℕ
@@ -56,3 +56,9 @@ abbrev pub answer_status : Answer → ℕ
 answer_status (Measured report) = done_status
 answer_status (Yes report bound budget) = done_status
 answer_status (No reason) = objected_status
+
+-- and that of one that could not say it whole; an objection stands all the same
+abbrev pub unsaid_status : Answer → ℕ
+unsaid_status (Measured report) = unwritten_status
+unsaid_status (Yes report bound budget) = unwritten_status
+unsaid_status (No reason) = objected_status

@@ -3,13 +3,14 @@ use Rattle.std.specs.Prelude.{◌≡◌, ◌≢◌, ◌⊎◌, ℕ, List, [], ta
 use Rattle.gr_desk.specs.declared.port.Port.{Port}
 use Rattle.gr_desk.specs.declared.state.State.TheVariants.{Fresh}
 use Rattle.gr_desk.specs.Told.{Told}
+use Rattle.route_judge.specs.declared.reason.Reason.{Reason}
 use Rattle.router_cli.specs.declared.answer.Answer.{Answer}
+use Rattle.router_cli.specs.declared.answer.Answer.TheVariants.{No}
 use Rattle.router_cli.specs.declared.refusal.Refusal.{Refusal}
 use Rattle.router_cli.specs.declared.refusal.Refusal.TheVariants.{Unread, NoMemory}
-use Rattle.router_cli.specs.AnswerLines.{answer_text, answer_status}
+use Rattle.router_cli.specs.AnswerLines.{answer_text, answer_status, reason_text}
 use Rattle.router_cli.specs.Lines.{done_status, objected_status, unwritten_status, status_of}
-use Rattle.router_cli.specs.Refusals.{HasToBeRefused, AreAccepted}
-use Rattle.router_cli.specs.RouteRun.{IsRefused}
+use Rattle.router_cli.specs.Refusals.{HasToBeRefused, AreAccepted, IsRefused}
 use Rattle.router_cli.specs.Sources.{Source, ports_of}
 use Rattle.router_cli.specs.Traces.{ReportGains, ReportsRefusal, TouchesOnly, InputFailed, OutputFailed}
 
@@ -21,10 +22,18 @@ pub record IsSaid (IsRight : Answer → Type 0) (before after : Told) (status : 
   pub report : ReportGains before after (answer_text answer)
   pub quiet : after.out_faults ≡ before.out_faults
 
--- a write failed, and some part of a true answer from its front was said
+-- a true reason was said as far as it can be: whole, or some part of its line from the front, and then a write failed
+pub record IsObjected (IsRight : Answer → Type 0) (before after : Told) : Type 0 where
+  pub reason : Reason
+  pub is_true : IsRight (No reason)
+  pub says : ReportGains before after (reason_text reason)
+      ⊎ OutputFailed before after × ((n : ℕ) × ReportGains before after (take n (reason_text reason)))
+
+-- a write failed, and some part of a true answer from its front was said, which is no objection
 pub record IsSaidInPart (IsRight : Answer → Type 0) (before after : Told) : Type 0 where
   pub answer : Answer
   pub is_true : IsRight answer
+  pub accepts : answer_status answer ≡ done_status
   pub count : ℕ
   pub report : ReportGains before after (take count (answer_text answer))
   pub failed : OutputFailed before after
@@ -37,10 +46,11 @@ pub record ExpectsSources (sources : List Source) (told : Told) : Type 0 where
 
 -- a run that reads these files, in this order, and says an answer that is true
 pub record IsAnsweredRun (sources : List Source) (IsRight : Answer → Type 0) (before after : Told) (status : ℕ) : Type 0 where
-  -- a run that accepted what it judged, or reported a reason against it, has said so
+  -- a run that accepted what it judged has said so
   pub accepted : status ≡ done_status → IsSaid IsRight before after status
-  pub objected : status ≡ objected_status → IsSaid IsRight before after status
-  -- a run that is unwritten could not say it whole
+  -- a run that has a reason against it says it; where that fails the status stays
+  pub objected : status ≡ objected_status → IsObjected IsRight before after
+  -- a run that is unwritten accepted it, and could not say so
   pub cut_short : status ≡ unwritten_status → IsSaidInPart IsRight before after
   -- every other status is that of a refusal, which has its cause and is said on the report
   pub refused : status ≢ done_status → status ≢ objected_status → status ≢ unwritten_status → IsRefused sources before after status

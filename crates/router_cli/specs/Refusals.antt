@@ -15,8 +15,9 @@ use Rattle.route_text.specs.declared.block.Block.{Block}
 use Rattle.router_cli.specs.declared.refusal.Refusal.{Refusal}
 use Rattle.router_cli.specs.declared.refusal.Refusal.TheVariants.{NoCommand, Input, Unreachable, Text, Unread, NoMemory}
 use Rattle.router_cli.specs.JudgedTexts.{blocks_or_refusal, stated_or_refusal}
-use Rattle.router_cli.specs.Sources.{Source}
-use Rattle.router_cli.specs.Traces.{InputFailed}
+use Rattle.router_cli.specs.Lines.{status_of}
+use Rattle.router_cli.specs.Sources.{Source, ports_of}
+use Rattle.router_cli.specs.Traces.{ReportsRefusal, TouchesOnly, InputFailed}
 
 -- ---- what is wrong with a text
 
@@ -83,3 +84,14 @@ IsCause sources before after NoCommand = ⊥
 IsCause sources before after Unread = InputFailed before after
 IsCause sources before after NoMemory = Unit {0}
 IsCause sources before after refusal = IsFirstRefused before.files sources refusal
+
+-- ---- what a refused run leaves
+
+-- the run, which reads these files, was refused: for a cause, with the status of the refusal, and it said so; no file was
+-- created
+pub record IsRefused (sources : List Source) (before after : Told) (status : ℕ) : Type 0 where
+  pub refusal : Refusal
+  pub status_is : status ≡ status_of refusal
+  pub cause : IsCause sources before after refusal
+  pub says : ReportsRefusal before after refusal
+  pub touches : TouchesOnly (ports_of sources) [] before after

@@ -11,8 +11,8 @@ use Rattle.router_cli.specs.declared.refusal.Refusal.TheVariants.{Unread, NoMemo
 use Rattle.router_cli.specs.Headline.{Texts, AreTexts}
 use Rattle.router_cli.specs.Lines.{done_status, unwritten_status, unwritten_line, status_of}
 use Rattle.router_cli.specs.Outputs.{HasFile, HasPart}
-use Rattle.router_cli.specs.Refusals.{AreReachable, IsRefusedFor, IsCause}
-use Rattle.router_cli.specs.Sources.{Source, ports_of, design_source}
+use Rattle.router_cli.specs.Refusals.{AreReachable, IsRefusedFor, IsRefused}
+use Rattle.router_cli.specs.Sources.{design_source}
 use Rattle.router_cli.specs.Tasks.{RouteTask}
 use Rattle.router_cli.specs.Traces.{ReportGains, ReportsRefusal, TouchesOnly, InputFailed, OutputFailed}
 
@@ -47,15 +47,6 @@ pub record IsCutShort (q : RouteTask) (before after : Told) : Type 0 where
   pub are_texts : AreTexts q.input q.settings before texts
   pub early : EndsEarly q texts before after
   pub failed : OutputFailed before after
-
--- the run, which reads these files, was refused: for a cause, with the status of the refusal, and it said so; no file was
--- created
-pub record IsRefused (sources : List Source) (before after : Told) (status : ℕ) : Type 0 where
-  pub refusal : Refusal
-  pub status_is : status ≡ status_of refusal
-  pub cause : IsCause sources before after refusal
-  pub says : ReportsRefusal before after refusal
-  pub touches : TouchesOnly (ports_of sources) [] before after
 
 -- every port is fresh, and the desk expects the task's names where they belong and no name elsewhere
 pub record ExpectsNames (q : RouteTask) (told : Told) : Type 0 where

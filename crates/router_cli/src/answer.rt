@@ -1,10 +1,10 @@
 //! What is said of routes that are judged.
 
 ghost use Rattle.std.specs.Prelude.{◌≡◌};
-ghost use Rattle.router_cli.specs.AnswerLines.{answer_status};
+ghost use Rattle.router_cli.specs.AnswerLines.{answer_status, unsaid_status};
 
 use crate::routes_report::RoutesReport;
-use crate::statuses::{DONE, OBJECTED};
+use crate::statuses::{DONE, OBJECTED, UNWRITTEN};
 use route_judge::Reason;
 use tree_set::{Budget, Fraction};
 
@@ -30,6 +30,16 @@ impl Answer {
     {
         match self {
             Answer::Measured(_) | Answer::Yes { .. } => DONE,
+            Answer::No(_) => OBJECTED,
+        }
+    }
+
+    /// The status that it ends with where this could not be said whole. An objection stands all the same.
+    pub fn unsaid_status(self) -> u8
+        ensures { result ≡ unsaid_status self }
+    {
+        match self {
+            Answer::Measured(_) | Answer::Yes { .. } => UNWRITTEN,
             Answer::No(_) => OBJECTED,
         }
     }

@@ -4,7 +4,6 @@ ghost use Rattle.router_cli.specs.Saying.{Says};
 
 use crate::answer::Answer;
 use crate::answer_lines::write_answer;
-use crate::statuses::UNWRITTEN;
 use gr_desk::{Desk, Failed};
 
 /// Says the answer on the report, and answers the status.
@@ -13,6 +12,6 @@ pub(crate) fn say<D: Desk>(desk: &mut D, answer: Answer) -> u8
 {
     match write_answer(desk, answer) {
         Ok(()) => answer.status(),
-        Err(Failed) => UNWRITTEN,
+        Err(Failed) => answer.unsaid_status(),
     }
 }
