@@ -15,6 +15,7 @@ export LC_ALL=C
 
 top=$(CDPATH='' cd -- "$(dirname -- "$0")/../.." && pwd)
 here=$top/tests/program
+examples=$top/examples
 built=${1:-$top/crates/grouter/out/grouter}
 
 if [ ! -f "$built" ]; then
@@ -32,7 +33,7 @@ trap 'rm -rf "$room"' EXIT
 mkdir "$room/files" "$room/files/folder"
 cp "$built" "$room/grouter" && chmod +x "$room/grouter"
 program=$room/grouter
-cp "$top"/examples/*.gr "$room/files"
+cp "$examples"/*.gr "$room/files"
 cd "$room/files" || exit 1
 
 passed=0
@@ -111,14 +112,14 @@ routed() {
     example=$1
     shift
     expect "the example $example" 0 "$(cat "$here/$example.report")" route "$example.gr" a.routes a.cert "$@"
-    made "the routes of $example" a.routes "$here/$example.routes"
-    made "the certificate of $example" a.cert "$here/$example.cert"
+    made "the routes of $example" a.routes "$examples/$example.routes"
+    made "the certificate of $example" a.cert "$examples/$example.cert"
 }
 routed one_net
 routed detour --phases 1
 routed three_layers --phases 1 --workers 1
 expect 'no rounds of repair' 0 "$(sed 's/^rounds 4$/rounds 0/' "$here/three_layers.report")" route three_layers.gr a.routes a.cert --phases 1 --rounds 0
-made 'routes without repair' a.routes "$here/three_layers.routes"
+made 'routes without repair' a.routes "$examples/three_layers.routes"
 rm a.cert
 
 # two nets along a side of three tiles, on which only one has room
@@ -165,7 +166,7 @@ a 0 2 1
 expect 'line ends of two bytes, negative places, in a folder' 0 "$(cat "$here/one_net.report")" route folder/crlf.gr a.routes folder/a.cert
 printf '%s\n' 'a 0' '(-5,-5,1)-(15,-5,1)' '!' >"$room/crlf.routes"
 made 'routes at negative places' a.routes "$room/crlf.routes"
-made 'a certificate in a folder' folder/a.cert "$here/one_net.cert"
+made 'a certificate in a folder' folder/a.cert "$examples/one_net.cert"
 
 # each of the two edges has capacity 4 and the load 4000, and so each net costs two edges of the same price
 many=2000
@@ -189,27 +190,124 @@ routed one_net
 
 # ---- routes that are measured and judged
 
-measured='nets 1
+# The routes and certificates of examples/ are copied in, and every number that is wanted here was worked out by hand.
+cp "$examples"/*.routes "$examples"/*.cert .
+measured='nets 3
+forced 0
+beyond 0
+overflow 0
+wirelength 11
+peak 1/2'
+expect 'routes are measured' 0 "$measured" measure detour.gr detour.routes
+expect 'routes and their certificate are accepted' 0 "yes
+$measured
+bound 41633/378056" judge detour.gr detour.routes detour.cert
+expect 'a route that lacks a via' 1 'no 47 0' judge detour.gr cut_off.routes detour.cert
+expect 'a route that lacks a via, measured' 1 'no 47 0' measure detour.gr cut_off.routes
+expect 'a bound that the prices do not show' 1 'no 52 1/2 41633/378056' judge detour.gr detour.routes overstated.cert
+
+# judged NAME STATUS LINES: a.routes and a.cert are judged by the example one_net
+judged() {
+    expect "$1" "$2" "$3" judge one_net.gr a.routes a.cert
+    rm a.routes a.cert
+}
+cp "$examples/one_net.cert" a.cert
+printf 'x 0 77 (0, 0, 1) - (29, 9, 1) (25,5,1)-(25,5,1)!' >a.routes
+judged 'routes of another make' 0 'yes
+nets 1
 forced 0
 beyond 0
 overflow 0
 wirelength 2
-peak 1/2'
-cp "$here/one_net.routes" b.routes
-cp "$here/one_net.cert" b.cert
-expect 'routes that are measured' 0 "$measured" measure one_net.gr b.routes
-expect 'routes and a certificate that are accepted' 0 "yes
-$measured
-bound 1/2" judge one_net.gr b.routes b.cert
-sed 's/^bound .*/bound 5\/1/' b.cert >c.cert
-expect 'a bound that is too high' 1 'no 52 5/1 1/2' judge one_net.gr b.routes c.cert
-: >c.routes
-expect 'a net without routes' 1 'no 43 0' measure one_net.gr c.routes
-expect 'a text that is no route text' 4 'refused 4 31 8' measure one_net.gr b.cert
-expect 'a text that is no certificate' 4 'refused 4 32 0' judge one_net.gr b.routes c.routes
-expect 'no routes' 6 'refused 6' judge one_net.gr none.routes b.cert
-expect_unheard 'an answer that can not be said' 7 measure one_net.gr b.routes
-rm b.routes b.cert c.routes c.cert
+peak 1/2
+bound 1/2'
+for reason in '41 0:a 9 !' '42 0:a 0 (5,5,1)-(25,5,1)! a 0 !' '43 0:' \
+    '44 0 1:a 0 (0,0,1)-(30,10,1) (5,5,1)-(31,5,1)!' '47 0:a 0 (5,5,1)-(15,5,1)!'; do
+    cp "$examples/one_net.cert" a.cert
+    printf '%s' "${reason#*:}" >a.routes
+    judged "the reason ${reason%%:*}" 1 "no ${reason%%:*}"
+done
+printf 'clk 0 (15,15,1)-(5,15,1) (5,5,1)-(15,15,1)!' >a.routes
+expect 'the reason 45 0 1' 1 'no 45 0 1' measure detour.gr a.routes
+printf 'clk 0 (5,5,2)-(5,25,2) (5,5,1)-(5,15,1)!' >a.routes
+expect 'the reason 46 0 1, a wall' 1 'no 46 0 1' measure detour.gr a.routes
+for reason in '48 1 0:s/overflow 0/overflow 1/' '49 3 2:s/wirelength 2/wirelength 3/' '50 1/4 1/2:s,peak 1/2,peak 2/8,' \
+    '51 nets 2 1:s/nets 1/nets 2/' '51 forced 1 0:s/forced 0/forced 1/' '52 5/1 1/2:s,bound 1/2,bound 5/1,' \
+    '52 none 1/2:s,bound 1/2,bound none,'; do
+    sed "${reason#*:}" "$examples/one_net.cert" >a.cert
+    cp "$examples/one_net.routes" a.routes
+    judged "the reason ${reason%%:*}" 1 "no ${reason%%:*}"
+done
+for refusal in '31 2:a 0!:' '32 20:a 0 !:s/certificate 1/certificate 3/' '33 90:a 0 !:0,/12758/s//40000/' '34 27:a 0 !:s/nets 1/nets 4294967296/'; do
+    text=${refusal#*:}
+    sed "${text#*:}" "$examples/one_net.cert" >a.cert
+    printf '%s' "${text%%:*}" >a.routes
+    judged "the refusal ${refusal%%:*}" 4 "refused 4 ${refusal%%:*}"
+done
+expect 'routes that are missing' 6 'refused 6' judge one_net.gr missing.routes detour.cert
+expect 'a certificate that is missing' 6 'refused 6' judge one_net.gr detour.routes missing.cert
+expect_unheard 'a verdict that can not be said' 7 judge detour.gr detour.routes detour.cert
+expect_unheard 'an objection that can not be said' 1 judge detour.gr cut_off.routes detour.cert
+# a text that has to be refused ends the run before the next file is opened
+echo grid >bad.gr
+row 0 0 >cut.gr
+expect 'no design, and no routes' 3 'refused 3 11 5 number' judge bad.gr missing.routes missing.cert
+expect 'a net that is cut off, and no routes' 5 'refused 5 4 0 1' measure cut.gr missing.routes
+expect 'no route text, and no certificate' 4 'refused 4 31 9' judge one_net.gr detour.gr missing.cert
+rm bad.gr cut.gr
+truncate -s 1073741825 long
+expect 'a design that is too long' 3 'refused 3 13' measure long detour.routes
+expect 'a route text that is too long' 4 'refused 4 35' measure detour.gr long
+expect 'a certificate that is too long' 4 'refused 4 35' judge detour.gr detour.routes long
+rm long ./*.routes ./*.cert
+
+# ---- designs that are made
+
+two_by_two='grid 2 2 2
+vertical capacity 0 8
+horizontal capacity 8 0
+minimum width 1 1
+minimum spacing 1 1
+via spacing 1 1
+0 0 10 10
+num net 2
+n0 0 6 1
+8 0 1
+1 17 1
+11 19 1
+14 6 1
+1 7 1
+11 7 1
+n1 1 3 1
+3 16 1
+5 18 1
+1 2 1
+0'
+printf '%s\n' "$two_by_two" >"$room/made.gr"
+expect 'a design is made' 0 'made 2 nets' make small.gr --nets 2 --seed 7 --cols 2 --layers 2 --rows 2
+made 'its text' small.gr "$room/made.gr"
+expect 'a design in a folder that is missing' 7 'refused 7' make missing/small.gr
+expect_unheard 'a made design that can not be reported' 7 make small.gr --seed 7 --cols 2 --rows 2 --layers 2 --nets 2
+made 'its text without a report' small.gr "$room/made.gr"
+expect_unheard 'a trial that can not be reported' 7 trial 7 --cols 2 --rows 2 --layers 2 --nets 2
+
+# a made design is routed by several workers, and the routes and the certificate are accepted: of the report only the lines that
+# no choice of routes changes are compared
+"$program" make seven.gr --seed 7 >"$room/said"
+"$program" route seven.gr seven.routes seven.cert --workers 4 >"$room/routed"
+"$program" judge seven.gr seven.routes seven.cert >"$room/judged" 2>"$room/complained"
+got=$?
+grep -E '^(made|yes|nets|forced|overflow|wirelength|peak|bound)' "$room/routed" | sed '1i yes' >"$room/wanted"
+grep -Ev '^beyond' "$room/judged" >"$room/said"
+judge 'a made design, routed by four workers and judged' 0
+"$program" trial 7 >"$room/wanted"
+"$program" trial 7 >"$room/said"
+got=$?
+judge 'a trial says the same twice' 0
+tail -n 1 "$room/said" >"$room/last" && mv "$room/last" "$room/said"
+echo 'judge yes' >"$room/wanted"
+judge 'a trial ends with a yes' 0
+rm seven.gr seven.routes seven.cert
 
 # ---- words that are no command
 
@@ -220,8 +318,14 @@ expect 'a command without its names' 2 "$usage" route
 expect 'a name too few' 2 "$usage" route one_net.gr a.routes
 expect 'a name too many' 2 "$usage" route one_net.gr a.routes a.cert b.cert
 expect 'two names that are one' 2 "$usage" route one_net.gr a.routes a.routes
-expect 'a name too few for another command' 2 "$usage" judge one_net.gr a.routes
-expect 'an option of another command' 2 "$usage" measure one_net.gr a.routes --seed 1
+expect 'another command' 2 "$usage" check one_net.gr a.routes a.cert
+expect 'an option of another command' 2 "$usage" judge one_net.gr a.routes a.cert --seed 3
+expect 'a name too many to measure' 2 "$usage" measure one_net.gr a.routes a.cert
+expect 'a name too few to judge' 2 "$usage" judge one_net.gr a.routes
+expect 'a trial without a number' 2 "$usage" trial seven
+expect 'a trial of a number that is too great' 2 "$usage" trial 18446744073709551616
+expect 'a made design that is too wide' 2 "$usage" make a.gr --cols 1025
+expect 'a made design of one layer' 2 "$usage" make a.gr --layers 1
 expect 'a command in capitals' 2 "$usage" ROUTE one_net.gr a.routes a.cert
 expect 'a name that begins with a dash' 2 "$usage" route one_net.gr -a.routes a.cert
 expect 'an empty name' 2 "$usage" route one_net.gr '' a.cert
@@ -242,7 +346,7 @@ expect 'a seed that is too great' 2 "$usage" route one_net.gr a.routes a.cert --
 expect 'a budget that is too great' 2 "$usage" route one_net.gr a.routes a.cert --budget 4398046511105
 expect 'a budget' 0 "$(cat "$here/one_net.report")
 budget 4" route one_net.gr a.routes a.cert --budget 0004
-made 'the routes within a budget' a.routes "$here/one_net.routes"
+made 'the routes within a budget' a.routes "$examples/one_net.routes"
 rm a.cert
 
 # ---- texts that are no design
@@ -307,10 +411,10 @@ expect 'a file that is missing' 6 'refused 6' route missing.gr a.routes a.cert
 expect 'a folder' 6 'refused 6' route folder a.routes a.cert
 expect 'routes in a folder that is missing' 7 'refused 7' route one_net.gr missing/a.routes a.cert
 expect 'a certificate in a folder that is missing' 7 'refused 7' route one_net.gr a.routes missing/a.cert
-made 'routes without a certificate' a.routes "$here/one_net.routes"
+made 'routes without a certificate' a.routes "$examples/one_net.routes"
 expect_unheard 'a report that can not be written' 7 route one_net.gr a.routes a.cert
-made 'routes without a report' a.routes "$here/one_net.routes"
-made 'a certificate without a report' a.cert "$here/one_net.cert"
+made 'routes without a report' a.routes "$examples/one_net.routes"
+made 'a certificate without a report' a.cert "$examples/one_net.cert"
 expect_unheard 'a refusal that can not be said: no command' 2 route
 expect_unheard 'a refusal that can not be said: a missing file' 6 route missing.gr a.routes a.cert
 
