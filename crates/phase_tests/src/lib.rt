@@ -7,6 +7,8 @@
 #[cfg(test)]
 mod bound_tests;
 #[cfg(test)]
+mod cut_tests;
+#[cfg(test)]
 mod repair_tests;
 #[cfg(test)]
 mod share_tests;
