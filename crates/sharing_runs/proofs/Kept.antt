@@ -11,10 +11,8 @@ use Rattle.grid_graph.specs.declared.grid.Grid.{Grid}
 use Rattle.grid_graph.specs.Grids.{size_of, demand_on, edge_numbers, entries}
 use Rattle.edge_prices.specs.declared.kept_prices.KeptPrices.{KeptPrices}
 use Rattle.edge_prices.specs.KeptLists.{KeepsSetting}
-use Rattle.tree_set.specs.Loads.{is_edge_of, net_load, tree_load, max_tree_load}
-use Rattle.tree_set.specs.Order.{IsRising}
+use Rattle.tree_set.specs.Loads.{is_edge_of, net_load, tree_load}
 use Rattle.tree_set.specs.Routings.{ArePieces}
-use Rattle.tree_set.proofs.Counting.{length-pieces}
 
 pub KeepsSetting-trans : (a b d : KeptPrices) → KeepsSetting a b → KeepsSetting b d → KeepsSetting a d
 KeepsSetting-trans a b d first next =
@@ -47,21 +45,4 @@ tree_load-added g width ps first loads r pieces long edges =
     (λ (other : last ≡ r → ⊥).
     let load : tree_load g width ps r ≡ net_load g width ps r = ap (λ (b : Bool). cond b (length ps) (net_load g width ps r)) (ne_eqb r last (λ same. other (sym same))) in
     get_or-set_other loads last r new 0 (λ same. other (sym same)) ∙ edges r ∙ ap (λ (y : ℕ). slice_index first r + y) (sym load))
-    (cases_eq last r)
-
--- how much the load of an entry rises at most
-pub added_limit : (g : Grid) (ps : List Piece) (first loads : List ℕ) (r : ℕ) → IsRising ps → ArePieces (size_of g) ps → length loads ≡ entries g
-    → ((e : ℕ) → slice_index loads e ≤ slice_index first e + 1023)
-    → slice_index (slice_set loads (edge_numbers g) (slice_index loads (edge_numbers g) + length ps)) r ≤ slice_index first r + max_tree_load
-added_limit g ps first loads r rising pieces long limit =
-    let last : ℕ = edge_numbers g in
-    let new : ℕ = slice_index loads last + length ps in
-    let few : length ps ≤ 3 * vertices (size_of g) = length-pieces (size_of g) ps rising pieces in
-    ⊎_elim
-    (λ (here : last ≡ r).
-    let set : slice_index (slice_set loads last new) last ≡ new = get_or-set_same loads last new 0 (omega (arith, long)) in
-    subst (λ (e : ℕ). slice_index (slice_set loads last new) e ≤ slice_index first e + max_tree_load) here
-    (omega (arith, set, limit last, few, (size_of g).within.vertex_limit)))
-    (λ (other : last ≡ r → ⊥).
-    omega (arith, get_or-set_other loads last r new 0 (λ same. other (sym same)), limit r))
     (cases_eq last r)
