@@ -1,12 +1,11 @@
 -- Goals of a search, and what the first of them that is taken out says of all.
-use Rattle.std.proofs.Common.{◌≡◌, ◌≢◌, ℕ, ◌+◌, ◌<◌, ◌≤◌, List, Option, None, refl, sym, ◌∙◌, subst, inl, inr, ⊎_elim, arith}
-use Rattle.std.proofs.lemmas.Bool.{cases_eq, cases_lt}
+use Rattle.std.proofs.Common.{◌≡◌, ◌≢◌, ℕ, ◌+◌, ◌<◌, ◌≤◌, List, ◌∙◌, subst, ⊎_elim, arith}
+use Rattle.std.proofs.lemmas.Bool.{cases_lt}
 use Rattle.grid_base.specs.declared.piece.Piece.{Piece}
 use Rattle.grid_base.specs.declared.size.Size.{Size}
 use Rattle.grid_base.specs.declared.vertex.Vertex.{Vertex}
-use Rattle.grid_base.specs.Walks.{WalkBetween}
 use Rattle.grid_base.proofs.Walks.{walk_vertices}
-use Rattle.grid_graph.specs.Weighed.{IsAllowed, WeighsOnlyPieces, AreWithinLimit}
+use Rattle.grid_graph.specs.Weighed.{IsAllowed, AreWithinLimit}
 use Rattle.shortest_paths.specs.declared.row.Row.{Row}
 use Rattle.shortest_paths.specs.Founds.{index_in, FindsMore, AreFoundFirst}
 use Rattle.shortest_paths.specs.Nearest.{IsGoal, NoneIsNearer, IsLeastToGoal, IsFoundGoal, DoGoalsWait}

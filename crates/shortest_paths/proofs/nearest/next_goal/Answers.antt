@@ -1,9 +1,9 @@
-use Rattle.std.proofs.Common.{◌≡◌, ◌≢◌, ◌<◌, ◌^◌, ℕ, false, refl, sym, ◌∙◌, ap, subst, inl, inr, ⊎_elim, arith}
+use Rattle.std.proofs.Common.{◌≡◌, ◌≢◌, ◌<◌, ◌^◌, false, sym, ◌∙◌, subst, inl, inr, ⊎_elim, arith}
 use Rattle.std.specs.Bool.{IsTrue}
 use Rattle.shortest_paths.specs.declared.found.Found.{Found}
 use Rattle.shortest_paths.specs.declared.row.Row.{Row}
 use Rattle.shortest_paths.specs.Founds.{FindsMore, index_in}
-use Rattle.shortest_paths.specs.Nearest.{IsFoundGoal, NoneIsNearer}
+use Rattle.shortest_paths.specs.Nearest.{IsFoundGoal}
 use Rattle.shortest_paths.specs.Rows.{number_in, Waits}
 use Rattle.shortest_paths.specs.Runs.{FallsFrom}
 use Rattle.shortest_paths.proofs.Finding.{FindsMore-refl}
