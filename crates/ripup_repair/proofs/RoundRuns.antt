@@ -196,7 +196,7 @@ result_first d after later trees same none = record {
 
 -- what some rounds made of a routing, from the first of them on
 pub more_done : (d : Design) (workers : ℕ) (budget : Option ℕ) (rounds : ℕ) (table : TableId) (old mid : Holding) (before after left final : List (List Piece))
-    (loads0 loads1 loads2 : List ℕ) (least over : ℕ) (r s : Repaired)
+    (loads0 loads1 loads2 : List ℕ) (least over : ℕ) (r : Repaired) {s : Repaired}
     → 0 < rounds → 0 < routing_overflow d before → over ≡ routing_overflow d after
     → IsRoundDone d workers budget table old mid before after
     → AreRoundsDone d workers budget (rounds - 1) table mid after left loads1 loads2 (min least over) r
@@ -204,7 +204,7 @@ pub more_done : (d : Design) (workers : ℕ) (budget : Option ℕ) (rounds : ℕ
     → (r.least ≡ least → final ≡ before) → (r.least ≢ least → final ≡ left)
     → s.share ≡ r.share → s.rounds ≡ r.rounds + 1 → s.least ≡ r.least
     → AreRoundsDone d workers budget rounds table old before final loads0 loads2 least s
-more_done d workers budget rounds table old mid before after left final loads0 loads1 loads2 least over r s some positive is round done better none back stay share count same =
+more_done d workers budget rounds table old mid before after left final loads0 loads1 loads2 least over r {s = s} some positive is round done better none back stay share count same =
     let more = run-first d workers budget rounds before after done.later round.read round.seen some positive round.round round.read_loads done.run in
     let next : r.rounds + 1 ≡ suc r.rounds = omega arith in
     record {

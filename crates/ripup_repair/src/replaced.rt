@@ -1,6 +1,6 @@
 //! The sets that a round replaced.
 
-ghost use Rattle.std.specs.Prelude.{◌≡◌, ◌<◌, length, All, AllPairs};
+ghost use Rattle.std.specs.Prelude.{◌≡◌, ◌<◌, false, true, length, All, AllPairs};
 ghost use Rattle.ripup_repair.specs.Exchanged.{with_elements};
 
 use crate::exchange::exchange;
@@ -14,13 +14,16 @@ pub(crate) struct Replaced {
 }
 
 impl Replaced {
-    /// The nets get back the sets that they had.
-    pub(crate) fn put_back(mut self, trees: &mut [Tree])
+    /// The nets get back the sets that they had, unless a later routing is better.
+    pub(crate) fn put_back_unless(mut self, is_better: bool, trees: &mut [Tree])
         requires positions { All (λ position. position < length trees.old) self.positions.items }
         requires rising { AllPairs (λ position later. position < later) self.positions.items }
         requires long { length self.sets.items ≡ length self.positions.items }
-        ensures trees { trees.new ≡ with_elements trees.old self.positions.items self.sets.items }
+        ensures back { is_better ≡ false → trees.new ≡ with_elements trees.old self.positions.items self.sets.items }
+        ensures better { is_better ≡ true → trees.new ≡ trees.old }
     {
-        exchange(trees, &self.positions, &mut self.sets);
+        if !is_better {
+            exchange(trees, &self.positions, &mut self.sets);
+        }
     }
 }

@@ -51,7 +51,8 @@ pub(crate) fn repair_rounds<R: Threads + Sync, G: Gate>(
     requires share { HasLoadOf design.now table.now trees.old share }
     requires loads { length loads.old ≡ entries design.now.grid }
     requires overflow { overflow ≡ routing_overflow design.now trees.old }
-    ensures done { IfOk result (λ r. AreRoundsDone design.now workers budget rounds table.now share trees.old trees.new loads.old loads.new least r) }
+    ensures done { IfOk result (λ r. AreRoundsDone design.now workers budget rounds table.now share trees.old trees.new
+        loads.old loads.new least r) }
 {
     if overflow == 0 || rounds == 0 {
         return Ok(Repaired {
@@ -83,9 +84,7 @@ pub(crate) fn repair_rounds<R: Threads + Sync, G: Gate>(
         least.min(overflow),
         rounds - 1,
     )?;
-    if later.least == least {
-        replaced.put_back(trees);
-    }
+    replaced.put_back_unless(later.least < least, trees);
     Ok(Repaired {
         share: later.share,
         rounds: later.rounds + 1,
@@ -113,7 +112,8 @@ fn repair_round<R: Threads + Sync, G: Gate>(
     requires routing { IsRouting design.now.grid design.now.nets trees.old }
     requires share { HasLoadOf design.now table.now trees.old share }
     ensures done { IfOk result (λ r. IsRoundDone design.now workers budget table.now share r.0 trees.old trees.new) }
-    ensures positions { IfOk result (λ r. (All (λ position. position < length trees.old) r.1.positions.items) × (AllPairs (λ position later. position < later) r.1.positions.items)) }
+    ensures positions { IfOk result (λ r. (All (λ position. position < length trees.old) r.1.positions.items)
+        × (AllPairs (λ position later. position < later) r.1.positions.items)) }
     ensures sets { IfOk result (λ r. length r.1.sets.items ≡ length r.1.positions.items) }
     ensures back { IfOk result (λ r. with_elements trees.new r.1.positions.items r.1.sets.items ≡ trees.old) }
 {

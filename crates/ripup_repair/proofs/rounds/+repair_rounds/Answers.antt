@@ -1,4 +1,5 @@
 use Rattle.std.proofs.Common.{◌≡◌, ◌≢◌, ◌≤◌, ◌<◌, ◌+◌, ◌-◌, ◌*◌, ℕ, List, length, min, refl, sym, ◌∙◌, ap, subst, arith}
+use Rattle.std.proofs.lemmas.Bool.{le-ltb, lt-ltb}
 use Rattle.std.proofs.lemmas.Slice.Zip.{AllZip-long}
 use Rattle.grid_base.specs.declared.piece.Piece.{Piece}
 use Rattle.grid_base.specs.Numbers.{vertices}
@@ -11,7 +12,7 @@ use Rattle.ripup_repair.specs.RoundsDone.{AreRoundsDone}
 use Rattle.ripup_repair.proofs.RoundFacts.{routing_pieces}
 use Rattle.ripup_repair.proofs.RoundRuns.{listed, more_done, none_done}
 use Rattle.ripup_repair.proofs.rounds.+repair_rounds.Goals as goal
-use Rattle.ripup_repair.proofs.rounds.+repair_rounds.Goals.{then-overflow-eq0-via-then-overflow-eq0, then-overflow-eq0-via-else-overflow-eq0+then-rounds-eq0, then-overflow-least, else-overflow-least, then-later-least, else-later-least}
+use Rattle.ripup_repair.proofs.rounds.+repair_rounds.Goals.{then-overflow-eq0-via-then-overflow-eq0, then-overflow-eq0-via-else-overflow-eq0+then-rounds-eq0, then-overflow-least, else-overflow-least}
 
 pub returns-then-overflow-eq0 : goal.returns-then-overflow-eq0
 returns-then-overflow-eq0 g t c =
@@ -61,24 +62,17 @@ returns g t c =
       | then-overflow-least w ↦ absurd (omega (arith, w.if-overflow-least.true, more))
       | else-overflow-least w ↦ w.loads-is
     ] in
-    let back : later.least ≡ least → c.if-later-least.trees ≡ before =
-    λ equal. elim c.if-later-least.branch [
-      | then-later-least w ↦
-          w.trees-is
-          ∙ w.put_back.ensures.trees
-          ∙ ap (λ (ts : List (List Piece)). with_elements ts c.in_ok-share.replaced.positions.items c.in_ok-share.replaced.sets.items) (done.none (omega (arith, equal, done.within))).0
-          ∙ c.in_ok-share.ensures.back
-      | else-later-least w ↦ absurd (w.if-later-least.false equal)
-    ] in
-    let stay : later.least ≢ least → c.if-later-least.trees ≡ left =
-    λ other. elim c.if-later-least.branch [
-      | then-later-least w ↦ absurd (other w.if-later-least.true)
-      | else-later-least w ↦ w.trees-is
-    ] in
+    let back : later.least ≡ least → c.put_back_unless.new.trees ≡ before =
+    λ equal.
+    c.put_back_unless.ensures.back (le-ltb later.least least (omega (arith, equal)))
+    ∙ ap (λ (ts : List (List Piece)). with_elements ts c.in_ok-share.replaced.positions.items c.in_ok-share.replaced.sets.items)
+    (done.none (omega (arith, equal, done.within))).0
+    ∙ c.in_ok-share.ensures.back in
+    let stay : later.least ≢ least → c.put_back_unless.new.trees ≡ left =
+    λ other. c.put_back_unless.ensures.better (lt-ltb later.least least (omega (arith, other, done.within))) in
     record {
-      done = more_done d c.args.workers c.args.budget c.args.rounds c.args.table.now c.args.share c.in_ok-share.share before after left c.if-later-least.trees
-          c.args.loads.now c.if-overflow-least.loads c.repair_rounds.new.loads least over later
-          (record { share = later.share; rounds = later.rounds + 1; least = later.least })
-          (omega (arith, c.if-rounds-eq0.false)) (omega (arith, c.if-overflow-eq0.false, c.requires.overflow)) c.in_ok-overflow.ensures.overflow
-          c.in_ok-share.ensures.done done better kept back stay refl refl refl;
+      done = more_done d c.args.workers c.args.budget c.args.rounds c.args.table.now c.args.share c.in_ok-share.share before after left
+          c.put_back_unless.new.trees c.args.loads.now c.if-overflow-least.loads c.repair_rounds.new.loads least over later
+          (omega (arith, c.if-rounds-eq0.false)) (omega (arith, c.if-overflow-eq0.false, c.requires.overflow))
+          c.in_ok-overflow.ensures.overflow c.in_ok-share.ensures.done done better kept back stay refl refl refl;
     }
