@@ -4,6 +4,6 @@ pub mod RepairNets
 pub mod TurnSteps
 pub mod WorkerSteps
 pub mod PartSteps
-pub mod Splits
+pub mod RoundSplits
 pub mod RoundFacts
 pub mod RoundRuns

@@ -37,7 +37,7 @@ use Rattle.ripup_repair.proofs.Exchanges.{load_on-cons, load_on-with, load_on-wi
 use Rattle.ripup_repair.proofs.RepairNets.{repair-few, repair-rising, repair-within}
 use Rattle.ripup_repair.proofs.PartSteps.{sets_within}
 use Rattle.ripup_repair.proofs.Positions.{AreRising, at_positions-at, at_positions-long, at_positions-with, with_elements-long, with_elements-other}
-use Rattle.ripup_repair.proofs.Splits.{turns_start-le}
+use Rattle.ripup_repair.proofs.RoundSplits.{turns_start-le}
 use Rattle.ripup_repair.proofs.TurnSteps.{Turn, start_of}
 
 either_none : (b : Bool) → ◌≡◌ {A = ℕ} (cond b 0 0) 0

@@ -30,5 +30,6 @@ pub record IsRepaired (d : Design) (workers : ℕ) (settings : Settings) (chosen
   pub begins : At routings 0 chosen.trees
   pub result : IsRepairResult d routings r.trees
   pub rounds : length routings ≡ r.rounds + 1
-  pub last : (trees : List (List Piece)) → At routings r.rounds trees → IsWholeShare r.table (load_list d.grid d.nets trees) r.share
+  pub last : (trees : List (List Piece)) → At routings r.rounds trees
+      → IsWholeShare r.table (load_list d.grid d.nets trees) r.share
   pub history : r.share.party.history ≡ chosen.share.party.history ++ repair_history d workers routings run.read r.rounds

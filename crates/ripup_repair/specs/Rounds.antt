@@ -18,8 +18,8 @@ use Rattle.sharing_runs.specs.Parts.{part_start}
 use Rattle.sharing_runs.specs.RepairRuns.{at_positions}
 use Rattle.sharing_phases.specs.PhaseWords.{least_allotment, max_phase_load}
 
--- a round: the design and each net's ground, the table of the loads, the sets of all nets before the round, the positions of the
--- nets that get new ones, how many workers there are, and the wirelength that is to be kept, or none
+-- a round: the design and each net's ground, the table of the loads, the sets of all nets before the round, the positions of
+-- the nets that get new ones, how many workers there are, and the wirelength that is to be kept, or none
 pub record Round : Type 0 where
   pub design : Design
   pub grounds : List Ground
@@ -62,13 +62,15 @@ pub record IsRound (p : Round) : Type 0 where
   pub nets : All (λ position. position < length p.design.nets) p.positions
   pub few : length p.positions ≤ max_nets
 
--- a share with which the workers from one up to another can do their turns: it has the old sets of their nets, alone the load of
--- all sets, and an allotment for each worker
+-- a share with which the workers from one up to another can do their turns: it has the old sets of their nets, alone the load
+-- of all sets, and an allotment for each worker
 pub record ServesTurns (p : Round) (first last : ℕ) (share : Holding) : Type 0 where
   pub table : share.table ≡ p.table
   pub allot : (last - first) * least_allotment ≤ share.party.allot
   pub whole : p.workers ≡ 1 → share.party.allot ≡ whole_allotment
-  pub alone : p.workers ≡ 1 → (r : ℕ) → r < entries p.design.grid → share_at r share.party ≡ load_on p.design.grid p.design.nets p.before r
+  pub alone : p.workers ≡ 1 → (r : ℕ) → r < entries p.design.grid
+      → share_at r share.party ≡ load_on p.design.grid p.design.nets p.before r
   pub loads : (r : ℕ) → r < entries p.design.grid
-      → load_between p.design.grid (repaired_nets p) (old_sets p) (turns_start p first) (turns_start p last) r ≤ share_at r share.party
+      → load_between p.design.grid (repaired_nets p) (old_sets p) (turns_start p first) (turns_start p last) r
+      ≤ share_at r share.party
   pub few : (r : ℕ) → share_at r share.party ≤ max_phase_load

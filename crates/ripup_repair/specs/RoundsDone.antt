@@ -21,7 +21,8 @@ pub record HasLoadOf (d : Design) (table : TableId) (trees : List (List Piece)) 
   pub loads : (r : ℕ) → r < entries d.grid → share_at r share.party ≡ load_on d.grid d.nets trees r
 
 -- a round has been
-pub record IsRoundDone (d : Design) (workers : ℕ) (budget : Option ℕ) (table : TableId) (old new : Holding) (before after : List (List Piece)) : Type 0 where
+pub record IsRoundDone (d : Design) (workers : ℕ) (budget : Option ℕ) (table : TableId) (old new : Holding)
+    (before after : List (List Piece)) : Type 0 where
   pub read : ℕ → List ℕ
   pub read_loads : (start : ℕ) → IsLoadList d.grid (read start)
   pub seen : ℕ → List ℕ
@@ -30,8 +31,8 @@ pub record IsRoundDone (d : Design) (workers : ℕ) (budget : Option ℕ) (table
   pub share : HasLoadOf d table after new
   pub history : new.party.history ≡ old.party.history ++ round_history d workers before read
 
--- rounds have been, at most so many, until there was no overflow: where one of them has less than the least before, the first of
--- least overflow is what is left, with its loads, and else the sets and the loads before
+-- rounds have been, at most so many, until there was no overflow: where one of them has less than the least before, the first
+-- of least overflow is what is left, with its loads, and else the sets and the loads before
 pub record AreRoundsDone (d : Design) (workers : ℕ) (budget : Option ℕ) (rounds : ℕ) (table : TableId) (old : Holding)
     (before after : List (List Piece)) (old_loads new_loads : List ℕ) (least : ℕ) (r : Repaired) : Type 0 where
   pub later : List (List (List Piece))
@@ -41,6 +42,7 @@ pub record AreRoundsDone (d : Design) (workers : ℕ) (budget : Option ℕ) (rou
   pub share : (trees : List (List Piece)) → At (before ∷ later) r.rounds trees → HasLoadOf d table trees r.share
   pub history : r.share.party.history ≡ old.party.history ++ repair_history d workers (before ∷ later) run.read r.rounds
   pub within : r.least ≤ least
-  pub better : r.least < least → IsRepairResult d later after × (routing_overflow d after ≡ r.least) × (new_loads ≡ load_list d.grid d.nets after)
+  pub better : r.least < least → IsRepairResult d later after × (routing_overflow d after ≡ r.least)
+      × (new_loads ≡ load_list d.grid d.nets after)
   pub none : r.least ≡ least → (after ≡ before) × (new_loads ≡ old_loads)
       × ((k : ℕ) (trees : List (List Piece)) → At later k trees → least ≤ routing_overflow d trees)

@@ -46,7 +46,9 @@ pub(crate) fn loads_of(
     requires few { length positions.now ≤ max_nets }
     requires range { (from ≤ to) × (to ≤ length positions.now) }
     ensures long { IfOk result (λ loads. length loads.items ≡ entries design.now.grid) }
-    ensures loads { IfOk result (λ loads. (r : ℕ) → slice_index loads.items r ≡ load_between design.now.grid (at_positions design.now.nets positions.now) (at_positions trees.now positions.now) from to r) }
+    ensures loads { IfOk result (λ loads. (r : ℕ)
+        → slice_index loads.items r ≡ load_between design.now.grid (at_positions design.now.nets positions.now)
+        (at_positions trees.now positions.now) from to r) }
 {
     let nets = design.nets.list();
     let mut loads = vec![in alloc; 0u64; 2 * design.grid.size().vertices() as usize + 1]?;

@@ -24,7 +24,8 @@ pub(crate) fn nets_to_repair(
 ) -> Result<Vec<u32>, NoMemory>
     requires words { share.now.table.words ≡ entries design.now.grid }
     requires routing { IsRouting design.now.grid design.now.nets trees.now }
-    requires loads { (r : ℕ) → r < entries design.now.grid → share_at r share.now.party ≡ load_on design.now.grid design.now.nets trees.now r }
+    requires loads { (r : ℕ) → r < entries design.now.grid
+        → share_at r share.now.party ≡ load_on design.now.grid design.now.nets trees.now r }
     ensures positions { IfOk result (λ positions. positions.items ≡ nets_to_repair design.now trees.now) }
     ensures rising { IfOk result (λ _. All IsRising trees.now) }
 {

@@ -32,8 +32,11 @@ pub(crate) fn repair_part<G: Gate>(
 ) -> Result<(Share, Vec<Tree>), NoMemory>
     requires round { IsRound (round_of design.now grounds.now table.now trees.now positions.now workers budget) }
     requires worker { worker < workers }
-    requires share { ServesTurns (round_of design.now grounds.now table.now trees.now positions.now workers budget) worker (worker + 1) share }
-    ensures turns { IfOk result (λ r. HadTurns (round_of design.now grounds.now table.now trees.now positions.now workers budget) worker (worker + 1) share r.0 r.1.items) }
+    requires share { ServesTurns (round_of design.now grounds.now table.now trees.now positions.now workers budget)
+        worker (worker + 1) share }
+    ensures turns { IfOk result (λ r. HadTurns
+        (round_of design.now grounds.now table.now trees.now positions.now workers budget)
+        worker (worker + 1) share r.0 r.1.items) }
 {
     let from = part_start(workers, positions.len(), worker);
     let to = part_start(workers, positions.len(), worker + 1);

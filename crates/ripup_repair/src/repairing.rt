@@ -39,7 +39,8 @@ pub fn repair<R: Threads + Sync, G: Gate>(
     requires grounds { AreGrounds design.now.grid design.now.nets grounds.now }
     requires settings { AreSettings settings.now }
     requires whole { IsWholeChosen design.now chosen }
-    ensures repaired { IfOk result (λ r. IsRepaired design.now (workers_in_use settings.now.workers (vertices (size_of design.now.grid))) settings.now chosen r) }
+    ensures repaired { IfOk result (λ r. IsRepaired design.now
+        (workers_in_use settings.now.workers (vertices (size_of design.now.grid))) settings.now chosen r) }
     ensures routing { IfOk result (λ r. IsRouting design.now.grid design.now.nets r.trees) }
     ensures rounded { IfOk result (λ r. r.rounded ≡ routing_overflow design.now chosen.trees) }
     ensures loads { IfOk result (λ r. r.loads.items ≡ load_list design.now.grid design.now.nets r.trees) }

@@ -36,8 +36,10 @@ pub(crate) fn repair_parts<R: Threads + Sync, G: Gate>(
 ) -> Result<(Share, Vec<Tree>), NoMemory>
     requires round { IsRound (round_of design.now grounds.now table.now trees.now positions.now workers budget) }
     requires range { (first < last) × (last ≤ workers) }
-    requires share { ServesTurns (round_of design.now grounds.now table.now trees.now positions.now workers budget) first last share }
-    ensures turns { IfOk result (λ r. HadTurns (round_of design.now grounds.now table.now trees.now positions.now workers budget) first last share r.0 r.1.items) }
+    requires share { ServesTurns (round_of design.now grounds.now table.now trees.now positions.now workers budget)
+        first last share }
+    ensures turns { IfOk result (λ r. HadTurns
+        (round_of design.now grounds.now table.now trees.now positions.now workers budget) first last share r.0 r.1.items) }
 {
     if last - first == 1 {
         return repair_part(
@@ -52,8 +54,13 @@ pub(crate) fn repair_parts<R: Threads + Sync, G: Gate>(
     let (left, right) = join(
         rt,
         move || -> Result<(Share, Vec<Tree>), NoMemory>
-            requires { IsSync R.row × IsRound (round_of design.now grounds.now table.now trees.now positions.now workers budget) × ((first < middle) × (middle ≤ workers)) × ServesTurns (round_of design.now grounds.now table.now trees.now positions.now workers budget) first middle share }
-            ensures { IfOk result (λ r. HadTurns (round_of design.entry.now grounds.entry.now table.entry.now trees.entry.now positions.entry.now workers budget) first middle share r.0 r.1.items) }
+            requires { IsSync R.row × IsRound (round_of design.now grounds.now table.now trees.now positions.now workers budget)
+                × ((first < middle) × (middle ≤ workers))
+                × ServesTurns (round_of design.now grounds.now table.now trees.now positions.now workers budget)
+                first middle share }
+            ensures { IfOk result (λ r. HadTurns
+                (round_of design.entry.now grounds.entry.now table.entry.now trees.entry.now positions.entry.now workers budget)
+                first middle share r.0 r.1.items) }
         {
             repair_parts(
                 rt, alloc, design, grounds, table, trees, positions, workers, budget, gate, share,
@@ -61,8 +68,13 @@ pub(crate) fn repair_parts<R: Threads + Sync, G: Gate>(
             )
         },
         move || -> Result<(Share, Vec<Tree>), NoMemory>
-            requires { IsSync R.row × IsRound (round_of design.now grounds.now table.now trees.now positions.now workers budget) × ((middle < last) × (last ≤ workers)) × ServesTurns (round_of design.now grounds.now table.now trees.now positions.now workers budget) middle last given }
-            ensures { IfOk result (λ r. HadTurns (round_of design.entry.now grounds.entry.now table.entry.now trees.entry.now positions.entry.now workers budget) middle last given r.0 r.1.items) }
+            requires { IsSync R.row × IsRound (round_of design.now grounds.now table.now trees.now positions.now workers budget)
+                × ((middle < last) × (last ≤ workers))
+                × ServesTurns (round_of design.now grounds.now table.now trees.now positions.now workers budget)
+                middle last given }
+            ensures { IfOk result (λ r. HadTurns
+                (round_of design.entry.now grounds.entry.now table.entry.now trees.entry.now positions.entry.now workers budget)
+                middle last given r.0 r.1.items) }
         {
             repair_parts(
                 rt, alloc, design, grounds, table, trees, positions, workers, budget, gate, given,
@@ -94,9 +106,12 @@ fn split_for(
 ) -> Result<Share, NoMemory>
     requires round { IsRound (round_of design.now grounds.now table.now trees.now positions.now workers budget) }
     requires range { (first < middle) × (middle < last) × (last ≤ workers) }
-    requires share { ServesTurns (round_of design.now grounds.now table.now trees.now positions.now workers budget) first last share.old }
-    ensures kept { IfOk result (λ other. ServesTurns (round_of design.now grounds.now table.now trees.now positions.now workers budget) first middle share.new) }
-    ensures given { IfOk result (λ other. ServesTurns (round_of design.now grounds.now table.now trees.now positions.now workers budget) middle last other) }
+    requires share { ServesTurns (round_of design.now grounds.now table.now trees.now positions.now workers budget)
+        first last share.old }
+    ensures kept { IfOk result (λ other. ServesTurns
+        (round_of design.now grounds.now table.now trees.now positions.now workers budget) first middle share.new) }
+    ensures given { IfOk result (λ other. ServesTurns
+        (round_of design.now grounds.now table.now trees.now positions.now workers budget) middle last other) }
     ensures split { IfOk result (λ other. AreSplit share.old share.new other) }
 {
     let from = part_start(workers, positions.len(), middle);

@@ -7,4 +7,5 @@ pub mod Readings
 pub mod TreeLimits
 pub mod WorkerSteps
 pub mod Splits
+pub mod PhaseSplits
 pub mod Phased

@@ -1,140 +1,98 @@
--- A share that is split for two halves of the workers, and what both halves have done.
+-- A share that is split for two halves of some workers, whatever these do: what is split off, that it may be, and the histories
+-- of both halves.
 use Rattle.std.proofs.Common.{◌≡◌, ℕ, ◌+◌, ◌-◌, ◌*◌, ◌≤◌, ◌<◌, List, ◌++◌, length, slice_index, refl, sym, ◌∙◌, ap, arith, ⊎_elim}
 use Rattle.std.proofs.lemmas.Bool.{cases_lt}
-use Rattle.std.proofs.lemmas.List.{append_assoc, length-append, get_or_past}
-use Rattle.grid_base.specs.declared.piece.Piece.{Piece}
-use Rattle.grid_graph.specs.declared.design.Design.{Design}
-use Rattle.grid_graph.specs.Grids.{entries}
-use Rattle.load_core.specs.Parties.{share_at, joined, kept_after_split, split_off, IsPart}
-use Rattle.load_core.proofs.Entries.{get_or-minus, get_or-plus}
+use Rattle.std.proofs.lemmas.List.{append_assoc, get_or_past}
+use Rattle.load_core.specs.Parties.{share_at, kept_after_split, split_off, IsPart}
+use Rattle.load_core.proofs.Entries.{get_or-minus}
 use Rattle.load_table.specs.Holdings.{Holding, held}
 use Rattle.sharing_runs.specs.Parts.{part_start}
 use Rattle.sharing_phases.specs.Histories.{parts_history}
-use Rattle.sharing_phases.specs.PhaseWords.{Phase, ServesParts, RoutesParts, AreSplit, least_allotment}
-use Rattle.sharing_phases.specs.Turns.{earlier_load, load_from}
-use Rattle.sharing_phases.proofs.Parts.{part_start-le}
+use Rattle.sharing_phases.specs.PhaseWords.{AreSplit, least_allotment, max_earlier_load}
 use Rattle.sharing_phases.proofs.Ranges.{until}
 use Rattle.sharing_phases.proofs.Readings.{parts_history-append}
-use Rattle.sharing_phases.proofs.Sums.{earlier_load-split, load_from-append}
-use Rattle.sharing_phases.proofs.TurnSteps.{AreTurns-append}
 
--- what is split off for the workers from the middle one on
-pub record IsGiven (p : Phase) (middle last : ℕ) (given : List ℕ) : Type 0 where
-  pub long : length given ≡ entries p.design.grid
-  pub loads : (r : ℕ) → slice_index given r
-      ≡ earlier_load p.design p.earlier (part_start p.workers (length p.design.nets) middle) (part_start p.workers (length p.design.nets) last) r
+-- of each of so many words this amount is given
+pub record IsGiven (words : ℕ) (amount : ℕ → ℕ) (given : List ℕ) : Type 0 where
+  pub long : length given ≡ words
+  pub amounts : (r : ℕ) → slice_index given r ≡ amount r
 
--- the load of the earlier phases in the parts of all these workers is that of both halves
-both_halves : (p : Phase) (first middle last r : ℕ) → 1 ≤ p.workers → first ≤ middle → middle ≤ last
-    → earlier_load p.design p.earlier (part_start p.workers (length p.design.nets) first) (part_start p.workers (length p.design.nets) last) r
-    ≡ earlier_load p.design p.earlier (part_start p.workers (length p.design.nets) first) (part_start p.workers (length p.design.nets) middle) r
-    + earlier_load p.design p.earlier (part_start p.workers (length p.design.nets) middle) (part_start p.workers (length p.design.nets) last) r
-both_halves p first middle last r some low high =
-    earlier_load-split p.design p.earlier (part_start p.workers (length p.design.nets) first) (part_start p.workers (length p.design.nets) middle)
-    (part_start p.workers (length p.design.nets) last) r
-    (part_start-le p.workers (length p.design.nets) first middle some low) (part_start-le p.workers (length p.design.nets) middle last some high)
+-- a share has of each word what both halves of the workers from one up to another need, and an allotment for each of them
+pub record ServesBoth (words first last : ℕ) (left right : ℕ → ℕ) (share : Holding) : Type 0 where
+  pub allot : (last - first) * least_allotment ≤ share.party.allot
+  pub both : (r : ℕ) → r < words → left r + right r ≤ share_at r share.party
+  pub few : (r : ℕ) → share_at r share.party ≤ max_earlier_load
+
+-- what was worked out for the workers from the middle one on is given
+pub is_given : (words workers nets middle last from to count : ℕ) (load : ℕ → ℕ → ℕ → ℕ) (given : List ℕ)
+    → from ≡ part_start workers count middle → to ≡ part_start workers count last → count ≡ nets
+    → length given ≡ words
+    → ((r : ℕ) → slice_index given r ≡ load from to r)
+    → IsGiven words (load (part_start workers nets middle) (part_start workers nets last)) given
+is_given words workers nets middle last from to count load given begins ends all long loads =
+    let first : from ≡ part_start workers nets middle = begins ∙ ap (λ n. part_start workers n middle) all in
+    let second : to ≡ part_start workers nets last = ends ∙ ap (λ n. part_start workers n last) all in
+    record {
+      long = long;
+      amounts = λ r. loads r ∙ ap (λ k. load k to r) first ∙ ap (λ k. load (part_start workers nets middle) k r) second;
+    }
 
 -- it is no more than the share has
-pub given_within : (p : Phase) (first middle last : ℕ) (given : List ℕ) (share : Holding) (r : ℕ) → 1 ≤ p.workers → first ≤ middle → middle ≤ last
-    → ServesParts p first last share → IsGiven p middle last given → slice_index given r ≤ share_at r share.party
-given_within p first middle last given share r some low high serves is =
+pub given_within : (words first last : ℕ) (left right : ℕ → ℕ) (given : List ℕ) (share : Holding) (r : ℕ)
+    → ServesBoth words first last left right share → IsGiven words right given → slice_index given r ≤ share_at r share.party
+given_within words first last left right given share r serves is =
     ⊎_elim
-    (λ (within : r < entries p.design.grid). omega (arith, serves.loads r within, is.loads r, both_halves p first middle last r some low high))
-    (λ (beyond : entries p.design.grid ≤ r). omega (arith, get_or_past given r 0 (omega (arith, beyond, is.long))))
-    (cases_lt r (entries p.design.grid))
+    (λ (within : r < words). omega (arith, serves.both r within, is.amounts r))
+    (λ (beyond : words ≤ r). omega (arith, get_or_past given r 0 (omega (arith, beyond, is.long))))
+    (cases_lt r words)
 
 -- so it may be split off
-pub may_be_given : (p : Phase) (first middle last : ℕ) (given : List ℕ) (share : Holding) → 1 ≤ p.workers → p.table.words ≡ entries p.design.grid → first < middle → middle < last
-    → ServesParts p first last share → IsGiven p middle last given → IsPart p.table.words share.party ((last - middle) * least_allotment) given
-may_be_given p first middle last given share some words low high serves is =
+pub may_be_given : (words first middle last : ℕ) (left right : ℕ → ℕ) (given : List ℕ) (share : Holding)
+    → first < middle → middle < last
+    → ServesBoth words first last left right share → IsGiven words right given
+    → IsPart words share.party ((last - middle) * least_allotment) given
+may_be_given words first middle last left right given share low high serves is =
     let within : (r : ℕ) → slice_index given r ≤ share_at r share.party =
-    λ r. given_within p first middle last given share r some (omega (arith, low)) (omega (arith, high)) serves is in
+    λ r. given_within words first last left right given share r serves is in
     record {
-      long = is.long ∙ sym words;
+      long = is.long;
       enough = omega (arith, serves.allot, low, high);
       had = within;
       fits = λ r. omega (arith, within r, serves.few r, high);
       rest = λ r. omega (arith, serves.few r, serves.allot, low, high);
     }
 
--- the share that is left serves the first half
-pub kept_serves : (p : Phase) (first middle last : ℕ) (given : List ℕ) (share : Holding) → 1 ≤ p.workers → last ≤ p.workers → first < middle → middle < last
-    → ServesParts p first last share → IsGiven p middle last given
-    → ServesParts p first middle (held share.table (kept_after_split share.party ((last - middle) * least_allotment) given))
-kept_serves p first middle last given share some most low high serves is = record {
-  table = serves.table;
-  allot = omega (arith, serves.allot, low, high);
-  alone = λ one. absurd (omega (arith, one, most, low, high));
-  loads = λ r within. omega (
-    arith,
-    get_or-minus share.party.shares given r,
-    serves.loads r within,
-    is.loads r,
-    both_halves p first middle last r some (omega (arith, low)) (omega (arith, high)),
-  );
-  few = λ r. omega (arith, get_or-minus share.party.shares given r, serves.few r);
-}
-
--- and the one that is split off the second
-pub given_serves : (p : Phase) (first middle last : ℕ) (given : List ℕ) (share : Holding) → 1 ≤ p.workers → last ≤ p.workers → first < middle → middle < last
-    → ServesParts p first last share → IsGiven p middle last given
-    → ServesParts p middle last (held share.table (split_off ((last - middle) * least_allotment) given))
-given_serves p first middle last given share some most low high serves is = record {
-  table = serves.table;
-  allot = omega arith;
-  alone = λ one. absurd (omega (arith, one, most, low, high));
-  loads = λ r within. is.loads r;
-  few = λ r. omega (arith, given_within p first middle last given share r some (omega (arith, low)) (omega (arith, high)) serves is, serves.few r);
-}
-
-pub are_split : (share : Holding) (allot : ℕ) (given : List ℕ) → allot ≤ share.party.allot → ((r : ℕ) → slice_index given r ≤ share_at r share.party)
-    → AreSplit share (held share.table (kept_after_split share.party allot given)) (held share.table (split_off allot given))
-are_split share allot given enough had = record {
+-- and then each word is divided
+pub are_split : (words first middle last : ℕ) (left right : ℕ → ℕ) (given : List ℕ) (share : Holding)
+    → first < middle → middle < last
+    → ServesBoth words first last left right share → IsGiven words right given
+    → AreSplit share (held share.table (kept_after_split share.party ((last - middle) * least_allotment) given))
+    (held share.table (split_off ((last - middle) * least_allotment) given))
+are_split words first middle last left right given share low high serves is = record {
   kept_table = refl;
   other_table = refl;
-  allot = omega (arith, enough);
-  shares = λ r. omega (arith, get_or-minus share.party.shares given r, had r);
+  allot = omega (arith, serves.allot, low, high);
+  shares = λ r. omega (
+    arith,
+    get_or-minus share.party.shares given r,
+    given_within words first last left right given share r serves is,
+  );
   kept_history = refl;
   other_history = refl;
 }
 
--- both halves are routed, and the shares are joined
-pub halves_joined : (p : Phase) (first middle last : ℕ) (old kept other left right : Holding) (s t : List (List Piece))
-    → 1 ≤ p.workers → first ≤ middle → middle ≤ last
-    → AreSplit old kept other → RoutesParts p first middle kept left s → RoutesParts p middle last other right t
-    → RoutesParts p first last old (held left.table (joined left.party right.party)) (s ++ t)
-halves_joined p first middle last old kept other left right s t some low high split one two =
-    let d : Design = p.design in
-    let nets : ℕ = length d.nets in
-    let a : ℕ = part_start p.workers nets first in
-    let m : ℕ = part_start p.workers nets middle in
-    let before : a ≤ m = part_start-le p.workers nets first middle some low in
-    let load : (r : ℕ) → load_from d a (s ++ t) r ≡ load_from d a s r + load_from d m t r = λ r. load_from-append d a m s t r before one.turns.long in
-    record {
-      read = until m one.read two.read;
-      seen = until m one.seen two.seen;
-      turns = AreTurns-append d p.workers p.budget p.earlier a middle (part_start p.workers nets last) s t one.read one.seen two.read two.seen some one.turns two.turns;
-      history = ap (λ h. h ++ right.party.history) (one.history ∙ ap (λ h. h ++ parts_history p.workers nets one.read first (middle - first)) split.kept_history)
-          ∙ ap (λ h. old.party.history ++ parts_history p.workers nets one.read first (middle - first) ++ h) (two.history ∙ ap (λ h. h ++ parts_history p.workers nets two.read middle (last - middle)) split.other_history)
-          ∙ append_assoc old.party.history (parts_history p.workers nets one.read first (middle - first)) (parts_history p.workers nets two.read middle (last - middle))
-          ∙ ap (λ h. old.party.history ++ h) (sym (parts_history-append p.workers nets one.read two.read first middle last some low high));
-      table = one.table ∙ split.kept_table;
-      allot = omega (arith, one.allot, two.allot, split.allot);
-      shares = λ r. omega (arith, get_or-plus left.party.shares right.party.shares r, one.shares r, two.shares r, split.shares r, load r);
-      few = λ r. omega (arith, load r, one.few r, two.few r, length-append s t);
-    }
-
--- what was worked out for them is given
-pub is_given : (p : Phase) (middle last from to nets : ℕ) (given : List ℕ)
-    → from ≡ part_start p.workers nets middle → to ≡ part_start p.workers nets last → nets ≡ length p.design.nets
-    → length given ≡ entries p.design.grid
-    → ((r : ℕ) → slice_index given r ≡ earlier_load p.design p.earlier from to r)
-    → IsGiven p middle last given
-is_given p middle last from to nets given begins ends all long loads =
-    let first : from ≡ part_start p.workers (length p.design.nets) middle = begins ∙ ap (λ n. part_start p.workers n middle) all in
-    let second : to ≡ part_start p.workers (length p.design.nets) last = ends ∙ ap (λ n. part_start p.workers n last) all in
-    record {
-      long = long;
-      loads = λ r. loads r ∙ ap (λ k. earlier_load p.design p.earlier k to r) first
-          ∙ ap (λ k. earlier_load p.design p.earlier (part_start p.workers (length p.design.nets) middle) k r) second;
-    }
+-- what both halves read, one behind the other, stands behind the history from before
+pub histories_joined : (workers nets first middle last : ℕ) (one two : ℕ → List ℕ) (old kept other left right : Holding)
+    → 1 ≤ workers → first ≤ middle → middle ≤ last → AreSplit old kept other
+    → left.party.history ≡ kept.party.history ++ parts_history workers nets one first (middle - first)
+    → right.party.history ≡ other.party.history ++ parts_history workers nets two middle (last - middle)
+    → left.party.history ++ right.party.history
+    ≡ old.party.history ++ parts_history workers nets (until (part_start workers nets middle) one two) first (last - first)
+histories_joined workers nets first middle last one two old kept other left right some low high split before behind =
+    ap (λ h. h ++ right.party.history)
+    (before ∙ ap (λ h. h ++ parts_history workers nets one first (middle - first)) split.kept_history)
+    ∙ ap (λ h. old.party.history ++ parts_history workers nets one first (middle - first) ++ h)
+    (behind ∙ ap (λ h. h ++ parts_history workers nets two middle (last - middle)) split.other_history)
+    ∙ append_assoc old.party.history (parts_history workers nets one first (middle - first))
+    (parts_history workers nets two middle (last - middle))
+    ∙ ap (λ h. old.party.history ++ h) (sym (parts_history-append workers nets one two first middle last some low high))

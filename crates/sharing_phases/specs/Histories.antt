@@ -28,9 +28,11 @@ parts_history workers nets read first some = flat_map (part_history workers nets
 
 -- those of all workers in so many phases, in order of phase, and then of part and stretch
 abbrev pub run_history : ℕ → ℕ → (ℕ → ℕ → List ℕ) → ℕ → List Loaded
-run_history workers nets read phases = flat_map (λ phase. parts_history workers nets (read phase) 0 workers) (range_with_len 0 phases)
+run_history workers nets read phases = flat_map (λ phase. parts_history workers nets (read phase) 0 workers)
+    (range_with_len 0 phases)
 
 -- the sets of all phases are a sharing run, and what was read in it is this history
-pub record IsRecordedRun (d : Design) (workers : ℕ) (budget : Option ℕ) (phases : List (List (List Piece))) (history : List Loaded) : Type 0 where
+pub record IsRecordedRun (d : Design) (workers : ℕ) (budget : Option ℕ) (phases : List (List (List Piece)))
+    (history : List Loaded) : Type 0 where
   pub run : IsSharingRun d workers budget phases
   pub recorded : history ≡ run_history workers (length d.nets) run.read (length phases)

@@ -19,8 +19,8 @@ use Rattle.price_workers.specs.Phases.{phases_load}
 use Rattle.sharing_phases.specs.Histories.{IsRecordedRun}
 use Rattle.sharing_phases.specs.Turns.{earlier_load, ArePartsRouted}
 
--- a phase: the design and each net's ground, the table of the loads, the sets of all earlier phases, how many workers there are,
--- and the wirelength that is to be kept, or none
+-- a phase: the design and each net's ground, the table of the loads, the sets of all earlier phases, how many workers there
+-- are, and the wirelength that is to be kept, or none
 pub record Phase : Type 0 where
   pub design : Design
   pub grounds : List Ground
@@ -55,14 +55,15 @@ pub record IsPhase (p : Phase) : Type 0 where
   pub earlier : All (IsRouting p.design.grid p.design.nets) p.earlier
   pub few : length p.earlier < max_phases
 
--- a share with which the parts of the workers from one up to another can be routed: it has the load of these parts in all earlier
--- phases, and an allotment for each worker
+-- a share with which the parts of the workers from one up to another can be routed: it has the load of these parts in all
+-- earlier phases, and an allotment for each worker
 pub record ServesParts (p : Phase) (first last : ℕ) (share : Holding) : Type 0 where
   pub table : share.table ≡ p.table
   pub allot : (last - first) * least_allotment ≤ share.party.allot
   pub alone : p.workers ≡ 1 → share.party.allot ≡ whole_allotment
   pub loads : (r : ℕ) → r < entries p.design.grid → share_at r share.party
-      ≡ earlier_load p.design p.earlier (part_start p.workers (length p.design.nets) first) (part_start p.workers (length p.design.nets) last) r
+      ≡ earlier_load p.design p.earlier (part_start p.workers (length p.design.nets) first)
+      (part_start p.workers (length p.design.nets) last) r
   pub few : (r : ℕ) → share_at r share.party ≤ max_earlier_load
 
 -- the same of the parts that a phase's workers route
@@ -87,7 +88,8 @@ pub record HasRead (table : TableId) (old new : Worker) : Type 0 where
   pub trees : trees_of new ≡ trees_of old
 
 -- so many phases have been: they are a recorded run, and the one share has the load of all their sets
-pub record IsRunSoFar (d : Design) (workers : ℕ) (budget : Option ℕ) (table : TableId) (share : Holding) (phases : List (List (List Piece))) : Type 0 where
+pub record IsRunSoFar (d : Design) (workers : ℕ) (budget : Option ℕ) (table : TableId) (share : Holding)
+    (phases : List (List (List Piece))) : Type 0 where
   pub recorded : IsRecordedRun d workers budget phases share.party.history
   pub routings : All (IsRouting d.grid d.nets) phases
   pub of_table : share.table ≡ table

@@ -2,11 +2,8 @@
 
 ghost use Rattle.std.specs.Prelude.{◌≡◌, ◌+◌, ◌*◌, ◌-◌, ◌≤◌, ◌<◌, ℕ, length, slice_index, All, IfOk};
 ghost use Rattle.grid_graph.specs.Limits.{max_load};
-ghost use Rattle.grid_graph.specs.Grids.{entries};
-ghost use Rattle.grid_graph.specs.Grids.{size_of, IsNetWidth};
-ghost use Rattle.tree_set.specs.Loads.{tree_load, load_between};
-ghost use Rattle.tree_set.specs.Loads.{max_tree_load};
-ghost use Rattle.tree_set.specs.Loads.{net_load};
+ghost use Rattle.grid_graph.specs.Grids.{entries, size_of, IsNetWidth};
+ghost use Rattle.tree_set.specs.Loads.{tree_load, load_between, max_tree_load, net_load};
 ghost use Rattle.tree_set.specs.Routings.{ArePieces, IsRouting};
 ghost use Rattle.price_workers.specs.Limits.{max_phases};
 ghost use Rattle.sharing_phases.specs.PhaseWords.{max_phase_load};
@@ -46,7 +43,8 @@ fn add_between(design: &Design, trees: &[Tree], from: usize, to: usize, loads: &
     requires range { (from ≤ to) × (to ≤ length design.now.nets) }
     requires table { length loads.old ≡ entries design.now.grid }
     requires room { (r : ℕ) → slice_index loads.old r ≤ max_phases * max_phase_load }
-    ensures loads { (r : ℕ) → slice_index loads.new r ≡ slice_index loads.old r + load_between design.now.grid design.now.nets trees.now from to r }
+    ensures loads { (r : ℕ) → slice_index loads.new r
+        ≡ slice_index loads.old r + load_between design.now.grid design.now.nets trees.now from to r }
     ensures limit { (r : ℕ) → slice_index loads.new r ≤ slice_index loads.old r + max_phase_load }
     ensures long { length loads.new ≡ length loads.old }
 {
@@ -56,7 +54,8 @@ fn add_between(design: &Design, trees: &[Tree], from: usize, to: usize, loads: &
     }
 }
 
-/// Adds the load of a net of this width by its set.
+/// Adds the load of a net of this width by its set: its demand on each edge of the set, and the number of the set's pieces on
+/// the wirelength. `loads` has an entry for each edge number and, behind these, one for the wirelength.
 pub fn add_tree(grid: &Grid, width: u32, tree: &Tree, loads: &mut [u64])
     requires width { IsNetWidth grid.now width }
     requires pieces { ArePieces (size_of grid.now) tree.now }

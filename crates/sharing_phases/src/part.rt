@@ -14,10 +14,11 @@ use price_workers::{Gate, Trees, Worker};
 use std::alloc::Global;
 use tree_set::Tree;
 
-/// So many nets a worker routes at most between two readings of the table.
+/// So many nets a worker routes at most between two readings of the table: a reading costs a load of each word.
 pub const NETS_PER_READING: usize = 32;
 
-/// Where the nets of a worker's part begin.
+/// The position of the first net of a worker's part, or where the parts end, for the number of workers. Parts differ by at
+/// most one net.
 pub fn part_start(workers: u32, nets: usize, worker: u32) -> usize
     requires workers { (1 ≤ workers) × (worker ≤ max_workers) }
     requires nets { nets ≤ max_nets }
@@ -41,8 +42,10 @@ pub(crate) fn route_part<G: Gate>(
 ) -> Result<(Share, Vec<Tree>), NoMemory>
     requires phase { IsPhase (phase_of design.now grounds.now table.now earlier.now workers budget) }
     requires worker { worker < workers }
-    requires share { ServesParts (phase_of design.now grounds.now table.now earlier.now workers budget) worker (worker + 1) share }
-    ensures routed { IfOk result (λ r. RoutesParts (phase_of design.now grounds.now table.now earlier.now workers budget) worker (worker + 1) share r.0 r.1.items) }
+    requires share { ServesParts (phase_of design.now grounds.now table.now earlier.now workers budget)
+        worker (worker + 1) share }
+    ensures routed { IfOk result (λ r. RoutesParts (phase_of design.now grounds.now table.now earlier.now workers budget)
+        worker (worker + 1) share r.0 r.1.items) }
 {
     let nets = design.nets.list().len();
     let from = part_start(workers, nets, worker);
@@ -59,7 +62,7 @@ pub(crate) fn route_part<G: Gate>(
     Ok(pricing.finish())
 }
 
-/// A worker reads the table where a stretch of its nets begins.
+/// A worker reads the table where a stretch of its nets begins, which `due` says, and else stays as it is.
 pub fn read_if(worker: &mut Worker<'_>, design: &Design, table: &LoadTable, due: bool)
     requires works { WorksOn design.now.grid table.now worker.old }
     ensures read { due ≡ true → HasRead table.now worker.old worker.new }

@@ -40,7 +40,9 @@ pub fn share<R: Threads + Sync, G: Gate>(
 ) -> Result<Shared, NoMemory>
     requires grounds { AreGrounds design.now.grid design.now.nets grounds.now }
     requires settings { AreSettings settings.now }
-    ensures run { IfOk result (λ s. IsRecordedRun design.now (workers_in_use settings.now.workers (vertices (size_of design.now.grid))) settings.now.budget s.phases s.share.party.history) }
+    ensures run { IfOk result (λ s. IsRecordedRun design.now
+        (workers_in_use settings.now.workers (vertices (size_of design.now.grid))) settings.now.budget s.phases
+        s.share.party.history) }
     ensures phases { IfOk result (λ s. length s.phases ≡ settings.now.phases) }
     ensures prices { IfOk result (λ s. s.prices.items ≡ price_vector design.now.grid s.loads.items 1 settings.now.budget) }
     ensures whole { IfOk result (λ s. IsWholeShared design.now s) }

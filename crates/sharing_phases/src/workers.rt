@@ -14,7 +14,7 @@ use std::alloc::Global;
 use std::thread::{Threads, join};
 use tree_set::Tree;
 
-/// The allotment that each worker but the first gets.
+/// The allotment that each worker but the first gets: no word of its share ever has more, whatever it routes.
 pub const LEAST_ALLOTMENT: u64 = 1 << 58;
 
 /// The parts of the workers from one up to another, side by side: a share is split, both halves of the workers run, and
@@ -36,7 +36,8 @@ pub(crate) fn route_parts<R: Threads + Sync, G: Gate>(
     requires phase { IsPhase (phase_of design.now grounds.now table.now earlier.now workers budget) }
     requires range { (first < last) × (last ≤ workers) }
     requires share { ServesParts (phase_of design.now grounds.now table.now earlier.now workers budget) first last share }
-    ensures routed { IfOk result (λ r. RoutesParts (phase_of design.now grounds.now table.now earlier.now workers budget) first last share r.0 r.1.items) }
+    ensures routed { IfOk result (λ r. RoutesParts
+        (phase_of design.now grounds.now table.now earlier.now workers budget) first last share r.0 r.1.items) }
 {
     if last - first == 1 {
         return route_part(
@@ -50,8 +51,12 @@ pub(crate) fn route_parts<R: Threads + Sync, G: Gate>(
     let (left, right) = join(
         rt,
         move || -> Result<(Share, Vec<Tree>), NoMemory>
-            requires { IsSync R.row × IsPhase (phase_of design.now grounds.now table.now earlier.now workers budget) × ((first < middle) × (middle ≤ workers)) × ServesParts (phase_of design.now grounds.now table.now earlier.now workers budget) first middle share }
-            ensures { IfOk result (λ r. RoutesParts (phase_of design.entry.now grounds.entry.now table.entry.now earlier.entry.now workers budget) first middle share r.0 r.1.items) }
+            requires { IsSync R.row × IsPhase (phase_of design.now grounds.now table.now earlier.now workers budget)
+                × ((first < middle) × (middle ≤ workers))
+                × ServesParts (phase_of design.now grounds.now table.now earlier.now workers budget) first middle share }
+            ensures { IfOk result (λ r. RoutesParts
+                (phase_of design.entry.now grounds.entry.now table.entry.now earlier.entry.now workers budget)
+                first middle share r.0 r.1.items) }
         {
             route_parts(
                 rt, alloc, design, grounds, table, earlier, workers, budget, gate, share, first,
@@ -59,8 +64,12 @@ pub(crate) fn route_parts<R: Threads + Sync, G: Gate>(
             )
         },
         move || -> Result<(Share, Vec<Tree>), NoMemory>
-            requires { IsSync R.row × IsPhase (phase_of design.now grounds.now table.now earlier.now workers budget) × ((middle < last) × (last ≤ workers)) × ServesParts (phase_of design.now grounds.now table.now earlier.now workers budget) middle last given }
-            ensures { IfOk result (λ r. RoutesParts (phase_of design.entry.now grounds.entry.now table.entry.now earlier.entry.now workers budget) middle last given r.0 r.1.items) }
+            requires { IsSync R.row × IsPhase (phase_of design.now grounds.now table.now earlier.now workers budget)
+                × ((middle < last) × (last ≤ workers))
+                × ServesParts (phase_of design.now grounds.now table.now earlier.now workers budget) middle last given }
+            ensures { IfOk result (λ r. RoutesParts
+                (phase_of design.entry.now grounds.entry.now table.entry.now earlier.entry.now workers budget)
+                middle last given r.0 r.1.items) }
         {
             route_parts(
                 rt, alloc, design, grounds, table, earlier, workers, budget, gate, given, middle,
@@ -92,8 +101,10 @@ fn split_for(
     requires phase { IsPhase (phase_of design.now grounds.now table.now earlier.now workers budget) }
     requires range { (first < middle) × (middle < last) × (last ≤ workers) }
     requires share { ServesParts (phase_of design.now grounds.now table.now earlier.now workers budget) first last share.old }
-    ensures kept { IfOk result (λ other. ServesParts (phase_of design.now grounds.now table.now earlier.now workers budget) first middle share.new) }
-    ensures given { IfOk result (λ other. ServesParts (phase_of design.now grounds.now table.now earlier.now workers budget) middle last other) }
+    ensures kept { IfOk result (λ other. ServesParts
+        (phase_of design.now grounds.now table.now earlier.now workers budget) first middle share.new) }
+    ensures given { IfOk result (λ other. ServesParts
+        (phase_of design.now grounds.now table.now earlier.now workers budget) middle last other) }
     ensures split { IfOk result (λ other. AreSplit share.old share.new other) }
 {
     let nets = design.nets.list().len();

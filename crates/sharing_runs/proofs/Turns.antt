@@ -1,5 +1,6 @@
 -- The turns of one worker in one phase.
-use Rattle.std.proofs.Common.{◌≡◌, ℕ, ◌+◌, ◌<◌, ◌≤◌, List, [], ◌∷◌, length, take, sym, ◌∙◌, ap, subst, arith, None, ◌++◌, ⊎_elim}
+use Rattle.std.proofs.Common.{◌≡◌, ℕ, ◌+◌, ◌<◌, ◌≤◌, List, [], ◌∷◌, length, take, sym, ◌∙◌, ap, subst, arith, None, ◌++◌}
+use Rattle.std.proofs.Common.{⊎_elim}
 use Rattle.std.proofs.lemmas.Bool.{cases_lt}
 use Rattle.std.proofs.lemmas.Option.{slice_get_within, get_or_from_slice_get}
 use Rattle.std.proofs.lemmas.List.{take-append-le, take_all, length-append}
@@ -36,7 +37,8 @@ at_one-is k x y at =
 -- every net's set is a step from the load of the sets before it
 pub record AreStepsInTurn (d : Design) (trees : List (List Piece)) : Type 0 where
   pub loads : (k : ℕ) → IsLoadList d.grid (load_list d.grid d.nets (take k trees))
-  pub steps : (k : ℕ) (n : NetSpec) (tree : List Piece) → At d.nets k n → At trees k tree → IsStep d.grid n (load_list d.grid d.nets (take k trees)) 1 None tree
+  pub steps : (k : ℕ) (n : NetSpec) (tree : List Piece) → At d.nets k n → At trees k tree
+      → IsStep d.grid n (load_list d.grid d.nets (take k trees)) 1 None tree
 
 -- the turn of the net at a position, where a worker alone sees the load of all sets before it
 turn_alone : (d : Design) (trees : List (List Piece)) (position : ℕ) → AreStepsInTurn d trees
@@ -44,13 +46,15 @@ turn_alone : (d : Design) (trees : List (List Piece)) (position : ℕ) → AreSt
     (load_list d.grid d.nets (take (stretch_start (part_start 1 (length d.nets) 0) position) trees))
 turn_alone d trees position turns =
     let start : ℕ = stretch_start (part_start 1 (length d.nets) 0) position in
-    let behind : start ≤ position = stretch_start-le (part_start 1 (length d.nets) 0) position (omega (arith, first_part (length d.nets))) in
+    let behind : start ≤ position = stretch_start-le (part_start 1 (length d.nets) 0) position
+    (omega (arith, first_part (length d.nets))) in
     record {
       step = turns.steps position;
       loads = turns.loads position;
       since = λ r within. load_list-at d.grid d.nets (take position trees) r within
           ∙ load_on-between d.grid d.nets trees start position r behind
-          ∙ ap (λ before. before + load_between d.grid d.nets trees start position r) (sym (load_list-at d.grid d.nets (take start trees) r within));
+          ∙ ap (λ before. before + load_between d.grid d.nets trees start position r)
+          (sym (load_list-at d.grid d.nets (take start trees) r within));
       alone = λ one r within. load_list-at d.grid d.nets (take position trees) r within
           ∙ load_on-first d.grid d.nets trees position r
           ∙ ap (λ first. load_between d.grid d.nets trees first position r) (sym (first_part (length d.nets)))
@@ -65,18 +69,25 @@ turn_in_phase : (d : Design) (trees others : List (List Piece)) (phase position 
     (load_list d.grid d.nets (take (stretch_start (part_start 1 (length d.nets) worker) position) trees))
 turn_in_phase d trees others phase position worker turns at part =
     let only : worker ≡ 0 = omega (arith, part.worker_exists) in
-    subst (λ (k : ℕ). IsTurn d 1 None (take k (trees ∷ [])) others worker position (load_list d.grid d.nets (take position trees))
-    (load_list d.grid d.nets (take (stretch_start (part_start 1 (length d.nets) worker) position) trees))) (sym (at_one-place phase trees others at))
-    (subst (λ (sets : List (List Piece)). IsTurn d 1 None [] sets worker position (load_list d.grid d.nets (take position trees))
-    (load_list d.grid d.nets (take (stretch_start (part_start 1 (length d.nets) worker) position) trees))) (at_one-is phase trees others at)
+    subst (λ (k : ℕ). IsTurn d 1 None (take k (trees ∷ [])) others worker position
+    (load_list d.grid d.nets (take position trees))
+    (load_list d.grid d.nets (take (stretch_start (part_start 1 (length d.nets) worker) position) trees)))
+    (sym (at_one-place phase trees others at))
+    (subst (λ (sets : List (List Piece)). IsTurn d 1 None [] sets worker position
+    (load_list d.grid d.nets (take position trees))
+    (load_list d.grid d.nets (take (stretch_start (part_start 1 (length d.nets) worker) position) trees)))
+    (at_one-is phase trees others at)
     (subst (λ (w : ℕ). IsTurn d 1 None [] trees w position (load_list d.grid d.nets (take position trees))
-    (load_list d.grid d.nets (take (stretch_start (part_start 1 (length d.nets) w) position) trees))) (sym only) (turn_alone d trees position turns)))
+    (load_list d.grid d.nets (take (stretch_start (part_start 1 (length d.nets) w) position) trees))) (sym only)
+    (turn_alone d trees position turns)))
 
 -- they are a sharing run
-pub run_of_steps : (d : Design) (trees : List (List Piece)) → length trees ≡ length d.nets → AreStepsInTurn d trees → IsSharingRun d 1 None (trees ∷ [])
+pub run_of_steps : (d : Design) (trees : List (List Piece)) → length trees ≡ length d.nets → AreStepsInTurn d trees
+    → IsSharingRun d 1 None (trees ∷ [])
 run_of_steps d trees long turns = record {
   some = omega arith;
-  each = All-cons (λ (ts : List (List Piece)). length ts ≡ length d.nets) trees [] long (All-nil (λ (ts : List (List Piece)). length ts ≡ length d.nets));
+  each = All-cons (λ (ts : List (List Piece)). length ts ≡ length d.nets) trees [] long
+      (All-nil (λ (ts : List (List Piece)). length ts ≡ length d.nets));
   read = λ phase start. load_list d.grid d.nets (take start trees);
   read_loads = λ phase start. turns.loads start;
   seen = λ phase position. load_list d.grid d.nets (take position trees);
@@ -86,7 +97,8 @@ run_of_steps d trees long turns = record {
 -- no net was routed yet
 pub AreStepsInTurn-none : (d : Design) → IsLoadList d.grid (load_list d.grid d.nets []) → AreStepsInTurn d []
 AreStepsInTurn-none d loaded = record {
-  loads = λ k. subst (λ (sets : List (List Piece)). IsLoadList d.grid (load_list d.grid d.nets sets)) (sym (take-none k)) loaded;
+  loads = λ k. subst (λ (sets : List (List Piece)). IsLoadList d.grid (load_list d.grid d.nets sets))
+      (sym (take-none k)) loaded;
   steps = λ k n tree at stands. absurd (omega (arith, slice_get_within [] k tree stands));
 }
 
@@ -98,14 +110,19 @@ pub AreStepsInTurn-push : (d : Design) (trees : List (List Piece)) (tree : List 
 AreStepsInTurn-push d trees tree before loaded step =
     let all : List (List Piece) = trees ++ tree ∷ [] in
     let Loaded : List (List Piece) → Type 0 = λ sets. IsLoadList d.grid (load_list d.grid d.nets sets) in
-    let StepAfter : List (List Piece) → NetSpec → List Piece → Type 0 = λ sets n t. IsStep d.grid n (load_list d.grid d.nets sets) 1 None t in
+    let StepAfter : List (List Piece) → NetSpec → List Piece
+    → Type 0 = λ sets n t. IsStep d.grid n (load_list d.grid d.nets sets) 1 None t in
     record {
       loads = λ k. ⊎_elim
-          (λ (within : k < length trees + 1). subst Loaded (sym (take-append-le k trees (tree ∷ []) (omega (arith, within)))) (before.loads k))
-          (λ (beyond : length trees + 1 ≤ k). subst Loaded (sym (take_all k all (omega (arith, beyond, length-append trees (tree ∷ []))))) loaded)
+          (λ (within : k < length trees + 1). subst Loaded (sym (take-append-le k trees (tree ∷ []) (omega (arith, within))))
+          (before.loads k))
+          (λ (beyond : length trees + 1 ≤ k). subst Loaded
+          (sym (take_all k all (omega (arith, beyond, length-append trees (tree ∷ []))))) loaded)
           (cases_lt k (length trees + 1));
       steps = λ k n t at stands. ⊎_elim
-          (λ old. subst (λ sets. StepAfter sets n t) (sym (take-append-le k trees (tree ∷ []) (omega (arith, slice_get_within trees k t old)))) (before.steps k n t at old))
+          (λ old. subst (λ sets. StepAfter sets n t)
+          (sym (take-append-le k trees (tree ∷ []) (omega (arith, slice_get_within trees k t old))))
+          (before.steps k n t at old))
           (λ last.
           subst (λ j. StepAfter (take j all) n t) (sym last.0)
           (subst (λ sets. StepAfter sets n t) (sym (take-append_seam trees (tree ∷ [])))

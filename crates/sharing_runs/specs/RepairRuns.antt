@@ -1,7 +1,8 @@
 -- Repair runs: rip-up and reroute. Round after round, each net whose set holds an overfull edge gives it up for a new one, by
 -- workers that see each other's loads only where they read them. No thread, word or label occurs here: what was read may be
 -- any lists of loads.
-use Rattle.std.specs.Prelude.{ℕ, ◌≡◌, ◌+◌, ◌<◌, ◌≤◌, Bool, false, ltb, List, [], length, slice_index, slice_index_or, Option, Contains}
+use Rattle.std.specs.Prelude.{ℕ, ◌≡◌, ◌+◌, ◌<◌, ◌≤◌, Bool, false, ltb, List, [], length, slice_index, slice_index_or, Option}
+use Rattle.std.specs.Prelude.{Contains}
 use Rattle.std.specs.List.{filter, flat_map, list_any, range_with_len, slice_range}
 use Rattle.grid_base.specs.declared.piece.Piece.{Piece}
 use Rattle.grid_base.specs.declared.piece.Piece.TheVariants.{Edge, Via}
@@ -40,7 +41,8 @@ holds_overfull g loads pieces = list_any (is_overfull_edge g loads) pieces
 -- the positions of the nets that are to be repaired: those whose set holds an edge that is overfull at the load of all sets
 abbrev pub nets_to_repair : Design → List (List Piece) → List ℕ
 nets_to_repair d trees =
-    filter (λ position. holds_overfull d.grid (load d.grid d.nets trees) (slice_index_or trees position [])) (range_with_len 0 (length trees))
+    filter (λ position. holds_overfull d.grid (load d.grid d.nets trees) (slice_index_or trees position []))
+    (range_with_len 0 (length trees))
 
 -- the elements at these positions
 abbrev pub at_positions : {X : Type 0} → List X → List ℕ → List X
@@ -48,7 +50,8 @@ at_positions xs positions = flat_map (λ position. slice_range xs position (posi
 
 -- a turn in a round, in which these nets give up their old sets for new ones: the set that the net of this turn gets, the loads
 -- that its worker saw without the old one, and what the worker had read of them; `all` is the load of all sets before the round
-pub record IsRepairTurn (g : Grid) (workers : ℕ) (budget : Option ℕ) (all : ℕ → ℕ) (nets : List NetSpec) (old new : List (List Piece))
+pub record IsRepairTurn (g : Grid) (workers : ℕ) (budget : Option ℕ) (all : ℕ → ℕ) (nets : List NetSpec)
+    (old new : List (List Piece))
     (worker turn : ℕ) (seen read : List ℕ) : Type 0 where
   -- the set is a step from the seen loads
   pub step : (n : NetSpec) (tree : List Piece) → At nets turn n → At new turn tree → IsStep g n seen repair_scale budget tree
@@ -69,10 +72,12 @@ pub record IsRepairTurn (g : Grid) (workers : ℕ) (budget : Option ℕ) (all : 
       ≤ slice_index seen r
 
 -- a round of repair: from the sets before to those after it, with what was read and what was seen
-pub record IsRepairRound (d : Design) (workers : ℕ) (budget : Option ℕ) (before after : List (List Piece)) (read seen : ℕ → List ℕ) : Type 0 where
+pub record IsRepairRound (d : Design) (workers : ℕ) (budget : Option ℕ) (before after : List (List Piece))
+    (read seen : ℕ → List ℕ) : Type 0 where
   pub long : length after ≡ length before
   -- a net that is not to be repaired keeps its set
-  pub others : (position : ℕ) → (Contains (nets_to_repair d before) position → ⊥) → slice_index_or after position [] ≡ slice_index_or before position []
+  pub others : (position : ℕ) → (Contains (nets_to_repair d before) position → ⊥)
+      → slice_index_or after position [] ≡ slice_index_or before position []
   -- those that are have their turns in order of position, divided among the workers
   pub turns : (turn worker : ℕ) → let nets = at_positions d.nets (nets_to_repair d before) in
       IsInPart workers (length nets) worker turn
@@ -86,7 +91,8 @@ routing_overflow d trees = overflow d.grid (load d.grid d.nets trees)
 
 -- the routings, one after each round and the first before all of them, are a repair run of so many workers with at most so many
 -- rounds
-pub record IsRepairRun (d : Design) (workers : ℕ) (budget : Option ℕ) (rounds : ℕ) (routings : List (List (List Piece))) : Type 0 where
+pub record IsRepairRun (d : Design) (workers : ℕ) (budget : Option ℕ) (rounds : ℕ)
+    (routings : List (List (List Piece))) : Type 0 where
   pub some : 1 ≤ workers
   -- what was read in each round at the stretch that begins with each turn
   pub read : ℕ → ℕ → List ℕ
@@ -97,12 +103,15 @@ pub record IsRepairRun (d : Design) (workers : ℕ) (budget : Option ℕ) (round
       → IsRepairRound d workers budget before after (read round) (seen round)
   pub most : length routings ≤ rounds + 1
   -- there is a round more where there is overflow and not all rounds have been, and only there
-  pub goes_on : (round : ℕ) (trees : List (List Piece)) → At routings round trees → round + 1 < length routings → 0 < routing_overflow d trees
-  pub ends : (round : ℕ) (trees : List (List Piece)) → At routings round trees → round + 1 ≡ length routings → round < rounds → routing_overflow d trees ≡ 0
+  pub goes_on : (round : ℕ) (trees : List (List Piece)) → At routings round trees → round + 1 < length routings
+      → 0 < routing_overflow d trees
+  pub ends : (round : ℕ) (trees : List (List Piece)) → At routings round trees → round + 1 ≡ length routings → round < rounds
+      → routing_overflow d trees ≡ 0
 
 -- the result of a repair run: the first routing of least overflow
 pub record IsRepairResult (d : Design) (routings : List (List (List Piece))) (trees : List (List Piece)) : Type 0 where
   pub round : ℕ
   pub stands : At routings round trees
   pub least : (k : ℕ) (other : List (List Piece)) → At routings k other → routing_overflow d trees ≤ routing_overflow d other
-  pub first : (k : ℕ) (other : List (List Piece)) → At routings k other → k < round → routing_overflow d trees < routing_overflow d other
+  pub first : (k : ℕ) (other : List (List Piece)) → At routings k other → k < round
+      → routing_overflow d trees < routing_overflow d other

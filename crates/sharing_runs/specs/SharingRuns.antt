@@ -19,20 +19,25 @@ own_load d from to earlier trees position r =
     sum_by (λ before. load_between d.grid d.nets before from to r) earlier + load_between d.grid d.nets trees from position r
 
 -- the turn of a net in a phase: the set that it gets, the loads that its worker saw, and what the worker had read of them
-pub record IsTurn (d : Design) (workers : ℕ) (budget : Option ℕ) (earlier : List (List (List Piece))) (trees : List (List Piece))
+pub record IsTurn (d : Design) (workers : ℕ) (budget : Option ℕ) (earlier : List (List (List Piece)))
+    (trees : List (List Piece))
     (worker position : ℕ) (seen read : List ℕ) : Type 0 where
   -- the set is a step from the seen loads
-  pub step : (n : NetSpec) (tree : List Piece) → At d.nets position n → At trees position tree → IsStep d.grid n seen 1 budget tree
+  pub step : (n : NetSpec) (tree : List Piece) → At d.nets position n → At trees position tree
+      → IsStep d.grid n seen 1 budget tree
   pub loads : IsLoadList d.grid seen
   -- what is seen is what was read where the stretch began, and the load of the worker's sets since then
   pub since : (r : ℕ) → r < entries d.grid → slice_index seen r
-      ≡ slice_index read r + load_between d.grid d.nets trees (stretch_start (part_start workers (length d.nets) worker) position) position r
+      ≡ slice_index read r + load_between d.grid d.nets trees
+      (stretch_start (part_start workers (length d.nets) worker) position) position r
   -- a worker alone sees the load of all sets so far
   pub alone : workers ≡ 1 → (r : ℕ) → r < entries d.grid → slice_index seen r
-      ≡ own_load d (part_start workers (length d.nets) worker) (part_start workers (length d.nets) (worker + 1)) earlier trees position r
+      ≡ own_load d (part_start workers (length d.nets) worker)
+      (part_start workers (length d.nets) (worker + 1)) earlier trees position r
   -- a worker among others sees at least the load of its own sets so far
   pub beside : 1 < workers → (r : ℕ) → r < entries d.grid
-      → own_load d (part_start workers (length d.nets) worker) (part_start workers (length d.nets) (worker + 1)) earlier trees position r
+      → own_load d (part_start workers (length d.nets) worker)
+      (part_start workers (length d.nets) (worker + 1)) earlier trees position r
       ≤ slice_index seen r
 
 -- the sets of all phases, one per net in each, are a sharing run of so many workers

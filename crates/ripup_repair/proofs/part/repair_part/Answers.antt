@@ -13,7 +13,7 @@ use Rattle.price_workers.proofs.TurnFacts.{stands}
 use Rattle.ripup_repair.specs.Rounds.{Round, IsRound, round_of, old_sets, repaired_nets, turns_start}
 use Rattle.ripup_repair.specs.RepairTurns.{IsWithinTurns}
 use Rattle.ripup_repair.proofs.PartSteps.{count, in_nets, in_round, own_set, own_set_had, sets_within, turn_of}
-use Rattle.ripup_repair.proofs.Splits.{turns_start-le}
+use Rattle.ripup_repair.proofs.RoundSplits.{turns_start-le}
 use Rattle.ripup_repair.proofs.WorkerSteps.{begins_turns, ends_turns, may_repair, read_either, reprice_in_part}
 use Rattle.ripup_repair.proofs.part.repair_part.Goals as goal
 

@@ -1,6 +1,6 @@
 use Rattle.std.proofs.Common.{◌+◌, ◌-◌, ◌/◌, ◌∙◌, arith}
 use Rattle.ripup_repair.specs.Rounds.{round_of}
-use Rattle.ripup_repair.proofs.Splits.{halves_joined}
+use Rattle.ripup_repair.proofs.RoundSplits.{halves_joined}
 use Rattle.ripup_repair.proofs.workers.+fn-repair_parts-join+arg2+fn-repair_parts-join+arg3+repair_parts.Goals as goal
 
 pub join-requires : goal.join-requires

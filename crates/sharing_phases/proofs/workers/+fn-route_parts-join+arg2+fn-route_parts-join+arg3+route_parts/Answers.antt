@@ -1,6 +1,6 @@
 use Rattle.std.proofs.Common.{◌+◌, ◌-◌, ◌/◌, ◌∙◌, arith}
 use Rattle.sharing_phases.specs.PhaseWords.{phase_of}
-use Rattle.sharing_phases.proofs.Splits.{halves_joined}
+use Rattle.sharing_phases.proofs.PhaseSplits.{halves_joined}
 use Rattle.sharing_phases.proofs.workers.+fn-route_parts-join+arg2+fn-route_parts-join+arg3+route_parts.Goals as goal
 
 pub join-requires : goal.join-requires
