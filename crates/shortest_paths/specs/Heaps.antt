@@ -55,11 +55,13 @@ AreOrdered ks len = (j : ℕ) → 0 < j → j < len → slice_index ks (parent j
 
 -- the same where neither place is the gap
 abbrev pub AreOrderedBeside : List ℕ → ℕ → ℕ → Type 0
-AreOrderedBeside ks len gap = (j : ℕ) → 0 < j → j < len → j ≢ gap → parent j ≢ gap → slice_index ks (parent j) ≤ slice_index ks j
+AreOrderedBeside ks len gap = (j : ℕ) → 0 < j → j < len → j ≢ gap → parent j ≢ gap
+    → slice_index ks (parent j) ≤ slice_index ks j
 
 -- the keys below the gap are at least the one above it
 abbrev pub AreOrderedAround : List ℕ → ℕ → ℕ → Type 0
-AreOrderedAround ks len gap = (j : ℕ) → 0 < gap → 0 < j → j < len → parent j ≡ gap → slice_index ks (parent gap) ≤ slice_index ks j
+AreOrderedAround ks len gap = (j : ℕ) → 0 < gap → 0 < j → j < len → parent j ≡ gap
+    → slice_index ks (parent gap) ≤ slice_index ks j
 
 -- the key belongs at the gap or further up
 pub record MayRise (ks : List ℕ) (len gap key : ℕ) : Type 0 where

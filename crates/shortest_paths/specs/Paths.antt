@@ -14,7 +14,8 @@ pub record IsArc (s : Size) (pieces : List (Piece × ℕ)) (p : Piece) (a b weig
 abbrev pub IsPath : Size → List (Piece × ℕ) → ℕ → ℕ → ℕ → List Piece → Type 0
 IsPath s pieces a b total [] = (a ≡ b) × (total ≡ 0)
 IsPath s pieces a b total (p ∷ rest) =
-    (next : ℕ) × (weight : ℕ) × (left : ℕ) × IsArc s pieces p a next weight × IsPath s pieces next b left rest × (total ≡ weight + left)
+    (next : ℕ) × (weight : ℕ) × (left : ℕ) × IsArc s pieces p a next weight × IsPath s pieces next b left rest
+    × (total ≡ weight + left)
 
 -- no allowed piece weighs nothing
 abbrev pub NoneWeighsNothing : List (Piece × ℕ) → Type 0

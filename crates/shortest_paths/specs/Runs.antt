@@ -24,7 +24,8 @@ IsAnswered num rest limit v offered = (num v ≤ offered) ⊎ (limit < offered +
 
 -- no neighbour of v by an allowed piece has a number that v could lower within the limit
 abbrev pub IsSpreadWithin : Size → List (Piece × ℕ) → (ℕ → ℕ) → ℕ → (ℕ → ℕ) → ℕ → Type 0
-IsSpreadWithin s pieces rest limit num v = (p : Piece) (k u : ℕ) → Weighs pieces p k → Connects s p v u → IsAnswered num rest limit u (num v + k)
+IsSpreadWithin s pieces rest limit num v = (p : Piece) (k u : ℕ) → Weighs pieces p k → Connects s p v u
+    → IsAnswered num rest limit u (num v + k)
 
 -- each vertex that doesn't wait is spread
 abbrev pub IsSettled : Size → List (Piece × ℕ) → (ℕ → ℕ) → ℕ → Row → Type 0

@@ -34,7 +34,8 @@ pub record IsReached (s : Size) (pieces : List (Piece × ℕ)) (source : ℕ) (n
 
 -- the number of v is at most the weight of each set of allowed pieces that joins the source and v
 abbrev pub IsLow : Size → List (Piece × ℕ) → ℕ → (ℕ → ℕ) → ℕ → Type 0
-IsLow s pieces source num v = (set : List (Piece × ℕ)) → IsSetOf pieces set → WalkBetween s (IsAllowed set) source v → num v ≤ weight set
+IsLow s pieces source num v = (set : List (Piece × ℕ)) → IsSetOf pieces set → WalkBetween s (IsAllowed set) source v
+    → num v ≤ weight set
 
 -- no neighbour of v by an allowed piece has a number that v could lower
 abbrev pub IsRelaxed : Size → List (Piece × ℕ) → (ℕ → ℕ) → ℕ → Type 0

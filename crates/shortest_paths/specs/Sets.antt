@@ -32,7 +32,8 @@ AreApart s pieces T = (set : List (Piece × ℕ)) → IsSetOf pieces set → ¬ 
 abbrev pub IsEither : ℕ → ℕ → ℕ → Type 0
 IsEither a b v = (v ≡ a) ⊎ (v ≡ b)
 
--- the distance of two vertices is the least weight of a set of allowed pieces that joins them; where none does there is no distance
+-- the distance of two vertices is the least weight of a set of allowed pieces that joins them; where none does there is no
+-- distance
 abbrev pub IsDistance : Size → List (Piece × ℕ) → ℕ → ℕ → Option ℕ → Type 0
 IsDistance s pieces a b (Some d) = IsLeastWeight s pieces (IsEither a b) d
 IsDistance s pieces a b None = AreApart s pieces (IsEither a b)

@@ -15,10 +15,12 @@ use Rattle.shortest_paths.specs.Sets.{IsSetOf, IsLeastWeight, AreApart, RisesSlo
 -- a table for the masks up to the last one holds: a terminal alone has 0 at itself, each number is at most that of every
 -- neighbour and the weight of the piece between, and at most the sum of the two numbers for each split of its mask. Only
 -- "at most" is asked, so a table may have any lower numbers.
-pub record IsHoldingTable (s : Size) (pieces : List (Piece × ℕ)) (terminals : List Vertex) (last : ℕ) (number : ℕ → ℕ → ℕ) : Type 0 where
+pub record IsHoldingTable (s : Size) (pieces : List (Piece × ℕ)) (terminals : List Vertex) (last : ℕ)
+    (number : ℕ → ℕ → ℕ) : Type 0 where
   pub own : (place : ℕ) (v : Vertex) → At terminals place v → single place ≤ last → number (single place) v.0 ≡ 0
   pub steps : (mask : ℕ) → 0 < mask → mask ≤ last → RisesSlowly s pieces (number mask)
-  pub splits : (one other mask v : ℕ) → AreParts one other mask → mask ≤ last → IsVertex s v → number mask v ≤ number one v + number other v
+  pub splits : (one other mask v : ℕ) → AreParts one other mask → mask ≤ last → IsVertex s v
+      → number mask v ≤ number one v + number other v
 
 -- a family of lower bounds: a table that holds for all masks but that of all terminals
 abbrev pub IsFamily : Size → List (Piece × ℕ) → List Vertex → (ℕ → ℕ → ℕ) → Type 0
@@ -53,16 +55,20 @@ IsReachedBy s pieces terminals number mask v =
 
 -- the numbers of a table that was pruned: none is kept where it and what is left to go are above a limit, `far` stands
 -- where none is kept, and what could lower a number was refused for that limit
-pub record IsPrunedTable (s : Size) (pieces : List (Piece × ℕ)) (terminals : List Vertex) (last : ℕ) (low : ℕ → ℕ → ℕ) (limit far : ℕ) (number : ℕ → ℕ → ℕ) : Type 0 where
-  pub within : (mask v : ℕ) → 0 < mask → mask ≤ last → number mask v < far → number mask v + rest_of terminals low mask v ≤ limit
+pub record IsPrunedTable (s : Size) (pieces : List (Piece × ℕ)) (terminals : List Vertex) (last : ℕ) (low : ℕ → ℕ → ℕ)
+    (limit far : ℕ) (number : ℕ → ℕ → ℕ) : Type 0 where
+  pub within : (mask v : ℕ) → 0 < mask → mask ≤ last → number mask v < far
+      → number mask v + rest_of terminals low mask v ≤ limit
   pub above : (mask v : ℕ) → number mask v ≤ far
   pub trees : (mask v : ℕ) → 0 < mask → mask ≤ last → number mask v < far → HasTree s pieces terminals mask v (number mask v)
   pub reached : (mask v : ℕ) → 0 < mask → mask ≤ last → number mask v < far → IsReachedBy s pieces terminals number mask v
   pub own : (place : ℕ) (v : Vertex) → At terminals place v → single place ≤ last
       → (number (single place) v.0 ≡ 0) ⊎ (limit < rest_of terminals low (single place) v.0)
-  pub steps : (mask : ℕ) (p : Piece) (k v u : ℕ) → 0 < mask → mask ≤ last → Weighs pieces p k → Connects s p v u → number mask v < far
+  pub steps : (mask : ℕ) (p : Piece) (k v u : ℕ) → 0 < mask → mask ≤ last → Weighs pieces p k → Connects s p v u
+      → number mask v < far
       → (number mask u ≤ number mask v + k) ⊎ (limit < number mask v + k + rest_of terminals low mask u)
-  pub splits : (one other mask v : ℕ) → AreParts one other mask → mask ≤ last → IsVertex s v → number one v < far → number other v < far
+  pub splits : (one other mask v : ℕ) → AreParts one other mask → mask ≤ last → IsVertex s v → number one v < far
+      → number other v < far
       → (number mask v ≤ number one v + number other v) ⊎ (limit < number one v + number other v + rest_of terminals low mask v)
 
 -- the answer for a mask and a vertex under a limit: the least weight of a set that joins the vertex and the mask's

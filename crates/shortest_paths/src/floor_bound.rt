@@ -38,7 +38,9 @@ impl<'a, W: Weights> FloorBound<'a, W> {
         requires goal { IsVertex size goal.0 }
         requires floors { AreFloors floors (W.pieces weights.now) }
         ensures weights { result.weights.now ≡ weights.now }
-        ensures rest { floors.along_x ≤ max_weight → floors.along_y ≤ max_weight → floors.via ≤ max_weight → (v : ℕ) → IsVertex size v → ⟦<FloorBound<'a, W> as Bound>⟧.rest result v ≡ floor_distance floors (place_at size v) (place_at size goal.0) }
+        ensures rest { floors.along_x ≤ max_weight → floors.along_y ≤ max_weight → floors.via ≤ max_weight → (v : ℕ)
+            → IsVertex size v → ⟦<FloorBound<'a, W> as Bound>⟧.rest result v
+            ≡ floor_distance floors (place_at size v) (place_at size goal.0) }
     {
         FloorBound {
             weights,

@@ -19,11 +19,13 @@ use grid_base::{Size, Vertex};
 /// most every set that joins the terminals.
 pub fn holding_tables_bound_sets(size: &Size, terminals: &[Vertex])
     ensures sets { (pieces : List (Piece × ℕ)) (last : ℕ) (number : ℕ → ℕ → ℕ) (set : List (Piece × ℕ)) (mask v : ℕ)
-        → IsHoldingTable size.now pieces terminals.now last number → last ≤ all_of terminals.now → IsSetOf pieces set → 0 < mask → mask ≤ last
+        → IsHoldingTable size.now pieces terminals.now last number → last ≤ all_of terminals.now → IsSetOf pieces set → 0 < mask
+        → mask ≤ last
         → Joins size.now (IsAllowed set) (WithVertex terminals.now mask v) → number mask v ≤ weight set }
     ensures root { (pieces : List (Piece × ℕ)) (number : ℕ → ℕ → ℕ) (set : List (Piece × ℕ)) (root : Vertex)
         → IsHoldingTable size.now pieces terminals.now (all_but_root terminals.now) number → 2 ≤ length terminals.now
-        → At terminals.now (length terminals.now - 1) root → IsSetOf pieces set → Joins size.now (IsAllowed set) (InVertices terminals.now)
+        → At terminals.now (length terminals.now - 1) root → IsSetOf pieces set
+        → Joins size.now (IsAllowed set) (InVertices terminals.now)
         → number (all_but_root terminals.now) root.0 ≤ weight set }
 {}
 
@@ -44,12 +46,19 @@ pub fn pruned_tables_hold_completed(size: &Size, terminals: &[Vertex])
 /// edges, each of which weighs as much as the lightest edge over it.
 pub fn least_weights_are_those_of_tiles(flat: &Size, size: &Size, terminals: &[Vertex])
     ensures joined { (pieces across : List (Piece × ℕ)) → HaveSameTiles flat.now size.now → WeighsOnlyPieces size.now pieces
-        → HasFreeVias size.now pieces → AreLeastBetweenTiles size.now pieces across → All (λ v. IsVertex size.now v.0) terminals.now
-        → Joins size.now (IsAllowed pieces) (InVertices terminals.now) ↔ Joins flat.now (IsAllowed across) (InVertices (tiles_of size.now terminals.now)) }
-    ensures least { (pieces across : List (Piece × ℕ)) (least : ℕ) → HaveSameTiles flat.now size.now → WeighsOnlyPieces size.now pieces
-        → HasFreeVias size.now pieces → AreLeastBetweenTiles size.now pieces across → All (λ v. IsVertex size.now v.0) terminals.now
-        → IsLeastWeight size.now pieces (InVertices terminals.now) least ↔ IsLeastWeight flat.now across (InVertices (tiles_of size.now terminals.now)) least }
-    ensures between { (pieces across : List (Piece × ℕ)) (a b least : ℕ) → HaveSameTiles flat.now size.now → WeighsOnlyPieces size.now pieces
+        → HasFreeVias size.now pieces → AreLeastBetweenTiles size.now pieces across
+        → All (λ v. IsVertex size.now v.0) terminals.now
+        → Joins size.now (IsAllowed pieces) (InVertices terminals.now)
+        ↔ Joins flat.now (IsAllowed across) (InVertices (tiles_of size.now terminals.now)) }
+    ensures least { (pieces across : List (Piece × ℕ)) (least : ℕ) → HaveSameTiles flat.now size.now
+        → WeighsOnlyPieces size.now pieces
+        → HasFreeVias size.now pieces → AreLeastBetweenTiles size.now pieces across
+        → All (λ v. IsVertex size.now v.0) terminals.now
+        → IsLeastWeight size.now pieces (InVertices terminals.now) least
+        ↔ IsLeastWeight flat.now across (InVertices (tiles_of size.now terminals.now)) least }
+    ensures between { (pieces across : List (Piece × ℕ)) (a b least : ℕ) → HaveSameTiles flat.now size.now
+        → WeighsOnlyPieces size.now pieces
         → HasFreeVias size.now pieces → AreLeastBetweenTiles size.now pieces across → IsVertex size.now a → IsVertex size.now b
-        → IsLeastWeight size.now pieces (IsEither a b) least ↔ IsLeastWeight flat.now across (IsEither (tile_of size.now a) (tile_of size.now b)) least }
+        → IsLeastWeight size.now pieces (IsEither a b) least
+        ↔ IsLeastWeight flat.now across (IsEither (tile_of size.now a) (tile_of size.now b)) least }
 {}

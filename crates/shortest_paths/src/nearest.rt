@@ -55,8 +55,10 @@ fn next_goal<W: Weights>(row: &mut Row, weights: &W, count: u32, source: Vertex)
     ensures fell { FallsFrom (W.size weights.now) (W.pieces weights.now) row.old row.new }
     ensures goal { IfSome result (λ v. IsFoundGoal row.new count source.0 v.0) }
     ensures number { IfSome result (λ v. number_in row.new v.0 < far) }
-    ensures nearest { IfSome result (λ v. NoneIsNearer (W.size weights.now) (W.pieces weights.now) source.0 (IsFoundGoal row.new count source.0) (number_in row.new v.0)) }
-    ensures none { result ≡ None → NoneIsNearer (W.size weights.now) (W.pieces weights.now) source.0 (IsFoundGoal row.new count source.0) far }
+    ensures nearest { IfSome result (λ v. NoneIsNearer (W.size weights.now) (W.pieces weights.now) source.0
+        (IsFoundGoal row.new count source.0) (number_in row.new v.0)) }
+    ensures none { result ≡ None → NoneIsNearer (W.size weights.now) (W.pieces weights.now) source.0
+        (IsFoundGoal row.new count source.0) far }
 {
     let bound = NoBound { weights };
     while row.is_waiting() {

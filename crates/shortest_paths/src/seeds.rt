@@ -56,7 +56,8 @@ fn seed_alone<B: Bound>(row: &mut Row, bound: &B, terminals: &[Vertex], mask: u3
     requires search { IsSearch (B.rest bound.now) limit row.old }
     ensures search { IsSearch (B.rest bound.now) limit row.new }
     ensures found { FindsMore row.old.found row.new.found }
-    ensures seeded { (rows : Kept) → IsSeeded rows terminals.now mask (B.rest bound.now) limit row.old → IsSeeded rows terminals.now mask (B.rest bound.now) limit row.new }
+    ensures seeded { (rows : Kept) → IsSeeded rows terminals.now mask (B.rest bound.now) limit row.old
+        → IsSeeded rows terminals.now mask (B.rest bound.now) limit row.new }
     ensures alone { AreOffered terminals.now mask (B.rest bound.now) limit (number_in row.new) (length terminals.now) }
 {
     for place in 0..terminals.len() as u32 {
@@ -88,8 +89,10 @@ fn seed_split<B: Bound>(row: &mut Row, rows: &KeptRows, bound: &B, one: u32, mas
     ensures search { IsSearch (B.rest bound.now) limit row.new }
     ensures found { FindsMore row.old.found row.new.found }
     ensures falls { (v : ℕ) → number_in row.new v ≤ number_in row.old v }
-    ensures seeded { (terminals : List Terminal) → IsSeeded rows.now terminals mask (B.rest bound.now) limit row.old → IsSeeded rows.now terminals mask (B.rest bound.now) limit row.new }
-    ensures offered { (v : ℕ) → IsSumOffered (table_of rows.now row.new) one (mask - one) (B.rest bound.now) limit (number_in row.new) v }
+    ensures seeded { (terminals : List Terminal) → IsSeeded rows.now terminals mask (B.rest bound.now) limit row.old
+        → IsSeeded rows.now terminals mask (B.rest bound.now) limit row.new }
+    ensures offered { (v : ℕ) → IsSumOffered (table_of rows.now row.new) one (mask - one) (B.rest bound.now) limit
+        (number_in row.new) v }
 {
     for index in 0..rows.shared_len(one, mask - one) {
         let first = rows.number(one, index);
