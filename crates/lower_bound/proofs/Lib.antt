@@ -1,19 +1,14 @@
 mod Reach
 mod Shares
-mod Crossing
-mod ListsOf
+pub mod Crossing
 mod ManyBounds
 pub mod Costed
 mod AtRoot
 mod HalvesOf
 mod Mapped
 mod Filling
-mod Apart
 mod Farthest
 pub mod LowBounds
-mod Held
-mod Parts
-mod Along
 pub mod TileBounds
 pub mod CostLists
 pub mod ClassBounds

@@ -16,7 +16,8 @@ use Rattle.lower_bound.specs.Representatives.{AreRepresentatives}
 use Rattle.lower_bound.specs.TileCosts.{costs_between}
 
 -- the list holds the least costs between the tiles of a grid, at prices of the edges alone
-pub record AreClassCosts (g : Grid) (width : ℕ) (over : Ground) (prices : List ℕ) (flat : Size) (across : List (Piece × ℕ)) : Type 0 where
+pub record AreClassCosts (g : Grid) (width : ℕ) (over : Ground) (prices : List ℕ) (flat : Size)
+    (across : List (Piece × ℕ)) : Type 0 where
   pub flat_of : IsFlatOf flat (size_of g)
   pub wide : IsNetWidth g width
   pub priced : AreEdgePrices g prices

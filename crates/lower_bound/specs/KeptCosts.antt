@@ -10,4 +10,5 @@ use Rattle.lower_bound.specs.declared.kept_costs.KeptCost.{KeptCost}
 -- each cost that is kept is the least of joining its tiles
 abbrev pub AreKeptCosts : Size → List (Piece × ℕ) → List KeptCost → Type 0
 AreKeptCosts s pieces entries =
-    (place : ℕ) (entry : KeptCost) → At entries place entry → IfSome entry.cost (λ cost. IsLeastWeight s pieces (InVertices entry.tiles) cost)
+    (place : ℕ) (entry : KeptCost) → At entries place entry
+    → IfSome entry.cost (λ cost. IsLeastWeight s pieces (InVertices entry.tiles) cost)

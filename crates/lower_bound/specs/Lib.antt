@@ -2,12 +2,9 @@ pub mod ClassWords
 pub mod Costs
 pub mod HalfWords
 pub mod KeptCosts
-pub mod MoatWords
 pub mod Moats
 pub mod NetBounds
 pub mod Raised
 pub mod Representatives
-pub mod RowLists
 pub mod Spread
-pub mod TableWords
 pub mod TileCosts

@@ -11,7 +11,8 @@ use Rattle.shortest_paths.specs.Sets.{IsSetOf, weight}
 
 -- a number is at most the distance of two vertices: no set of allowed pieces that joins them weighs less
 abbrev pub IsWithinDistance : Size → List (Piece × ℕ) → ℕ → ℕ → ℕ → Type 0
-IsWithinDistance s pieces a b n = (set : List (Piece × ℕ)) → IsSetOf pieces set → WalkBetween s (IsAllowed set) a b → n ≤ weight set
+IsWithinDistance s pieces a b n = (set : List (Piece × ℕ)) → IsSetOf pieces set → WalkBetween s (IsAllowed set) a b
+    → n ≤ weight set
 
 -- moats hold: there is one radius per terminal, and the radii of any two terminals add up to at most their distance
 pub record AreMoats (s : Size) (pieces : List (Piece × ℕ)) (terminals : List Vertex) (radii : List ℕ) : Type 0 where

@@ -33,7 +33,8 @@ pub record AreLeastOnAll (s : Size) (pieces : List (Piece × ℕ)) (costs : List
 -- the tile edges that have a cost, each with it
 abbrev pub costs_between : List ℕ → List (Piece × ℕ)
 costs_between costs =
-    map (λ e. (Edge (record { 0 = e }), slice_index costs e)) (filter (λ e. ltb (slice_index costs e) no_cost) (range_with_len 0 (length costs)))
+    map (λ e. (Edge (record { 0 = e }), slice_index costs e))
+    (filter (λ e. ltb (slice_index costs e) no_cost) (range_with_len 0 (length costs)))
 
 -- what a tile edge costs at least
 abbrev pub cost_over : List ℕ → ℕ → ℕ

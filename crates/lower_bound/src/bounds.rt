@@ -77,8 +77,10 @@ pub fn net_bound(
     requires ground { JoinsTerminals grid.now ground net.now.terminals }
     requires labels { labels_size labels.old ≡ grids.size_of grid.now }
     requires room { rooted_masks ≤ masks_of labels.old }
-    ensures bound { IsNetBound (grids.size_of grid.now) (costed grid.now net.now.width ground prices.now piece) net.now.terminals result }
-    ensures low { (set : List Piece) → HasNoRepeats set → All (Allows grid.now ground) set → JoinsList (grids.size_of grid.now) set net.now.terminals
+    ensures bound { IsNetBound (grids.size_of grid.now)
+        (costed grid.now net.now.width ground prices.now piece) net.now.terminals result }
+    ensures low { (set : List Piece) → HasNoRepeats set → All (Allows grid.now ground) set
+        → JoinsList (grids.size_of grid.now) set net.now.terminals
         → result ≤ set_cost grid.now net.now.width prices.now piece set }
     ensures size { labels_size labels.new ≡ labels_size labels.old }
     ensures masks { masks_of labels.new ≡ masks_of labels.old }

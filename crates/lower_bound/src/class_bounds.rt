@@ -93,7 +93,8 @@ impl ClassCosts<'_> {
         requires joined { Joins (size_of self.old.grid.now) (IsAllowed (class_pieces self.old)) (InVertices terminals.now) }
         requires labels { labels_size labels.old ≡ tiles_size self.old }
         requires room { rooted_masks ≤ masks_of labels.old }
-        ensures least { IfOk result (IsLeastWeight (size_of self.old.grid.now) (class_pieces self.old) (InVertices terminals.now)) }
+        ensures least { IfOk result (IsLeastWeight (size_of self.old.grid.now)
+            (class_pieces self.old) (InVertices terminals.now)) }
         ensures class { KeepsClass self.old self.new }
         ensures current { IsCurrentClass self.new }
         ensures size { labels_size labels.new ≡ labels_size labels.old }
@@ -117,7 +118,8 @@ impl ClassCosts<'_> {
         requires joined { Joins (size_of self.old.grid.now) (IsAllowed (class_pieces self.old)) (InVertices terminals.now) }
         requires labels { labels_size labels.old ≡ tiles_size self.old }
         requires room { rooted_masks ≤ masks_of labels.old }
-        ensures sum { IfOk result (IsSumOfHalves (size_of self.old.grid.now) (class_pieces self.old) terminals.now (length terminals.now)) }
+        ensures sum { IfOk result (IsSumOfHalves (size_of self.old.grid.now) (class_pieces self.old)
+            terminals.now (length terminals.now)) }
         ensures class { KeepsClass self.old self.new }
         ensures current { IsCurrentClass self.new }
         ensures size { labels_size labels.new ≡ labels_size labels.old }
@@ -136,7 +138,9 @@ impl ClassCosts<'_> {
     fn represented(&self, alloc: Global, terminals: &[Vertex]) -> Result<Vec<Vertex>, NoMemory>
         requires current { IsCurrentClass self.now }
         requires vertices { All (λ v. IsVertex (size_of self.now.grid.now) v.0) terminals.now }
-        ensures { IfOk result (λ tiles. tiles.items ≡ words.represented self.now.representatives.of.items (tile_pieces.tiles_of (size_of self.now.grid.now) terminals.now)) }
+        ensures { IfOk result (λ tiles. tiles.items
+            ≡ words.represented self.now.representatives.of.items
+            (tile_pieces.tiles_of (size_of self.now.grid.now) terminals.now)) }
     {
         let size = self.grid.size();
         let per_layer = size.cols() * size.rows();

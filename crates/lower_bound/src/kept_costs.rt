@@ -54,7 +54,8 @@ impl KeptCosts {
 
     /// The least cost of these tiles, if it is kept.
     pub(crate) fn get(&self, tiles: &[Vertex; 5]) -> Option<u64>
-        ensures { (s : Size) (pieces : List (Piece × ℕ)) → AreKeptCosts s pieces self.now.entries.items → IfSome result (λ cost. IsLeastWeight s pieces (InVertices tiles.now) cost) }
+        ensures { (s : Size) (pieces : List (Piece × ℕ)) → AreKeptCosts s pieces self.now.entries.items
+            → IfSome result (λ cost. IsLeastWeight s pieces (InVertices tiles.now) cost) }
     {
         let entry = &self.entries[self.place_of(tiles)];
         if entry.tiles == *tiles {
@@ -66,7 +67,8 @@ impl KeptCosts {
 
     /// Keeps the least cost of these tiles.
     pub(crate) fn put(&mut self, tiles: [Vertex; 5], cost: u64)
-        ensures { (s : Size) (pieces : List (Piece × ℕ)) → AreKeptCosts s pieces self.old.entries.items → IsLeastWeight s pieces (InVertices tiles) cost → AreKeptCosts s pieces self.new.entries.items }
+        ensures { (s : Size) (pieces : List (Piece × ℕ)) → AreKeptCosts s pieces self.old.entries.items
+            → IsLeastWeight s pieces (InVertices tiles) cost → AreKeptCosts s pieces self.new.entries.items }
     {
         let place = self.place_of(&tiles);
         self.entries[place] = KeptCost {

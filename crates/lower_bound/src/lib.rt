@@ -1,13 +1,9 @@
 //! Lower bounds of what a net costs at a price list.
 //!
-//! The net bound is what `dual_bound` sums over the nets. Tables and moats are for those who bring their own: each is tested,
-//! and where it holds it bounds what every set that joins the terminals weighs.
+//! The net bound is what `dual_bound` sums over the nets:
 //!
 //! ```text
 //! let least = net_bound(&grid, &net, ground, &prices, 0, &mut labels);
-//! if moats_hold(&weights, size, terminals, &moats, &mut labels) {
-//!     // the sum of the radii is a lower bound too
-//! }
 //! ```
 //!
 //! Where a piece alone costs nothing, vias do not, and the bound is that of the net's tiles. `ClassCosts` keeps what nets of
@@ -22,10 +18,11 @@
 //! Tiles that edges without cost join have one of them to stand for all, and least costs of a few tiles are kept, so a price
 //! list that is 0 nearly everywhere takes no longer than another.
 //!
-//! It stands on `shortest_paths` for searches and the law of tables, on `steiner_exact` for tables under bounds, on
-//! `edge_prices` for costs, and on `grid_graph` and `grid_base`. Want of memory alone is a free answer. Promised: the net bound
-//! is exactly that of its definition, which ranges over all subsets of the net's ground, and no subset that joins the terminals
-//! costs less.
+//! It stands on `shortest_paths` for searches, on `steiner_exact` for tables under bounds, on `edge_prices` for costs, and on
+//! `grid_graph` and `grid_base`. Tables and moats that others bring are tested by `brought_bounds`.
+//!
+//! Promised: the net bound is exactly that of its definition, which ranges over all subsets of the net's ground, and no subset
+//! that joins the terminals costs less. Want of memory alone is a free answer.
 #![tactic(auto)]
 
 mod bounds;
@@ -33,37 +30,21 @@ mod class_bounds;
 mod class_costs;
 mod extra;
 mod halves;
-mod holding;
 mod kept_costs;
 mod kept_halves;
 mod kept_least;
 mod laws;
 mod least;
 mod limits;
-mod moats;
-mod own;
-mod radii;
 mod representatives;
-mod rising;
-mod room;
-mod rows;
-mod splitting;
 mod spread;
-mod table;
 mod tile_costs;
 
 pub use bounds::net_bound;
 pub use class_costs::ClassCosts;
 pub use extra::Extra;
-pub use holding::table_holds;
 pub use laws::{moats_bound_sets, net_bounds_are_low};
-pub use limits::MAX_NUMBER;
-pub use moats::Moats;
-pub use radii::Radii;
-pub use room::moats_hold;
-pub use rows::Rows;
 pub use spread::spread_five;
-pub use table::Table;
 pub use tile_costs::TileCosts;
 
 #[cfg(test)]

@@ -72,7 +72,8 @@ fn find(of: &[u32], v: u32) -> u32
     requires below { AreNoGreater of.now }
     requires vertex { v < length of.now }
     ensures below { result ≤ v }
-    ensures leads { (s : AnySize) (pieces : List (AnyPiece × ℕ)) → AreRepresentatives s pieces of.now → WalkBetween s (IsFree pieces) v result }
+    ensures leads { (s : AnySize) (pieces : List (AnyPiece × ℕ)) → AreRepresentatives s pieces of.now
+        → WalkBetween s (IsFree pieces) v result }
 {
     let mut here = v;
     while of[here as usize] != here {
@@ -88,7 +89,8 @@ fn join(of: &mut [u32], one: u32, other: u32)
     requires other { other < length of.old }
     ensures long { length of.new ≡ length of.old }
     ensures below { AreNoGreater of.new }
-    ensures leads { (s : AnySize) (pieces : List (AnyPiece × ℕ)) → AreRepresentatives s pieces of.old → WalkBetween s (IsFree pieces) one other → AreRepresentatives s pieces of.new }
+    ensures leads { (s : AnySize) (pieces : List (AnyPiece × ℕ)) → AreRepresentatives s pieces of.old
+        → WalkBetween s (IsFree pieces) one other → AreRepresentatives s pieces of.new }
 {
     let one = find(of, one);
     let other = find(of, other);
@@ -128,7 +130,8 @@ fn flatten(of: &mut [u32])
     requires { AreNoGreater of.old }
     ensures long { length of.new ≡ length of.old }
     ensures below { AreNoGreater of.new }
-    ensures leads { (s : AnySize) (pieces : List (AnyPiece × ℕ)) → AreRepresentatives s pieces of.old → AreRepresentatives s pieces of.new }
+    ensures leads { (s : AnySize) (pieces : List (AnyPiece × ℕ)) → AreRepresentatives s pieces of.old
+        → AreRepresentatives s pieces of.new }
 {
     for v in 0..of.len() {
         of[v] = of[of[v] as usize];

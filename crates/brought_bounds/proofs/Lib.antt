@@ -1,0 +1,5 @@
+mod Along
+mod Apart
+mod Held
+mod ListsOf
+mod Parts

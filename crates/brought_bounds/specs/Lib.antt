@@ -1,0 +1,3 @@
+pub mod MoatWords
+pub mod RowLists
+pub mod TableWords

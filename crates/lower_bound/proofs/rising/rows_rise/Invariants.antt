@@ -1,7 +1,0 @@
-use Rattle.std.proofs.Common.{◌<◌, ◌≤◌, ℕ}
-use Rattle.shortest_paths.specs.Sets.{RisesSlowly}
-use Rattle.lower_bound.specs.TableWords.{table_number}
-use Rattle.lower_bound.proofs.rising.rows_rise.Given as goal
-
-abbrev pub invariant-loop-place : goal.invariant-loop-place
-invariant-loop-place g l = (mask : ℕ) → 0 < mask → mask ≤ l.place → RisesSlowly l.size (g.W.Weights.pieces l.weights) (table_number l.rows mask)

@@ -1,6 +1,0 @@
-use Rattle.std.proofs.Common.{◌<◌, ℕ}
-use Rattle.lower_bound.specs.MoatWords.{HasRoom}
-use Rattle.lower_bound.proofs.room.has_room_everywhere.Given as goal
-
-abbrev pub invariant-loop-other : goal.invariant-loop-other
-invariant-loop-other l = (other : ℕ) → other < l.other → HasRoom l.labels l.terminals l.radii l.place other
