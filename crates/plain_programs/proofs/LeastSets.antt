@@ -1,5 +1,6 @@
 -- The lightest of all sets of pieces is found by leaving out and taking each piece in turn.
-use Rattle.std.proofs.Common.{◌≡◌, ◌≢◌, ℕ, suc, ◌+◌, ◌<◌, ◌≤◌, ◌⊎◌, List, [], ◌∷◌, ◌++◌, length, min, ◌-◌, ◌==◌, true, false, take, drop, get_or, refl, sym, ◌∙◌, ap, subst, inl, inr, ⊎_elim, Contains, arith}
+use Rattle.std.proofs.Common.{◌≡◌, ◌≢◌, ℕ, suc, ◌+◌, ◌<◌, ◌≤◌, ◌⊎◌, List, [], ◌∷◌, ◌++◌, length, min, ◌-◌, ◌==◌, true, false}
+use Rattle.std.proofs.Common.{take, drop, get_or, refl, sym, ◌∙◌, ap, subst, inl, inr, ⊎_elim, Contains, arith}
 use Rattle.std.proofs.lemmas.Bool.{cases_eq, cases_lt, eqb-true}
 use Rattle.std.proofs.lemmas.List.{take_all}
 use Rattle.std.proofs.lemmas.List.Sums.{sum_by-cons}
@@ -52,9 +53,13 @@ with_head x y xs other less =
     let by_rest = sum_by-cons (λ (z : Piece × ℕ). z.1) y less.rest in
     record {
       rest = y ∷ less.rest;
-      kept = λ z at. ⊎_elim (λ here. in_head y xs z here) (λ behind. Contains-rest y xs z (less.kept z behind)) (head_or_rest y less.rest z at);
-      others = λ z at. ⊎_elim (λ here is. other (sym here ∙ is)) (λ behind. less.others z behind) (head_or_rest y less.rest z at);
-      all = λ z at. ⊎_elim (λ here. inr (in_head y less.rest z here)) (λ behind. ⊎_elim (λ is. inl is) (λ left. inr (Contains-rest y less.rest z left)) (less.all z behind)) (head_or_rest y xs z at);
+      kept = λ z at. ⊎_elim (λ here. in_head y xs z here) (λ behind. Contains-rest y xs z (less.kept z behind))
+          (head_or_rest y less.rest z at);
+      others = λ z at. ⊎_elim (λ here is. other (sym here ∙ is)) (λ behind. less.others z behind)
+          (head_or_rest y less.rest z at);
+      all = λ z at. ⊎_elim (λ here. inr (in_head y less.rest z here))
+          (λ behind. ⊎_elim (λ is. inl is) (λ left. inr (Contains-rest y less.rest z left)) (less.all z behind))
+          (head_or_rest y xs z at);
       lighter = omega (arith, less.lighter, by, by_rest);
       lacks = ⊎_elim
           (λ none. inl (λ at. ⊎_elim (λ here. other (sym here)) (λ behind. none behind) (head_or_rest y xs x at)))
@@ -71,10 +76,12 @@ without x [] = record {
   lighter = omega arith;
   lacks = inl (λ at. omega (arith, at.1));
 }
-without x (y ∷ xs) = ⊎_elim (λ same. without_head x y xs same (without x xs)) (λ other. with_head x y xs other (without x xs)) (entry_cases y x)
+without x (y ∷ xs) = ⊎_elim (λ same. without_head x y xs same (without x xs)) (λ other. with_head x y xs other (without x xs))
+    (entry_cases y x)
 
 -- where nothing is left to take, the chosen pieces join the vertices or none do
-pub least_joined : (s : Size) (chosen : List Piece) (T : ℕ → Type 0) → Joins s (InPieces chosen) T → IsLeastBeside s chosen [] T 0
+pub least_joined : (s : Size) (chosen : List Piece) (T : ℕ → Type 0) → Joins s (InPieces chosen) T
+    → IsLeastBeside s chosen [] T 0
 least_joined s chosen T joins = record {
   limit = omega arith;
   joined = λ low. record {
@@ -86,25 +93,35 @@ least_joined s chosen T joins = record {
   lightest = λ part from joined. omega arith;
 }
 
-pub least_apart : (s : Size) (chosen : List Piece) (T : ℕ → Type 0) → ¬ Joins s (InPieces chosen) T → IsLeastBeside s chosen [] T apart
+pub least_apart : (s : Size) (chosen : List Piece) (T : ℕ → Type 0) → ¬ Joins s (InPieces chosen) T
+    → IsLeastBeside s chosen [] T apart
 least_apart s chosen T none = record {
   limit = omega arith;
   joined = λ low. absurd (omega (arith, low));
   lightest = λ part from joins. absurd (none (Joins-superset s (IsChosen chosen part) (InPieces chosen) T
-      (λ p taken. ⊎_elim (λ in_chosen. in_chosen) (λ in_part. absurd (let at = from (p, in_part.0) in_part.1 in omega (arith, at.1))) taken) joins));
+      (λ p taken. ⊎_elim (λ in_chosen. in_chosen)
+      (λ in_part. absurd (let at = from (p, in_part.0) in_part.1 in omega (arith, at.1))) taken) joins));
 }
 
 -- some of the pieces, and the rest of them
-from_rest : (x : Piece × ℕ) (pieces part : List (Piece × ℕ)) → ((y : Piece × ℕ) → Contains part y → Contains (x ∷ pieces) y) → ((y : Piece × ℕ) → Contains part y → y ≢ x) → (y : Piece × ℕ) → Contains part y → Contains pieces y
-from_rest x pieces part from others y at = ⊎_elim (λ here. absurd (others y at here)) (λ rest. rest) (head_or_rest x pieces y (from y at))
+from_rest : (x : Piece × ℕ) (pieces part : List (Piece × ℕ)) → ((y : Piece × ℕ) → Contains part y → Contains (x ∷ pieces) y)
+    → ((y : Piece × ℕ) → Contains part y → y ≢ x) → (y : Piece × ℕ) → Contains part y → Contains pieces y
+from_rest x pieces part from others y at = ⊎_elim (λ here. absurd (others y at here)) (λ rest. rest)
+    (head_or_rest x pieces y (from y at))
 
-lightest_of_two : (s : Size) (chosen : List Piece) (x : Piece × ℕ) (pieces : List (Piece × ℕ)) (T : ℕ → Type 0) (a b : ℕ) → IsLeastBeside s chosen pieces T a → IsLeastBeside s (chosen ++ x.0 ∷ []) pieces T b →
-    (part : List (Piece × ℕ)) → ((y : Piece × ℕ) → Contains part y → Contains (x ∷ pieces) y) → Joins s (IsChosen chosen part) T → min a (b + x.1) ≤ weight part
+lightest_of_two : (s : Size) (chosen : List Piece) (x : Piece × ℕ) (pieces : List (Piece × ℕ)) (T : ℕ → Type 0) (a b : ℕ)
+    → IsLeastBeside s chosen pieces T a → IsLeastBeside s (chosen ++ x.0 ∷ []) pieces T b →
+    (part : List (Piece × ℕ)) → ((y : Piece × ℕ) → Contains part y → Contains (x ∷ pieces) y) → Joins s (IsChosen chosen part) T
+    → min a (b + x.1) ≤ weight part
 lightest_of_two s chosen x pieces T a b without_it with_it part from joins =
     let less = without x part in
     let more = chosen ++ x.0 ∷ [] in
     ⊎_elim
-    (λ none. omega (arith, without_it.lightest part (from_rest x pieces part from (λ y at here. none (subst (Contains part) here at))) joins))
+    (λ none. omega (
+      arith,
+      without_it.lightest part
+          (from_rest x pieces part from (λ y at here. none (subst (Contains part) here at))) joins,
+    ))
     (λ light. omega (
       arith,
       light,
@@ -121,7 +138,8 @@ lightest_of_two s chosen x pieces T a b without_it with_it part from joins =
     less.lacks
 
 -- the same set among more pieces
-joins_without : (s : Size) (chosen : List Piece) (x : Piece × ℕ) (pieces : List (Piece × ℕ)) (T : ℕ → Type 0) (limit n : ℕ) → limit ≤ n → JoinsBeside s chosen pieces T limit → JoinsBeside s chosen (x ∷ pieces) T n
+joins_without : (s : Size) (chosen : List Piece) (x : Piece × ℕ) (pieces : List (Piece × ℕ)) (T : ℕ → Type 0) (limit n : ℕ)
+    → limit ≤ n → JoinsBeside s chosen pieces T limit → JoinsBeside s chosen (x ∷ pieces) T n
 joins_without s chosen x pieces T limit n le has = record {
   set = has.set;
   is_set = record { allowed = λ y at. Contains-rest x pieces y (has.is_set.allowed y at); once = has.is_set.once };
@@ -130,46 +148,63 @@ joins_without s chosen x pieces T limit n le has = record {
 }
 
 -- the set with the piece that was chosen beside it
-joins_with : (s : Size) (chosen : List Piece) (x : Piece × ℕ) (pieces : List (Piece × ℕ)) (T : ℕ → Type 0) (limit n : ℕ) → limit + x.1 ≤ n → JoinsBeside s (chosen ++ x.0 ∷ []) pieces T limit → JoinsBeside s chosen (x ∷ pieces) T n
+joins_with : (s : Size) (chosen : List Piece) (x : Piece × ℕ) (pieces : List (Piece × ℕ)) (T : ℕ → Type 0) (limit n : ℕ)
+    → limit + x.1 ≤ n → JoinsBeside s (chosen ++ x.0 ∷ []) pieces T limit → JoinsBeside s chosen (x ∷ pieces) T n
 joins_with s chosen x pieces T limit n le has =
-    let more = extended (x ∷ pieces) has.set x.0 x.1 (record { allowed = λ y at. Contains-rest x pieces y (has.is_set.allowed y at); once = has.is_set.once }) (in_head x pieces x refl) in
+    let more = extended (x ∷ pieces) has.set x.0 x.1
+    (record { allowed = λ y at. Contains-rest x pieces y (has.is_set.allowed y at); once = has.is_set.once })
+    (in_head x pieces x refl) in
     record {
       set = more.new;
       is_set = more.is_set;
       joins = Joins-superset s (IsChosen (chosen ++ x.0 ∷ []) has.set) (IsChosen chosen more.new) T
           (λ p taken. ⊎_elim
-          (λ at. ⊎_elim (λ in_chosen. inl in_chosen) (λ here. inr (subst (IsAllowed more.new) (sym here) more.has)) (in_pushed chosen x.0 p at))
+          (λ at. ⊎_elim (λ in_chosen. inl in_chosen) (λ here. inr (subst (IsAllowed more.new) (sym here) more.has))
+          (in_pushed chosen x.0 p at))
           (λ in_set. inr (more.kept p in_set))
           taken) has.joins;
       light = omega (arith, le, more.light, has.light);
     }
 
 -- a piece is left out or taken, whichever is lighter
-pub least_of_two : (s : Size) (chosen : List Piece) (x : Piece × ℕ) (pieces : List (Piece × ℕ)) (T : ℕ → Type 0) (a b : ℕ) → IsLeastBeside s chosen pieces T a → IsLeastBeside s (chosen ++ x.0 ∷ []) pieces T b → IsLeastBeside s chosen (x ∷ pieces) T (min a (b + x.1))
+pub least_of_two : (s : Size) (chosen : List Piece) (x : Piece × ℕ) (pieces : List (Piece × ℕ)) (T : ℕ → Type 0) (a b : ℕ)
+    → IsLeastBeside s chosen pieces T a → IsLeastBeside s (chosen ++ x.0 ∷ []) pieces T b
+    → IsLeastBeside s chosen (x ∷ pieces) T (min a (b + x.1))
 least_of_two s chosen x pieces T a b without_it with_it = record {
   limit = omega (arith, without_it.limit);
   joined = λ low. ⊎_elim
-      (λ (taken : b + x.1 < a). joins_with s chosen x pieces T b (min a (b + x.1)) (omega arith) (with_it.joined (omega (arith, without_it.limit))))
-      (λ (left : a ≤ b + x.1). joins_without s chosen x pieces T a (min a (b + x.1)) (omega arith) (without_it.joined (omega (arith, low))))
+      (λ (taken : b + x.1 < a). joins_with s chosen x pieces T b (min a (b + x.1)) (omega arith)
+      (with_it.joined (omega (arith, without_it.limit))))
+      (λ (left : a ≤ b + x.1). joins_without s chosen x pieces T a (min a (b + x.1)) (omega arith)
+      (without_it.joined (omega (arith, low))))
       (cases_lt (b + x.1) a);
   lightest = lightest_of_two s chosen x pieces T a b without_it with_it;
 }
 
 -- beside no chosen pieces it is the least weight of a set
-pub least_weight : (s : Size) (pieces : List (Piece × ℕ)) (T : ℕ → Type 0) (least : ℕ) → IsLeastBeside s [] pieces T least → least < apart → IsLeastWeight s pieces T least
+pub least_weight : (s : Size) (pieces : List (Piece × ℕ)) (T : ℕ → Type 0) (least : ℕ) → IsLeastBeside s [] pieces T least
+    → least < apart → IsLeastWeight s pieces T least
 least_weight s pieces T least is low =
     let has = is.joined low in
     record {
       set = has.set;
       is_set = has.is_set;
-      joins = Joins-superset s (IsChosen [] has.set) (IsAllowed has.set) T (λ p taken. ⊎_elim (λ none. absurd (omega (arith, none.1))) (λ in_set. in_set) taken) has.joins;
+      joins = Joins-superset s (IsChosen [] has.set) (IsAllowed has.set) T
+          (λ p taken. ⊎_elim (λ none. absurd (omega (arith, none.1))) (λ in_set. in_set) taken) has.joins;
       weighs = omega (arith, has.light, is.lightest has.set has.is_set.allowed has.joins);
-      lightest = λ other is_set joins. is.lightest other is_set.allowed (Joins-superset s (IsAllowed other) (IsChosen [] other) T (λ p in_set. inr in_set) joins);
+      lightest = λ other is_set joins. is.lightest other is_set.allowed
+          (Joins-superset s (IsAllowed other) (IsChosen [] other) T (λ p in_set. inr in_set) joins);
     }
 
-pub none_joins : (s : Size) (pieces : List (Piece × ℕ)) (T : ℕ → Type 0) (least : ℕ) → WeighsOnlyPieces s pieces → AreWithinLimit pieces → IsLeastBeside s [] pieces T least → apart ≤ least → AreApart s pieces T
+pub none_joins : (s : Size) (pieces : List (Piece × ℕ)) (T : ℕ → Type 0) (least : ℕ) → WeighsOnlyPieces s pieces
+    → AreWithinLimit pieces → IsLeastBeside s [] pieces T least → apart ≤ least → AreApart s pieces T
 none_joins s pieces T least inside light is high set is_set joins =
-    omega (arith, high, weight-most s pieces set inside light is_set, is.lightest set is_set.allowed (Joins-superset s (IsAllowed set) (IsChosen [] set) T (λ p in_set. inr in_set) joins))
+    omega (
+      arith,
+      high,
+      weight-most s pieces set inside light is_set,
+      is.lightest set is_set.allowed (Joins-superset s (IsAllowed set) (IsChosen [] set) T (λ p in_set. inr in_set) joins),
+    )
 
 -- a list that has no first element, and one by its first element
 pub none_left : (xs : List (Piece × ℕ)) → true ≡ (length xs == 0) → xs ≡ []
@@ -186,10 +221,13 @@ first_and_rest (x ∷ xs) d long = ap (λ (ys : List (Piece × ℕ)). x ∷ ys) 
 
 -- the first element and those behind it are in the list
 pub first_in : (xs : List (Piece × ℕ)) (d : Piece × ℕ) → false ≡ (length xs == 0) → Contains xs (get_or xs 0 d)
-first_in xs d long = subst (λ (ys : List (Piece × ℕ)). Contains ys (get_or xs 0 d)) (sym (first_and_rest xs d long)) (in_head (get_or xs 0 d) (behind_first xs) (get_or xs 0 d) refl)
+first_in xs d long = subst (λ (ys : List (Piece × ℕ)). Contains ys (get_or xs 0 d)) (sym (first_and_rest xs d long))
+    (in_head (get_or xs 0 d) (behind_first xs) (get_or xs 0 d) refl)
 
-pub behind_in : (xs : List (Piece × ℕ)) (d y : Piece × ℕ) → false ≡ (length xs == 0) → Contains (behind_first xs) y → Contains xs y
-behind_in xs d y long at = subst (λ (ys : List (Piece × ℕ)). Contains ys y) (sym (first_and_rest xs d long)) (Contains-rest (get_or xs 0 d) (behind_first xs) y at)
+pub behind_in : (xs : List (Piece × ℕ)) (d y : Piece × ℕ) → false ≡ (length xs == 0) → Contains (behind_first xs) y
+    → Contains xs y
+behind_in xs d y long at = subst (λ (ys : List (Piece × ℕ)). Contains ys y) (sym (first_and_rest xs d long))
+    (Contains-rest (get_or xs 0 d) (behind_first xs) y at)
 
 pub behind_shorter : (xs : List (Piece × ℕ)) → false ≡ (length xs == 0) → length (behind_first xs) < length xs
 behind_shorter [] long = cc

@@ -1,10 +1,6 @@
-pub mod Automaton
 pub mod LeastOver
 pub mod LeastSets
 pub mod Lowering
 pub mod Marks
 pub mod Repeats
 pub mod RootLabels
-pub mod Steps
-pub mod WordNumbers
-pub mod Words

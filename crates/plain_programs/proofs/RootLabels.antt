@@ -11,7 +11,9 @@ use Rattle.shortest_paths.specs.Masks.{all_but_root, WithVertex}
 use Rattle.shortest_paths.specs.Tables.{IsLabel}
 use Rattle.shortest_paths.proofs.Roots.{joins_terminals}
 
-pub joined_by_label : (s : Size) (pieces : List (Piece × ℕ)) (terminals : List Vertex) (root : Vertex) (o : Option ℕ) → At terminals (length terminals - 1) root → IsLabel s pieces terminals (all_but_root terminals) root.0 o → IsSome o → Joins s (IsAllowed pieces) (InVertices terminals)
+pub joined_by_label : (s : Size) (pieces : List (Piece × ℕ)) (terminals : List Vertex) (root : Vertex) (o : Option ℕ)
+    → At terminals (length terminals - 1) root → IsLabel s pieces terminals (all_but_root terminals) root.0 o → IsSome o
+    → Joins s (IsAllowed pieces) (InVertices terminals)
 joined_by_label s pieces terminals root (Some x) at least some =
     joins_terminals s (IsAllowed pieces) terminals root at
     (Joins-superset s (IsAllowed least.set) (IsAllowed pieces) (WithVertex terminals (all_but_root terminals) root.0)

@@ -22,8 +22,11 @@ pub record JoinsBeside (s : Size) (chosen : List Piece) (pieces : List (Piece ×
   pub joins : Joins s (IsChosen chosen set) T
   pub light : weight set ≤ limit
 
--- the least weight that some of these pieces add to the chosen ones, so that all together join the vertices of T; `apart` where none do
-pub record IsLeastBeside (s : Size) (chosen : List Piece) (pieces : List (Piece × ℕ)) (T : ℕ → Type 0) (least : ℕ) : Type 0 where
+-- the least weight that some of these pieces add to the chosen ones, so that all together join the vertices of T; `apart` where
+-- none do
+pub record IsLeastBeside (s : Size) (chosen : List Piece) (pieces : List (Piece × ℕ)) (T : ℕ → Type 0)
+    (least : ℕ) : Type 0 where
   pub limit : least ≤ apart
   pub joined : least < apart → JoinsBeside s chosen pieces T least
-  pub lightest : (part : List (Piece × ℕ)) → ((x : Piece × ℕ) → Contains part x → Contains pieces x) → Joins s (IsChosen chosen part) T → least ≤ weight part
+  pub lightest : (part : List (Piece × ℕ)) → ((x : Piece × ℕ) → Contains part x → Contains pieces x)
+      → Joins s (IsChosen chosen part) T → least ≤ weight part

@@ -5,7 +5,8 @@ use Rattle.grid_base.specs.declared.size.Size.{Size}
 use Rattle.grid_base.specs.Numbers.{Connects, start_of, end_of}
 use Rattle.grid_graph.specs.Weighed.{Weighs}
 
--- stands for the number of a vertex that nothing reached: above what 3 * 2^23 pieces weigh at most, at a weight of at most 2^38 each
+-- stands for the number of a vertex that nothing reached: above what 3 * 2^23 pieces weigh at most, at a weight of at most 2^38
+-- each
 abbrev pub unreached : ℕ
 unreached = 3 * 2 ^ 61 + 1
 

@@ -1,36 +1,28 @@
-//! Plain slow programs beside the fast ones.
+//! Plain slow programs beside the fast ones, for sets of pieces, distances and trees.
 //!
 //! A plain program answers by a method that is evident and slow, so that a reader who trusts it trusts the definition
 //! that its contract cites, and the tests compare it with the program that is used:
 //!
 //! ```text
 //! let joined = joins_by_merging(alloc, size, pieces, terminals)?;          // as tree_set::joins
-//! let tokens = tokens_by_splitting(alloc, text)?;                          // as text_scan's Scanner::token
-//! let blocks = blocks_by_automaton(alloc, text)?;                          // as route_text::read_routes
 //! let distances = plain_distances(alloc, size, weighed_pieces, source)?;    // as shortest_paths::Labels::distances
 //! let least = plain_least_weight(alloc, size, weighed_pieces, terminals)?; // of a least tree, where pieces are few
 //! ```
 //!
-//! It stands on the libraries whose programs and definitions it compares. Nothing stands on it.
+//! It stands on the libraries whose programs and definitions it compares: `tree_set`, `shortest_paths`, `steiner_exact` and
+//! `steiner_span`, over `grid_graph` and `grid_base`. Nothing stands on it. Plain readers of texts are in `plain_readers`.
 //!
 //! Promised: each answer is the one of the definition.
 
 #![tactic(auto)]
 
-mod plain_blocks;
 mod plain_joins;
-mod plain_numbers;
 mod plain_paths;
-mod plain_tokens;
 mod plain_weights;
-mod word;
 
-pub use plain_blocks::blocks_by_automaton;
 pub use plain_joins::joins_by_merging;
 pub use plain_paths::plain_distances;
-pub use plain_tokens::tokens_by_splitting;
 pub use plain_weights::plain_least_weight;
-pub use word::Word;
 
 #[cfg(test)]
 mod comparing_tests;
@@ -44,8 +36,6 @@ mod listed;
 mod listing;
 #[cfg(test)]
 mod lows;
-#[cfg(test)]
-mod reading_tests;
 #[cfg(test)]
 mod size_tests;
 #[cfg(test)]

@@ -62,7 +62,8 @@ fn own_marks(alloc: Global, count: u32) -> Result<Vec<u32>, AllocError>
 
 /// Puts the new mark in place of the old one.
 fn merge(marks: &mut [u32], old: u32, new: u32)
-    ensures { (k : ℕ) → k < length marks.old → slice_index marks.new k ≡ (if slice_index marks.old k == old then new else slice_index marks.old k) }
+    ensures { (k : ℕ) → k < length marks.old → slice_index marks.new k
+        ≡ (if slice_index marks.old k == old then new else slice_index marks.old k) }
 {
     for mark in marks.iter_mut() {
         if *mark == old {

@@ -25,7 +25,8 @@ pub fn plain_distances(
     requires inside { WeighsOnlyPieces size pieces.now }
     requires light { AreWithinLimit pieces.now }
     requires source { IsVertex size source.0 }
-    ensures { IfOk result (λ found. (v : ℕ) → IsVertex size v → IsDistance size pieces.now source.0 v (get_or found.items v None)) }
+    ensures { IfOk result (λ found. (v : ℕ) → IsVertex size v
+        → IsDistance size pieces.now source.0 v (get_or found.items v None)) }
 {
     let mut numbers = vec![in alloc; UNREACHED; size.vertices() as usize]?;
     numbers[source.0 as usize] = 0;
@@ -72,7 +73,8 @@ fn lower_by(size: Size, p: Piece, weight: u64, numbers: &[u64]) -> Option<(Verte
     requires light { weight ≤ max_weight }
     requires long { length numbers.now ≡ vertices size }
     requires limit { (v : ℕ) → listed_number numbers.now v ≤ unreached }
-    ensures some { IfSome result (λ x. (pieces : List (Piece × ℕ)) → Weighs pieces p weight → IsLowerNumber size pieces (listed_number numbers.now) x.0.0 x.1) }
+    ensures some { IfSome result (λ x. (pieces : List (Piece × ℕ)) → Weighs pieces p weight
+        → IsLowerNumber size pieces (listed_number numbers.now) x.0.0 x.1) }
     ensures none { result ≡ None → IsSlack size (listed_number numbers.now) p weight }
 {
     let (near, far) = size.ends_of(p);

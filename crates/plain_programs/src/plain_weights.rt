@@ -27,7 +27,8 @@ pub fn plain_least_weight(
     requires inside { WeighsOnlyPieces size pieces.now }
     requires light { AreWithinLimit pieces.now }
     requires vertices { All (λ t. IsVertex size t.0) terminals.now }
-    ensures { IfOk result (λ found. MatchOption found (AreApart size pieces.now (InVertices terminals.now)) (λ least. IsLeastWeight size pieces.now (InVertices terminals.now) least)) }
+    ensures { IfOk result (λ found. MatchOption found (AreApart size pieces.now (InVertices terminals.now))
+        (λ least. IsLeastWeight size pieces.now (InVertices terminals.now) least)) }
 {
     let chosen = Vec::new(alloc);
     let least = least_beside(alloc, size, chosen.as_slice(), pieces, terminals)?;

@@ -1,25 +1,10 @@
 //! Memory suffices for sizes that a user meets, and what is answered then is right.
 
-use crate::blocks_by_automaton;
-use crate::comparing_tests::same_answer;
 use crate::known::{are_pieces, are_vertices};
 use grid_base::{Edge, Piece, Size, Vertex};
-use route_text::read_routes;
 use std::alloc::{AllocError, Global};
 use std::test::Fail;
 use tree_set::{Tree, joins};
-
-/// A net that runs along the first three tiles.
-const BLOCK: &str = "n 4711\n(5,5,1)-(25,5,1)\n!\n";
-
-#[test]
-fn thousands_of_routes_are_read_as_by_the_automaton(rt: HostRuntime) -> Result<(), Fail> {
-    let alloc = rt.alloc();
-    let text = BLOCK.repeat(alloc, 5000)?;
-    let read = read_routes(alloc, text.as_bytes());
-    assert!(rt; read.is_ok() && same_answer(read, blocks_by_automaton(alloc, text.as_bytes())));
-    Ok(())
-}
 
 /// The edges to these tiles of a row, each from the tile before it.
 fn edges_to(alloc: Global, first: u32, end: u32) -> Result<Vec<Piece>, AllocError> {

@@ -17,8 +17,11 @@ returns c =
     let terminals = c.args.terminals.now in
     let item = c.in-Some.ensures.item in
     let at : Contains terminals first = (0, item.3.0, sym item.1) in
-    let vertex : IsVertex c.args.size first.0 = All-contains (λ (t : Vertex). IsVertex c.args.size t.0) terminals first c.requires.vertices at in
-    let mark : c.index-mark.result.now ≡ slice_index marks first.0 = get_or_read_under marks first.0 (length marks) _ 0 c.index-mark.ensures (rw c.in_ok-marks.ensures.long vertex) refl in
-    let joined = joined_by_marks c.args.size c.args.pieces.now marks terminals first c.in_ok-marks.ensures at c.requires.vertices in
+    let vertex : IsVertex c.args.size first.0 =
+    All-contains (λ (t : Vertex). IsVertex c.args.size t.0) terminals first c.requires.vertices at in
+    let mark : c.index-mark.result.now ≡ slice_index marks first.0 =
+    get_or_read_under marks first.0 (length marks) _ 0 c.index-mark.ensures (rw c.in_ok-marks.ensures.long vertex) refl in
+    let joined = joined_by_marks c.args.size c.args.pieces.now marks terminals first c.in_ok-marks.ensures at
+    c.requires.vertices in
     let answer = rw (c.as_slice.ensures.value, mark) at c.all_have_mark.ensures in
     (λ yes. joined.0 (answer.0 yes), λ joins. answer.1 (joined.1 joins))

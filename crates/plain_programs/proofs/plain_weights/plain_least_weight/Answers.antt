@@ -14,8 +14,11 @@ returns c =
     let T = InVertices c.args.terminals.now in
     let P : Option ℕ → Type 0 = λ o. MatchOption o (AreApart s pieces T) (λ least. IsLeastWeight s pieces T least) in
     let none : c.as_slice.result.now ≡ [] = c.as_slice.ensures.value ∙ c.new-chosen.ensures.items in
-    let least : IsLeastBeside s [] pieces T c.in_ok-least.least = subst (λ (ps : List Piece). IsLeastBeside s ps pieces T c.in_ok-least.least) none c.in_ok-least.ensures in
+    let least : IsLeastBeside s [] pieces T c.in_ok-least.least =
+    subst (λ (ps : List Piece). IsLeastBeside s ps pieces T c.in_ok-least.least) none c.in_ok-least.ensures in
     elim c.if-least-lt-APART.branch [
-      | then-least-lt-APART w ↦ subst P (sym w.result-is) (least_weight s pieces T c.in_ok-least.least least w.if-least-lt-APART.true)
-      | else-least-lt-APART w ↦ subst P (sym w.result-is) (none_joins s pieces T c.in_ok-least.least c.requires.inside c.requires.light least w.if-least-lt-APART.false)
+      | then-least-lt-APART w ↦ subst P (sym w.result-is)
+          (least_weight s pieces T c.in_ok-least.least least w.if-least-lt-APART.true)
+      | else-least-lt-APART w ↦ subst P (sym w.result-is)
+          (none_joins s pieces T c.in_ok-least.least c.requires.inside c.requires.light least w.if-least-lt-APART.false)
     ]

@@ -1,0 +1,3 @@
+pub mod PlainBlocks
+pub mod PlainNumbers
+pub mod Words

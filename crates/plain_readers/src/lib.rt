@@ -1,0 +1,29 @@
+//! Plain slow readers of texts beside the fast ones.
+//!
+//! A plain reader answers by a method that is evident and slow, so that a reader who trusts it trusts the definition
+//! that its contract cites, and the tests compare it with the reader that is used:
+//!
+//! ```text
+//! let tokens = tokens_by_splitting(alloc, text)?;    // as text_scan's Scanner::token
+//! let blocks = blocks_by_automaton(alloc, text)?;    // as route_text::read_routes
+//! ```
+//!
+//! It stands on `text_scan` and `route_text`, whose readers and definitions it compares, and on `grid_graph` for names.
+//! Nothing stands on it. Plain programs for pieces, distances and trees are in `plain_programs`.
+//!
+//! Promised: each answer is the one of the definition.
+#![tactic(auto)]
+
+mod plain_blocks;
+mod plain_numbers;
+mod plain_tokens;
+mod word;
+
+pub use plain_blocks::blocks_by_automaton;
+pub use plain_tokens::tokens_by_splitting;
+pub use word::Word;
+
+#[cfg(test)]
+mod comparing_tests;
+#[cfg(test)]
+mod reading_tests;
