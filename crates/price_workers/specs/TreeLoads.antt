@@ -9,7 +9,8 @@ use Rattle.load_core.specs.Parties.{share_at}
 use Rattle.tree_set.specs.Loads.{tree_load, max_tree_load}
 use Rattle.tree_set.specs.Routings.{ArePieces}
 
--- the loads rise by that of the set of a net of this width: on each edge by its demand, in the last entry by the number of pieces
+-- the loads rise by that of the set of a net of this width: on each edge by its demand, in the last entry by the number of
+-- pieces
 abbrev pub GainsTree : Grid → ℕ → List Piece → List ℕ → List ℕ → Type 0
 GainsTree g width tree old new = (r : ℕ) → slice_index new r ≡ slice_index old r + tree_load g width tree r
 

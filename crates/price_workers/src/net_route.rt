@@ -19,7 +19,8 @@ use tree_set::Tree;
 /// Up to so many terminals a net gets a tree of least weight.
 const FEW_TERMINALS: usize = 5;
 
-/// The prices of a grid that nothing is routed on.
+/// The prices of a grid that nothing is routed on: one for each edge number, and behind these that of the wirelength. They
+/// count loads by `scale`; `budget` is the wirelength that is to be kept. Want of memory is the only error.
 pub fn prices_without_loads<'a>(
     alloc: Global,
     grid: &'a Grid,
@@ -43,7 +44,7 @@ pub fn prices_without_loads<'a>(
 }
 
 /// A step for a net at the prices of the loads so far: a tree of least weight, or for many terminals one that is no heavier
-/// than any spanning tree of them by distances.
+/// than any spanning tree of them by distances. Want of memory is the only error.
 pub fn route_net(
     alloc: Global,
     kept: &mut KeptPrices<'_>,

@@ -12,7 +12,8 @@ use grid_graph::Grid;
 use load_table::{LoadTable, Share};
 use tree_set::Tree;
 
-/// Takes the load of a net of this width by its set off a share, one word after another.
+/// Takes the load of a net of this width by its set off a share that has it, one word after another: its demand on each edge
+/// of the set, and the number of the set's pieces on the wirelength.
 pub fn take_load(share: &mut Share, table: &LoadTable, grid: &Grid, width: u32, tree: &Tree)
     requires table { share.old.table ≡ table.now }
     requires words { table.now.words ≡ entries grid.now }
