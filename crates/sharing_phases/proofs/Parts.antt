@@ -13,15 +13,22 @@ part_start-le workers nets a b some low =
     le-div (a * nets / workers) (b * nets) workers some (omega (arith, less, more))
 
 -- a position behind the begin of a part is in no earlier part
-pub not_earlier : (workers nets k worker position : ℕ) → 0 < workers → part_start workers nets k ≤ position → IsInPart workers nets worker position → k ≤ worker
+pub not_earlier : (workers nets k worker position : ℕ) → 0 < workers → part_start workers nets k ≤ position
+    → IsInPart workers nets worker position → k ≤ worker
 not_earlier workers nets k worker position some from part =
     ⊎_elim
-    (λ (early : worker < k). absurd (omega (arith, from, part.before, part_start-le workers nets (worker + 1) k some (omega (arith, early)))))
+    (λ (early : worker < k). absurd (omega (
+      arith,
+      from,
+      part.before,
+      part_start-le workers nets (worker + 1) k some (omega (arith, early)),
+    )))
     (λ (late : k ≤ worker). late)
     (cases_lt worker k)
 
 -- and one before the begin of a part is in an earlier one
-pub not_later : (workers nets k worker position : ℕ) → 0 < workers → position < part_start workers nets k → IsInPart workers nets worker position → worker < k
+pub not_later : (workers nets k worker position : ℕ) → 0 < workers → position < part_start workers nets k
+    → IsInPart workers nets worker position → worker < k
 not_later workers nets k worker position some before part =
     ⊎_elim
     (λ (early : worker < k). early)
@@ -29,7 +36,8 @@ not_later workers nets k worker position some before part =
     (cases_lt worker k)
 
 -- each position is in one part
-pub one_part : (workers nets a b position : ℕ) → 0 < workers → IsInPart workers nets a position → IsInPart workers nets b position → a ≡ b
+pub one_part : (workers nets a b position : ℕ) → 0 < workers → IsInPart workers nets a position
+    → IsInPart workers nets b position → a ≡ b
 one_part workers nets a b position some first second =
     omega (
       arith,
@@ -45,7 +53,8 @@ pub stretch_start-le : (part position : ℕ) → part ≤ position → stretch_s
 stretch_start-le part position behind = omega arith
 
 -- a net of a part is one of the design's
-pub in_design : (workers nets worker position : ℕ) → 0 < workers → worker < workers → position < part_start workers nets (worker + 1) → position < nets
+pub in_design : (workers nets worker position : ℕ) → 0 < workers → worker < workers
+    → position < part_start workers nets (worker + 1) → position < nets
 in_design workers nets worker position some exists before =
     let last : part_start workers nets workers ≡ nets = mul-div_cancel_left nets some in
     omega (arith, before, last, part_start-le workers nets (worker + 1) workers some (omega (arith, exists)))

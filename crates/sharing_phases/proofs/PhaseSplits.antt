@@ -75,7 +75,8 @@ given_serves p first middle last given share some most low high serves is =
       loads = λ r within. is.amounts r;
       few = λ r. omega (
         arith,
-        given_within (entries p.design.grid) first last (parts_load p first middle) (parts_load p middle last) given share r both is,
+        given_within (entries p.design.grid) first last (parts_load p first middle)
+            (parts_load p middle last) given share r both is,
         serves.few r,
       );
     }
@@ -98,7 +99,8 @@ halves_joined p first middle last old kept other left right s t some low high sp
       seen = until m one.seen two.seen;
       turns = AreTurns-append d p.workers p.budget p.earlier a middle (part_start p.workers nets last) s t
           one.read one.seen two.read two.seen some one.turns two.turns;
-      history = histories_joined p.workers nets first middle last one.read two.read old kept other left right some low high split
+      history = histories_joined p.workers nets first middle last one.read two.read old kept other left right some low high
+          split
           one.history two.history;
       table = one.table ∙ split.kept_table;
       allot = omega (arith, one.allot, two.allot, split.allot);

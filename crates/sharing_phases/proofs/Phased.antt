@@ -1,5 +1,6 @@
 -- One phase after another.
-use Rattle.std.proofs.Common.{◌≡◌, ℕ, zero, suc, ◌+◌, ◌-◌, ◌/◌, ◌≤◌, ◌<◌, List, [], ◌∷◌, ◌++◌, length, take, slice_range, replicate, Option, All, refl, sym, ◌∙◌, ap, subst, arith, ⊎_elim}
+use Rattle.std.proofs.Common.{◌≡◌, ℕ, zero, suc, ◌+◌, ◌-◌, ◌/◌, ◌≤◌, ◌<◌, List, [], ◌∷◌, ◌++◌, length, take, slice_range}
+use Rattle.std.proofs.Common.{replicate, Option, All, refl, sym, ◌∙◌, ap, subst, arith, ⊎_elim}
 use Rattle.std.proofs.Math.Seq.{take-append_seam}
 use Rattle.std.proofs.Math.Nat.{zero-div, mul-div_cancel_left}
 use Rattle.std.proofs.lemmas.Bool.{cases_lt}
@@ -39,7 +40,8 @@ pub last_start : (workers nets : ℕ) → 0 < workers → part_start workers net
 last_start workers nets some = mul-div_cancel_left nets some
 
 -- each net is in a part
-pub find_part : (workers nets position some : ℕ) → some ≤ workers → position < part_start workers nets some → (worker : ℕ) × IsInPart workers nets worker position
+pub find_part : (workers nets position some : ℕ) → some ≤ workers → position < part_start workers nets some
+    → (worker : ℕ) × IsInPart workers nets worker position
 find_part workers nets position zero most before = absurd (omega (arith, before, first_start workers nets))
 find_part workers nets position (suc k) most before =
     ⊎_elim
@@ -63,20 +65,24 @@ all_parts workers nets sets some long =
     ∙ take_all (nets - 0) sets (omega (arith, long))
 
 -- so the sets of all parts are a routing
-pub parts_are_routing : (d : Design) (workers : ℕ) (budget : Option ℕ) (earlier : List (List (List Piece))) (old new : Holding) (sets : List (List Piece)) → 0 < workers
-    → ArePartsRouted d workers budget earlier 0 workers old new sets → (length sets ≡ length d.nets) × IsRouting d.grid d.nets sets
+pub parts_are_routing : (d : Design) (workers : ℕ) (budget : Option ℕ) (earlier : List (List (List Piece))) (old new : Holding)
+    (sets : List (List Piece)) → 0 < workers
+    → ArePartsRouted d workers budget earlier 0 workers old new sets
+    → (length sets ≡ length d.nets) × IsRouting d.grid d.nets sets
 parts_are_routing d workers budget earlier old new sets some parts =
     let nets : ℕ = length d.nets in
     let first : part_start workers nets 0 ≡ 0 = first_start workers nets in
     let last : part_start workers nets workers ≡ nets = last_start workers nets some in
     let long : length sets ≡ nets = parts.turns.long ∙ omega (arith, first, last) in
-    let whole : slice_range sets (part_start workers nets 0) (part_start workers nets workers) ≡ sets = all_parts workers nets sets some long in (
+    let whole : slice_range sets (part_start workers nets 0) (part_start workers nets workers) ≡ sets =
+    all_parts workers nets sets some long in (
       long,
       AllZip-from_places (IsRoute d.grid) d.nets sets long
           (λ k n tree at stands.
           let within : k < nets = slice_get_within d.nets k n at in
           let found = find_part workers nets k workers (omega arith) (omega (arith, within, last)) in
-          ((parts.turns.turns sets k found.0 whole (omega (arith, first)) (omega (arith, within, last)) found.1).step n tree at stands).route),
+          ((parts.turns.turns sets k found.0 whole (omega (arith, first)) (omega (arith, within, last)) found.1).step n tree at
+          stands).route),
     )
 
 -- the load of one phase more
@@ -91,7 +97,8 @@ pub earlier_load-whole : (d : Design) (phases : List (List (List Piece))) (r : �
     → earlier_load d phases 0 (length d.nets) r ≡ phases_load d.grid d.nets phases r
 earlier_load-whole d [] r all = refl
 earlier_load-whole d (sets ∷ phases) r all =
-    let long : length sets ≡ length d.nets = AllZip-long (IsRoute d.grid) d.nets sets (All-head (IsRouting d.grid d.nets) sets phases all) in
+    let long : length sets ≡ length d.nets = AllZip-long (IsRoute d.grid) d.nets sets
+    (All-head (IsRouting d.grid d.nets) sets phases all) in
     let whole : load_between d.grid d.nets sets 0 (length d.nets) r ≡ load_on d.grid d.nets sets r =
     ap (λ ns. load_on d.grid ns (slice_range sets 0 (length d.nets)) r) (take_all (length d.nets - 0) d.nets (omega arith))
     ∙ ap (λ ts. load_on d.grid d.nets ts r) (take_all (length d.nets - 0) sets (omega (arith, long))) in
@@ -104,10 +111,12 @@ earlier_load-whole d (sets ∷ phases) r all =
     )
 
 -- a sharing run of one phase more
-run-more : (d : Design) (workers : ℕ) (budget : Option ℕ) (phases : List (List (List Piece))) (sets : List (List Piece)) (old new : Holding) → 0 < workers
+run-more : (d : Design) (workers : ℕ) (budget : Option ℕ) (phases : List (List (List Piece))) (sets : List (List Piece))
+    (old new : Holding) → 0 < workers
     → (run : IsSharingRun d workers budget phases) (parts : ArePartsRouted d workers budget phases 0 workers old new sets)
     → length sets ≡ length d.nets
-    → (more : IsSharingRun d workers budget (phases ++ sets ∷ [])) × (more.read ≡ until (length phases) run.read (λ k. parts.read))
+    → (more : IsSharingRun d workers budget (phases ++ sets ∷ []))
+    × (more.read ≡ until (length phases) run.read (λ k. parts.read))
 run-more d workers budget phases sets old new some run parts long =
     let all : List (List (List Piece)) = phases ++ sets ∷ [] in
     let nets : ℕ = length d.nets in
@@ -120,21 +129,27 @@ run-more d workers budget phases sets old new some run parts long =
         some = omega (arith, some);
         each = All-push (λ (trees : List (List Piece)). length trees ≡ nets) phases sets run.each long;
         read = read;
-        read_loads = λ phase. until-all (λ (reads : ℕ → List ℕ). (k : ℕ) → IsLoadList d.grid (reads k)) (length phases) run.read (λ k. parts.read) run.read_loads (λ j. parts.turns.read_loads) phase;
+        read_loads = λ phase. until-all (λ (reads : ℕ → List ℕ). (k : ℕ) → IsLoadList d.grid (reads k)) (length phases) run.read
+            (λ k. parts.read) run.read_loads (λ j. parts.turns.read_loads) phase;
         seen = seen;
         turns = λ phase k w trees at part. ⊎_elim
             (λ before.
             let early : phase < length phases = slice_get_within phases phase trees before in
-            subst (λ e. Turn e trees w k (seen phase) (read phase)) (sym (take-append-le phase phases (sets ∷ []) (omega (arith, early))))
-            (subst (λ s. Turn (take phase phases) trees w k s (read phase)) (sym (until-below (length phases) run.seen (λ j. parts.seen) phase early))
-            (subst (λ s. Turn (take phase phases) trees w k (run.seen phase) s) (sym (until-below (length phases) run.read (λ j. parts.read) phase early))
+            subst (λ e. Turn e trees w k (seen phase) (read phase))
+            (sym (take-append-le phase phases (sets ∷ []) (omega (arith, early))))
+            (subst (λ s. Turn (take phase phases) trees w k s (read phase))
+            (sym (until-below (length phases) run.seen (λ j. parts.seen) phase early))
+            (subst (λ s. Turn (take phase phases) trees w k (run.seen phase) s)
+            (sym (until-below (length phases) run.read (λ j. parts.read) phase early))
             (run.turns phase k w trees before part))))
             (λ last.
             let here : length phases ≤ phase = omega (arith, last.0) in
             let earlier : take phase all ≡ phases = ap (λ j. take j all) last.0 ∙ take-append_seam phases (sets ∷ []) in
             subst (λ e. Turn e trees w k (seen phase) (read phase)) (sym earlier)
-            (subst (λ s. Turn phases trees w k s (read phase)) (sym (until-from (length phases) run.seen (λ j. parts.seen) phase here))
-            (subst (λ s. Turn phases trees w k parts.seen s) (sym (until-from (length phases) run.read (λ j. parts.read) phase here))
+            (subst (λ s. Turn phases trees w k s (read phase))
+            (sym (until-from (length phases) run.seen (λ j. parts.seen) phase here))
+            (subst (λ s. Turn phases trees w k parts.seen s)
+            (sym (until-from (length phases) run.read (λ j. parts.read) phase here))
             (subst (λ (ts : List (List Piece)). Turn phases ts w k parts.seen parts.read) (sym last.1)
             (parts.turns.turns sets k w (all_parts workers nets sets some long)
             (omega (arith, first_start workers nets))
@@ -146,7 +161,8 @@ run-more d workers budget phases sets old new some run parts long =
     )
 
 -- a phase more
-pub IsRunSoFar-push : (d : Design) (workers : ℕ) (budget : Option ℕ) (table : _) (phases : List (List (List Piece))) (sets : List (List Piece)) (old new : Holding) → 0 < workers
+pub IsRunSoFar-push : (d : Design) (workers : ℕ) (budget : Option ℕ) (table : _) (phases : List (List (List Piece)))
+    (sets : List (List Piece)) (old new : Holding) → 0 < workers
     → IsRunSoFar d workers budget table old phases
     → ArePartsRouted d workers budget phases 0 workers old new sets
     → IsRunSoFar d workers budget table new (phases ++ sets ∷ [])
@@ -162,9 +178,11 @@ IsRunSoFar-push d workers budget table phases sets old new some before parts =
         run = more.0;
         recorded = parts.history
             ∙ ap (λ h. h ++ parts_history workers nets parts.read 0 (workers - 0)) before.recorded.recorded
-            ∙ ap (λ k. run_history workers nets before.recorded.run.read (length phases) ++ parts_history workers nets parts.read 0 k) (omega arith)
+            ∙ ap (λ k. run_history workers nets before.recorded.run.read (length phases)
+            ++ parts_history workers nets parts.read 0 k) (omega arith)
             ∙ sym (run_history-more workers nets before.recorded.run.read parts.read (length phases))
-            ∙ ap (λ k. run_history workers nets (until (length phases) before.recorded.run.read (λ j. parts.read)) k) (sym count)
+            ∙ ap (λ k. run_history workers nets (until (length phases) before.recorded.run.read (λ j. parts.read)) k)
+            (sym count)
             ∙ ap (λ reads. run_history workers nets reads (length (phases ++ sets ∷ []))) (sym more.1);
       };
       routings = All-push (IsRouting d.grid d.nets) phases sets before.routings whole.1;
@@ -175,7 +193,8 @@ IsRunSoFar-push d workers budget table phases sets old new some before parts =
     }
 
 -- before the first phase
-pub run_begins : (d : Design) (workers : ℕ) (budget : Option ℕ) (table : TableId) (share : Holding) → 1 ≤ workers → share ≡ held table (first_party table.words) → IsRunSoFar d workers budget table share []
+pub run_begins : (d : Design) (workers : ℕ) (budget : Option ℕ) (table : TableId) (share : Holding) → 1 ≤ workers
+    → share ≡ held table (first_party table.words) → IsRunSoFar d workers budget table share []
 run_begins d workers budget table share some first = record {
   recorded = record {
     run = record {

@@ -1,5 +1,6 @@
 -- Lists that are made along a range of numbers, and functions that change at a number.
-use Rattle.std.proofs.Common.{◌≡◌, ℕ, zero, suc, ◌+◌, ◌≤◌, ◌<◌, List, ◌∷◌, ◌++◌, cond, ltb, refl, sym, ◌∙◌, ap, subst, arith, ⊎_elim}
+use Rattle.std.proofs.Common.{◌≡◌, ℕ, zero, suc, ◌+◌, ◌≤◌, ◌<◌, List, ◌∷◌, ◌++◌, cond, ltb, refl, sym, ◌∙◌, ap, subst, arith}
+use Rattle.std.proofs.Common.{⊎_elim}
 use Rattle.std.specs.List.{flat_map, range_with_len}
 use Rattle.std.proofs.lemmas.Bool.{cases_lt, cond_below, cond_above}
 use Rattle.std.proofs.lemmas.Grind.{flat_map-append}
@@ -18,7 +19,8 @@ range-append a (suc n) m =
 -- what f gives along a range, and along the range behind it
 pub flat_map-split : {A : Type 0} (f : ℕ → List A) (a n m : ℕ)
     → flat_map f (range_with_len a (n + m)) ≡ flat_map f (range_with_len a n) ++ flat_map f (range_with_len (a + n) m)
-flat_map-split f a n m = ap (flat_map f) (sym (range-append a n m)) ∙ flat_map-append f (range_with_len a n) (range_with_len (a + n) m)
+flat_map-split f a n m = ap (flat_map f) (sym (range-append a n m))
+    ∙ flat_map-append f (range_with_len a n) (range_with_len (a + n) m)
 
 -- along a range that is longer by one
 pub flat_map-more : {A : Type 0} (f : ℕ → List A) (a n : ℕ)
@@ -50,7 +52,8 @@ unfolding until
 until-from k f g i high = sym (cond_above i k (f i) (g i) (g i) high refl)
 
 -- what holds of both holds of it
-pub until-all : {X : Type 0} (P : X → Type 0) (k : ℕ) (f g : ℕ → X) → ((i : ℕ) → P (f i)) → ((i : ℕ) → P (g i)) → (i : ℕ) → P (until k f g i)
+pub until-all : {X : Type 0} (P : X → Type 0) (k : ℕ) (f g : ℕ → X) → ((i : ℕ) → P (f i)) → ((i : ℕ) → P (g i)) → (i : ℕ)
+    → P (until k f g i)
 until-all P k f g first second i =
     ⊎_elim
     (λ (low : i < k). subst P (sym (until-below k f g i low)) (first i))

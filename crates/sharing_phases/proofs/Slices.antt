@@ -1,12 +1,14 @@
 -- Parts of lists.
-use Rattle.std.proofs.Common.{◌≡◌, ℕ, zero, suc, ◌+◌, ◌-◌, ◌≤◌, ◌<◌, List, [], ◌∷◌, ◌++◌, length, take, drop, slice_get, slice_range, refl, sym, ◌∙◌, ap, subst, arith, get_or}
+use Rattle.std.proofs.Common.{◌≡◌, ℕ, zero, suc, ◌+◌, ◌-◌, ◌≤◌, ◌<◌, List, [], ◌∷◌, ◌++◌, length, take, drop, slice_get}
+use Rattle.std.proofs.Common.{slice_range, refl, sym, ◌∙◌, ap, subst, arith, get_or}
 use Rattle.std.proofs.Math.Seq.{take-append_seam, drop-append_seam, drop-cons, take-take, drop-drop}
 use Rattle.std.proofs.lemmas.List.{drop-take}
 use Rattle.std.proofs.lemmas.Option.{slice_get_within, get_or_from_slice_get, slice_get-get_or}
 use Rattle.grid_base.specs.Lists.{At}
 
 -- the first part of a slice
-pub slice-first : {X : Type 0} (all s t : List X) (a m b : ℕ) → slice_range all a b ≡ s ++ t → length s ≡ m - a → m ≤ b → slice_range all a m ≡ s
+pub slice-first : {X : Type 0} (all s t : List X) (a m b : ℕ) → slice_range all a b ≡ s ++ t → length s ≡ m - a → m ≤ b
+    → slice_range all a m ≡ s
 slice-first all s t a m b whole long before =
     sym (take-take (m - a) (b - a) (drop a all) (omega (arith, before)))
     ∙ ap (take (m - a)) whole
@@ -14,14 +16,16 @@ slice-first all s t a m b whole long before =
     ∙ take-append_seam s t
 
 -- what is behind the first part of a slice
-pub slice-rest : {X : Type 0} (all : List X) (a m b : ℕ) → a ≤ m → m ≤ b → slice_range all m b ≡ drop (m - a) (slice_range all a b)
+pub slice-rest : {X : Type 0} (all : List X) (a m b : ℕ) → a ≤ m → m ≤ b
+    → slice_range all m b ≡ drop (m - a) (slice_range all a b)
 slice-rest all a m b low high =
     ap (λ k. take (b - m) (drop k all)) (omega (arith, low))
     ∙ ap (take (b - m)) (sym (drop-drop (m - a) a all))
     ∙ sym (drop-take (m - a) (b - m) (drop a all))
     ∙ ap (λ k. drop (m - a) (take k (drop a all))) (omega (arith, low, high))
 
-pub slice-second : {X : Type 0} (all s t : List X) (a m b : ℕ) → slice_range all a b ≡ s ++ t → length s ≡ m - a → a ≤ m → m ≤ b → slice_range all m b ≡ t
+pub slice-second : {X : Type 0} (all s t : List X) (a m b : ℕ) → slice_range all a b ≡ s ++ t → length s ≡ m - a → a ≤ m → m ≤ b
+    → slice_range all m b ≡ t
 slice-second all s t a m b whole long low high =
     slice-rest all a m b low high
     ∙ ap (drop (m - a)) whole
@@ -42,7 +46,8 @@ take_one xs k x at =
     ap (take 1) (drop-cons xs k x (slice_get_within xs k x at)) ∙ ap (λ y. y ∷ []) (get_or_from_slice_get xs k x x at)
 
 -- the last element of a slice is the one in its place
-pub slice-last : {X : Type 0} (all s : List X) (y x : X) (a k : ℕ) → slice_range all a (k + 1) ≡ s ++ y ∷ [] → length s ≡ k - a → a ≤ k → At all k x → y ≡ x
+pub slice-last : {X : Type 0} (all s : List X) (y x : X) (a k : ℕ) → slice_range all a (k + 1) ≡ s ++ y ∷ [] → length s ≡ k - a
+    → a ≤ k → At all k x → y ≡ x
 slice-last all s y x a k whole long low at =
     let one : slice_range all k (k + 1) ≡ y ∷ [] = slice-second all s (y ∷ []) a k (k + 1) whole long low (omega arith) in
     let next : 1 ≡ k + 1 - k = omega arith in

@@ -1,5 +1,6 @@
 -- Sums over lists, and loads of nets between two positions.
-use Rattle.std.proofs.Common.{◌≡◌, ℕ, ◌+◌, ◌-◌, ◌≤◌, List, [], ◌∷◌, ◌++◌, length, take, drop, slice_get, slice_range, refl, sym, ◌∙◌, ap, arith}
+use Rattle.std.proofs.Common.{◌≡◌, ℕ, ◌+◌, ◌-◌, ◌≤◌, List, [], ◌∷◌, ◌++◌, length, take, drop, slice_get, slice_range, refl, sym}
+use Rattle.std.proofs.Common.{◌∙◌, ap, arith}
 use Rattle.std.specs.List.{sum_by}
 use Rattle.std.proofs.Math.Seq.{take-append_seam, drop-append_seam, drop-drop}
 use Rattle.std.proofs.lemmas.List.{take_all, length-append}
@@ -15,7 +16,8 @@ use Rattle.sharing_phases.specs.Turns.{earlier_load, load_from}
 use Rattle.sharing_phases.proofs.Slices.{slice_get-drop, take_one}
 
 -- a sum whose terms are sums
-pub sum_by-both : {X : Type 0} (f g h : X → ℕ) (xs : List X) → ((x : X) → f x ≡ g x + h x) → sum_by f xs ≡ sum_by g xs + sum_by h xs
+pub sum_by-both : {X : Type 0} (f g h : X → ℕ) (xs : List X) → ((x : X) → f x ≡ g x + h x)
+    → sum_by f xs ≡ sum_by g xs + sum_by h xs
 sum_by-both f g h [] both = refl
 sum_by-both f g h (x ∷ xs) both =
     omega (arith, sum_by-cons f x xs, sum_by-cons g x xs, sum_by-cons h x xs, both x, sum_by-both f g h xs both)
@@ -35,7 +37,8 @@ pub earlier_load-split : (d : Design) (earlier : List (List (List Piece))) (a m 
     → earlier_load d earlier a b r ≡ earlier_load d earlier a m r + earlier_load d earlier m b r
 earlier_load-split d earlier a m b r low high =
     sum_by-both (λ before. load_between d.grid d.nets before a b r) (λ before. load_between d.grid d.nets before a m r)
-    (λ before. load_between d.grid d.nets before m b r) earlier (λ before. load_between-split d.grid d.nets before a m b r low high)
+    (λ before. load_between d.grid d.nets before m b r) earlier
+    (λ before. load_between-split d.grid d.nets before a m b r low high)
 
 -- of the nets only those that have a set count
 load_on-first_nets : (g : Grid) (nets : List NetSpec) (trees : List (List Piece)) (m r : ℕ)
@@ -43,7 +46,8 @@ load_on-first_nets : (g : Grid) (nets : List NetSpec) (trees : List (List Piece)
 load_on-first_nets g nets trees m r =
     let split : load_on g nets (take (0 + m) trees) r ≡ load_on g nets [] r + load_on g (take m nets) (take m trees) r =
     load_on-split g nets trees 0 m r in
-    let same : load_on g nets (take (0 + m) trees) r ≡ load_on g nets (take m trees) r = ap (λ k. load_on g nets (take k trees) r) (omega arith) in
+    let same : load_on g nets (take (0 + m) trees) r ≡ load_on g nets (take m trees) r =
+    ap (λ k. load_on g nets (take k trees) r) (omega arith) in
     omega (arith, split, same, load_on-none g nets r)
 
 -- the load between two positions is that of the sets there
@@ -52,11 +56,13 @@ pub load_between-here : (g : Grid) (nets : List NetSpec) (all sets : List (List 
 load_between-here g nets all sets a b r here =
     load_on-first_nets g (drop a nets) (drop a all) (b - a) r ∙ ap (λ s. load_on g (drop a nets) s r) here
 
-pub load_between-sets : (d : Design) (all sets : List (List Piece)) (a b r : ℕ) → slice_range all a b ≡ sets → load_between d.grid d.nets all a b r ≡ load_from d a sets r
+pub load_between-sets : (d : Design) (all sets : List (List Piece)) (a b r : ℕ) → slice_range all a b ≡ sets
+    → load_between d.grid d.nets all a b r ≡ load_from d a sets r
 load_between-sets d all sets a b r here = load_between-here d.grid d.nets all sets a b r here
 
 -- one set more, where the first is of the net at a position
-pub load_on-behind_push : (g : Grid) (nets : List NetSpec) (a k : ℕ) (sets : List (List Piece)) (n : NetSpec) (tree : List Piece) (r : ℕ)
+pub load_on-behind_push : (g : Grid) (nets : List NetSpec) (a k : ℕ) (sets : List (List Piece)) (n : NetSpec)
+    (tree : List Piece) (r : ℕ)
     → At nets k n → a ≤ k → length sets ≡ k - a
     → load_on g (drop a nets) (sets ++ tree ∷ []) r ≡ load_on g (drop a nets) sets r + tree_load g n.width tree r
 load_on-behind_push g nets a k sets n tree r at low long =
@@ -73,15 +79,19 @@ pub load_from-none : (d : Design) (a r : ℕ) → load_from d a [] r ≡ 0
 load_from-none d a r = load_on-none d.grid (drop a d.nets) r
 
 -- sets, and sets for the nets behind
-pub load_on-behind_append : (g : Grid) (nets' : List NetSpec) (a m : ℕ) (s t : List (List Piece)) (r : ℕ) → a ≤ m → length s ≡ m - a
+pub load_on-behind_append : (g : Grid) (nets' : List NetSpec) (a m : ℕ) (s t : List (List Piece)) (r : ℕ) → a ≤ m
+    → length s ≡ m - a
     → load_on g (drop a nets') (s ++ t) r ≡ load_on g (drop a nets') s r + load_on g (drop m nets') t r
 load_on-behind_append g nets' a m s t r low long =
     let nets : List NetSpec = drop a nets' in
-    let behind : drop (length s) nets ≡ drop m nets' = drop-drop (length s) a nets' ∙ ap (λ k. drop k nets') (omega (arith, low, long)) in
+    let behind : drop (length s) nets ≡ drop m nets' =
+    drop-drop (length s) a nets' ∙ ap (λ k. drop k nets') (omega (arith, low, long)) in
     ap (λ trees. load_on g nets trees r) (sym (take_all (length s + length t) (s ++ t) (omega (arith, length-append s t))))
     ∙ load_on-split g nets (s ++ t) (length s) (length t) r
-    ∙ ap (λ trees. load_on g nets trees r + load_on g (take (length t) (drop (length s) nets)) (take (length t) (drop (length s) (s ++ t))) r) (take-append_seam s t)
-    ∙ ap (λ trees. load_on g nets s r + load_on g (take (length t) (drop (length s) nets)) (take (length t) trees) r) (drop-append_seam s t)
+    ∙ ap (λ trees. load_on g nets trees r + load_on g (take (length t) (drop (length s) nets))
+    (take (length t) (drop (length s) (s ++ t))) r) (take-append_seam s t)
+    ∙ ap (λ trees. load_on g nets s r + load_on g (take (length t) (drop (length s) nets)) (take (length t) trees) r)
+    (drop-append_seam s t)
     ∙ ap (λ load. load_on g nets s r + load) (load_on-first_nets g (drop (length s) nets) t (length t) r)
     ∙ ap (λ trees. load_on g nets s r + load_on g (drop (length s) nets) trees r) (take_all (length t) t (omega arith))
     ∙ ap (λ ns. load_on g nets s r + load_on g ns t r) behind
@@ -91,7 +101,8 @@ pub load_from-append : (d : Design) (a m : ℕ) (s t : List (List Piece)) (r : �
 load_from-append d a m s t r low long = load_on-behind_append d.grid d.nets a m s t r low long
 
 -- a net more
-pub load_between-next : (g : Grid) (nets : List NetSpec) (all : List (List Piece)) (a k : ℕ) (n : NetSpec) (tree : List Piece) (r : ℕ) → At nets k n → At all k tree → a ≤ k
+pub load_between-next : (g : Grid) (nets : List NetSpec) (all : List (List Piece)) (a k : ℕ) (n : NetSpec) (tree : List Piece)
+    (r : ℕ) → At nets k n → At all k tree → a ≤ k
     → load_between g nets all a (k + 1) r ≡ load_between g nets all a k r + tree_load g n.width tree r
 load_between-next g nets all a k n tree r at stands low =
     let next : k + 1 - k ≡ 1 = omega arith in
@@ -104,6 +115,7 @@ load_between-next g nets all a k n tree r at stands low =
       load_on-none g (drop k nets) r,
     )
 
-pub load_between-more : (d : Design) (all : List (List Piece)) (a k : ℕ) (n : NetSpec) (tree : List Piece) (r : ℕ) → At d.nets k n → At all k tree → a ≤ k
+pub load_between-more : (d : Design) (all : List (List Piece)) (a k : ℕ) (n : NetSpec) (tree : List Piece) (r : ℕ)
+    → At d.nets k n → At all k tree → a ≤ k
     → load_between d.grid d.nets all a (k + 1) r ≡ load_between d.grid d.nets all a k r + tree_load d.grid n.width tree r
 load_between-more d all a k n tree r at stands low = load_between-next d.grid d.nets all a k n tree r at stands low

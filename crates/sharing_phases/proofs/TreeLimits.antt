@@ -1,5 +1,6 @@
 -- How much a set of pieces can put on one entry.
-use Rattle.std.proofs.Common.{◌≡◌, ℕ, ◌+◌, ◌≤◌, ◌<◌, Bool, true, false, cond, ◌==◌, max, length, List, slice_index, slice_set, ◌-◌, sym, subst, arith, ⊎_elim}
+use Rattle.std.proofs.Common.{◌≡◌, ℕ, ◌+◌, ◌≤◌, ◌<◌, Bool, true, false, cond, ◌==◌, max, length, List, slice_index, slice_set}
+use Rattle.std.proofs.Common.{◌-◌, sym, subst, arith, ⊎_elim}
 use Rattle.std.proofs.lemmas.Bool.{cases_lt}
 use Rattle.std.proofs.Math.Nat.{max-eq_left, max-eq_right}
 use Rattle.grid_base.specs.declared.piece.Piece.{Piece}
@@ -32,11 +33,13 @@ demand-within : (g : Grid) (width e : ℕ) → IsNetWidth g width → demand_on 
 demand-within g width e fits =
     let layer : ℕ = layer_of (size_of g) (edge_start e) in
     let narrow : width ≤ max_demand = omega (arith, fits 0 (size_of g).within.has_layer) in
-    let most : max width (width_of_layer g layer) ≤ max_demand = max-within width (width_of_layer g layer) max_demand narrow (g.limits.wide.within layer) in
+    let most : max width (width_of_layer g layer) ≤ max_demand =
+    max-within width (width_of_layer g layer) max_demand narrow (g.limits.wide.within layer) in
     omega (arith, most, g.limits.spaced.within layer)
 
 -- and no set puts more on it
-pub tree_load-within : (g : Grid) (width : ℕ) (tree : List Piece) (r : ℕ) → IsNetWidth g width → IsRising tree → ArePieces (size_of g) tree
+pub tree_load-within : (g : Grid) (width : ℕ) (tree : List Piece) (r : ℕ) → IsNetWidth g width → IsRising tree
+    → ArePieces (size_of g) tree
     → tree_load g width tree r ≤ max_tree_load
 tree_load-within g width tree r fits rising pieces =
     cond-within (r == edge_numbers g) (length tree) (net_load g width tree r) max_tree_load
@@ -44,11 +47,15 @@ tree_load-within g width tree r fits rising pieces =
     (cond-within (holds tree r) (demand_on g width r) 0 max_tree_load (demand-within g width r fits) (omega arith))
 
 -- the last entry of a list of loads is the wirelength's
-pub tree_put : (g : Grid) (width : ℕ) (tree pieces : List Piece) (first loads : List ℕ) (r : ℕ) → pieces ≡ tree → ArePieces (size_of g) tree → length loads ≡ entries g
+pub tree_put : (g : Grid) (width : ℕ) (tree pieces : List Piece) (first loads : List ℕ) (r : ℕ) → pieces ≡ tree
+    → ArePieces (size_of g) tree → length loads ≡ entries g
     → ((e : ℕ) → slice_index loads e ≡ slice_index first e + net_load g width tree e)
-    → slice_index (slice_set loads (length loads - 1) (slice_index loads (length loads - 1) + length pieces)) r ≡ slice_index first r + tree_load g width tree r
+    → slice_index (slice_set loads (length loads - 1) (slice_index loads (length loads - 1) + length pieces)) r
+    ≡ slice_index first r + tree_load g width tree r
 tree_put g width tree pieces first loads r same are long edges =
     let last : edge_numbers g ≡ length loads - 1 = omega (arith, long) in
-    subst (λ (k : ℕ). slice_index (slice_set loads k (slice_index loads k + length pieces)) r ≡ slice_index first r + tree_load g width tree r) last
-    (subst (λ (ps : List Piece). slice_index (slice_set loads (edge_numbers g) (slice_index loads (edge_numbers g) + length ps)) r ≡ slice_index first r + tree_load g width tree r) (sym same)
+    subst (λ (k : ℕ). slice_index (slice_set loads k (slice_index loads k + length pieces)) r
+    ≡ slice_index first r + tree_load g width tree r) last
+    (subst (λ (ps : List Piece). slice_index (slice_set loads (edge_numbers g) (slice_index loads (edge_numbers g) + length ps))
+    r ≡ slice_index first r + tree_load g width tree r) (sym same)
     (tree_load-added g width tree first loads r are long edges))

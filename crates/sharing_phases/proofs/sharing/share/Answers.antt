@@ -13,18 +13,26 @@ returns-clause-whole g c =
     let phases = c.in_ok-share.phases.items in
     let run = c.in_ok-share.ensures.run in
     let loads = c.in_ok-loads.loads.items in
-    let long : length loads ≡ entries d.grid = c.in_ok-loads.ensures.long ∙ omega (arith, c.vertices.ensures, ap (λ s. vertices s) c.size.ensures) in
+    let long : length loads ≡ entries d.grid = c.in_ok-loads.ensures.long
+    ∙ omega (arith, c.vertices.ensures, ap (λ s. vertices s) c.size.ensures) in
     rw c.of.ensures (record {
       some = omega (arith, c.in_ok-share.ensures.count, c.requires.settings.some_phases);
       few = omega (arith, c.in_ok-share.ensures.count, c.requires.settings.phases);
       routings = run.routings;
-      loads = ext_get_or 0 loads (phases_loads d.grid d.nets phases) (long ∙ sym (length-map-range_with_len (phases_load d.grid d.nets phases) 0 (entries d.grid)))
+      loads = ext_get_or 0 loads (phases_loads d.grid d.nets phases)
+          (long ∙ sym (length-map-range_with_len (phases_load d.grid d.nets phases) 0 (entries d.grid)))
           (λ r short.
           let within : r < entries d.grid = omega (arith, short, long) in
           ap (λ xs. slice_index xs r) c.in_ok-loads.ensures.shares ∙ run.loads r within
           ∙ sym (get_or-map-range_with_len (phases_load d.grid d.nets phases) 0 (entries d.grid) r r 0 within (omega arith)));
       prices = ap length (written c.in_ok-list.list.len c.prices.new.out c.in_ok-list.list.items
-          (omega (arith, c.in_ok-list.ensures.len, c.prices.ensures.list.long, c.vertices.ensures, ap (λ s. vertices s) c.size.ensures)))
+          (omega (
+            arith,
+            c.in_ok-list.ensures.len,
+            c.prices.ensures.list.long,
+            c.vertices.ensures,
+            ap (λ s. vertices s) c.size.ensures,
+          )))
           ∙ c.prices.ensures.list.long;
       share = record { of_table = run.of_table; allot = run.allot; shares = sym c.in_ok-loads.ensures.shares };
     })

@@ -21,10 +21,17 @@ pub returns-clause-shares : goal.returns-clause-shares
 returns-clause-shares c =
     let shares = c.args.share.now.party.shares in
     c.loop-word.invariant.copied
-    ∙ take_all c.loop-word.word shares (omega (arith, c.loop-word-test.false, c.requires.some, c.loop-word.invariant.wide (omega (arith, c.loop-word-test.false, c.requires.some))))
+    ∙ take_all c.loop-word.word shares (omega (
+      arith,
+      c.loop-word-test.false,
+      c.requires.some,
+      c.loop-word.invariant.wide (omega (arith, c.loop-word-test.false, c.requires.some)),
+    ))
 
 pub returns-clause-long : goal.returns-clause-long
 returns-clause-long c =
     let shares = c.args.share.now.party.shares in
-    let wide : length shares ≡ c.args.words = c.loop-word.invariant.wide (omega (arith, c.loop-word-test.false, c.requires.some)) in
-    ap length (c.loop-word.invariant.copied ∙ take_all c.loop-word.word shares (omega (arith, c.loop-word-test.false, wide))) ∙ wide
+    let wide : length shares ≡ c.args.words = c.loop-word.invariant.wide
+    (omega (arith, c.loop-word-test.false, c.requires.some)) in
+    ap length (c.loop-word.invariant.copied ∙ take_all c.loop-word.word shares (omega (arith, c.loop-word-test.false, wide)))
+    ∙ wide

@@ -32,9 +32,11 @@ split-requires-clause-part c =
     rw (c.from-allotment.ensures, c.deref.ensures.value, c.requires.phase.words)
     (may_be_given (entries p.design.grid) first middle last (parts_load p first middle) (parts_load p middle last)
     c.in_ok-given.given.items c.args.share.now c.requires.range.0 c.requires.range.1
-    (serves_both p first middle last c.args.share.now c.requires.phase.some (omega (arith, c.requires.range)) (omega (arith, c.requires.range))
+    (serves_both p first middle last c.args.share.now c.requires.phase.some (omega (arith, c.requires.range))
+    (omega (arith, c.requires.range))
     c.requires.share)
-    (is_given (entries p.design.grid) p.workers (length p.design.nets) middle last c.part_start-from.result c.part_start-to.result
+    (is_given (entries p.design.grid) p.workers
+    (length p.design.nets) middle last c.part_start-from.result c.part_start-to.result
     (length c.list-nets.result.now) (earlier_load p.design p.earlier) c.in_ok-given.given.items c.part_start-from.ensures.start
     c.part_start-to.ensures.start (ap length c.list-nets.ensures.nets) c.in_ok-given.ensures.long c.in_ok-given.ensures.loads))
 
@@ -47,7 +49,8 @@ returns-clause-kept c =
     c.requires.range.2 c.requires.range.0 c.requires.range.1 c.requires.share
     (is_given (entries p.design.grid) p.workers (length p.design.nets) c.args.middle c.args.last c.part_start-from.result
     c.part_start-to.result (length c.list-nets.result.now) (earlier_load p.design p.earlier) c.in_ok-given.given.items
-    c.part_start-from.ensures.start c.part_start-to.ensures.start (ap length c.list-nets.ensures.nets) c.in_ok-given.ensures.long
+    c.part_start-from.ensures.start c.part_start-to.ensures.start
+    (ap length c.list-nets.ensures.nets) c.in_ok-given.ensures.long
     c.in_ok-given.ensures.loads))
 
 pub returns-clause-given : goal.returns-clause-given
@@ -59,7 +62,8 @@ returns-clause-given c =
     c.requires.range.2 c.requires.range.0 c.requires.range.1 c.requires.share
     (is_given (entries p.design.grid) p.workers (length p.design.nets) c.args.middle c.args.last c.part_start-from.result
     c.part_start-to.result (length c.list-nets.result.now) (earlier_load p.design p.earlier) c.in_ok-given.given.items
-    c.part_start-from.ensures.start c.part_start-to.ensures.start (ap length c.list-nets.ensures.nets) c.in_ok-given.ensures.long
+    c.part_start-from.ensures.start c.part_start-to.ensures.start
+    (ap length c.list-nets.ensures.nets) c.in_ok-given.ensures.long
     c.in_ok-given.ensures.loads))
 
 pub returns-clause-split : goal.returns-clause-split
@@ -73,12 +77,15 @@ returns-clause-split c =
     let event = rw (c.from-allotment.ensures, c.deref.ensures.value) at c.in_ok-other.ensures.event in
     let other = rw (c.from-allotment.ensures, c.deref.ensures.value) at c.in_ok-other.ensures.other in
     subst (λ (h : Holding). AreSplit share h c.in_ok-other.other) (sym event)
-    (subst (λ (h : Holding). AreSplit share (held share.table (kept_after_split share.party ((last - middle) * least_allotment) given)) h)
+    (subst (λ (h : Holding). AreSplit share (held share.table
+    (kept_after_split share.party ((last - middle) * least_allotment) given)) h)
     (sym other)
     (are_split (entries p.design.grid) first middle last (parts_load p first middle) (parts_load p middle last)
     given share c.requires.range.0 c.requires.range.1
-    (serves_both p first middle last share c.requires.phase.some (omega (arith, c.requires.range)) (omega (arith, c.requires.range))
+    (serves_both p first middle last share c.requires.phase.some (omega (arith, c.requires.range))
+    (omega (arith, c.requires.range))
     c.requires.share)
-    (is_given (entries p.design.grid) p.workers (length p.design.nets) middle last c.part_start-from.result c.part_start-to.result
+    (is_given (entries p.design.grid) p.workers
+    (length p.design.nets) middle last c.part_start-from.result c.part_start-to.result
     (length c.list-nets.result.now) (earlier_load p.design p.earlier) given c.part_start-from.ensures.start
     c.part_start-to.ensures.start (ap length c.list-nets.ensures.nets) c.in_ok-given.ensures.long c.in_ok-given.ensures.loads)))
