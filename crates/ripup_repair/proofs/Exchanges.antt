@@ -1,15 +1,11 @@
 -- Routings in which the nets at some positions have other sets.
-use Rattle.std.proofs.Common.{◌≡◌, ℕ, zero, suc, ◌+◌, ◌-◌, ◌*◌, ◌≤◌, ◌<◌, List, [], ◌∷◌, ◌++◌, length, get_or, slice_get, slice_set, refl, sym, ◌∙◌, ap, subst, arith}
+use Rattle.std.proofs.Common.{◌≡◌, ℕ, suc, ◌+◌, ◌-◌, ◌*◌, ◌≤◌, List, [], ◌∷◌, length, slice_set, refl, ◌∙◌, ap, arith}
 use Rattle.std.proofs.lemmas.List.{length-set}
-use Rattle.std.proofs.lemmas.List.Elements.{All-tail}
-use Rattle.std.proofs.lemmas.Option.{slice_get_within, same_Some}
-use Rattle.std.proofs.lemmas.Slice.Zip.{AllZip-long}
 use Rattle.grid_base.specs.declared.piece.Piece.{Piece}
 use Rattle.grid_base.specs.Lists.{At}
-use Rattle.grid_base.proofs.Lists.{AllZip-at}
 use Rattle.grid_graph.specs.declared.grid.Grid.{Grid}
 use Rattle.grid_graph.specs.declared.net_spec.NetSpec.{NetSpec}
-use Rattle.grid_graph.specs.Grids.{IsNetWidth, size_of}
+use Rattle.grid_graph.specs.Grids.{IsNetWidth}
 use Rattle.tree_set.specs.Loads.{load_on, max_tree_load, tree_load}
 use Rattle.tree_set.specs.Order.{IsRising}
 use Rattle.tree_set.specs.Routings.{IsRoute, IsRouting}
@@ -20,7 +16,8 @@ use Rattle.price_workers.proofs.TurnFacts.{route_pieces, stands}
 use Rattle.sharing_phases.proofs.Sums.{load_on-behind_append, load_on-behind_push}
 use Rattle.sharing_phases.proofs.TreeLimits.{tree_load-within}
 use Rattle.ripup_repair.specs.Exchanged.{with_elements}
-use Rattle.ripup_repair.proofs.Positions.{AreRising, AreWithin, at_positions-cons, at_positions-elsewhere, first_within, none_is_first, rest_rising, rest_within}
+use Rattle.ripup_repair.proofs.Positions.{AreRising, AreWithin, at_positions-cons, at_positions-elsewhere, first_within}
+use Rattle.ripup_repair.proofs.Positions.{none_is_first, rest_rising, rest_within}
 
 -- the load of a first net and of the others
 pub load_on-cons : (g : Grid) (n : NetSpec) (nets : List NetSpec) (t : List Piece) (trees : List (List Piece)) (r : ℕ)
@@ -47,8 +44,10 @@ load_on-with g nets trees (k ∷ ks) (y ∷ sets) r long within rising even =
     let ns : List NetSpec = at_positions nets ks in
     let zs : List (List Piece) = slice_set trees k y in
     let among : AreWithin trees ks = λ i d short. omega (arith, rest_within nets k ks within i d short, long) in
-    let again : at_positions zs ks ≡ at_positions trees ks = at_positions-elsewhere trees k y ks among (none_is_first k ks rising) in
-    let first : load_on g (at_positions nets (k ∷ ks)) (at_positions trees (k ∷ ks)) r ≡ tree_load g n.0.width t.0 r + load_on g ns (at_positions trees ks) r =
+    let again : at_positions zs ks ≡ at_positions trees ks =
+    at_positions-elsewhere trees k y ks among (none_is_first k ks rising) in
+    let first : load_on g (at_positions nets (k ∷ ks)) (at_positions trees (k ∷ ks)) r
+    ≡ tree_load g n.0.width t.0 r + load_on g ns (at_positions trees ks) r =
     ap (λ l. load_on g l (at_positions trees (k ∷ ks)) r) (at_positions-cons nets k ks n.0 n.1)
     ∙ ap (λ l. load_on g (n.0 ∷ ns) l r) (at_positions-cons trees k ks t.0 t.1)
     ∙ load_on-cons g n.0 ns t.0 (at_positions trees ks) r in
@@ -58,7 +57,8 @@ load_on-with g nets trees (k ∷ ks) (y ∷ sets) r long within rising even =
       arith,
       first,
       second,
-      load_on-with g nets zs ks sets r (length-set trees k y ∙ long) (rest_within nets k ks within) (rest_rising k ks rising) (omega (arith, even)),
+      load_on-with g nets zs ks sets r (length-set trees k y ∙ long) (rest_within nets k ks within) (rest_rising k ks rising)
+          (omega (arith, even)),
       ap (λ l. load_on g ns l r) again,
       load_on-set g nets trees k n.0 t.0 y r n.1 t.1,
     )
@@ -79,7 +79,8 @@ routing-with g nets trees (k ∷ ks) (y ∷ sets) routing within routes =
 
 -- a routing has no more load than so much for each net
 pub load_on-within : (g : Grid) (nets : List NetSpec) (trees : List (List Piece)) (r : ℕ)
-    → ((k : ℕ) (n : NetSpec) → At nets k n → IsNetWidth g n.width) → ((k : ℕ) (t : List Piece) → At trees k t → IsRising t) → IsRouting g nets trees
+    → ((k : ℕ) (n : NetSpec) → At nets k n → IsNetWidth g n.width) → ((k : ℕ) (t : List Piece) → At trees k t → IsRising t)
+    → IsRouting g nets trees
     → load_on g nets trees r ≤ length nets * max_tree_load
 load_on-within g [] [] r widths rising routing = omega (arith, load_on-none g [] r)
 load_on-within g [] (t ∷ trees) r widths rising routing = absurd routing

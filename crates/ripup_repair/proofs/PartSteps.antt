@@ -1,5 +1,6 @@
 -- The net of a turn, by its position.
-use Rattle.std.proofs.Common.{◌≡◌, ℕ, ◌+◌, ◌-◌, ◌≤◌, ◌<◌, List, ◌∷◌, ◌++◌, length, get_or, slice_get, slice_range, Some, sym, ◌∙◌, ap, subst, arith}
+use Rattle.std.proofs.Common.{◌≡◌, ℕ, ◌+◌, ◌-◌, ◌<◌, List, ◌∷◌, ◌++◌, length, get_or, slice_range, Some, sym, ◌∙◌, ap, subst}
+use Rattle.std.proofs.Common.{arith}
 use Rattle.std.proofs.Math.Seq.{get_or-append_seam}
 use Rattle.std.proofs.lemmas.List.{length-append}
 use Rattle.std.proofs.lemmas.Option.{get_or_from_slice_get, slice_get-get_or}
@@ -26,10 +27,15 @@ pub count : (p : Round) → IsRound p → length p.positions ≡ length (repaire
 count p round = sym (at_positions-long p.design.nets p.positions round.nets)
 
 pub sets_within : (p : Round) → IsRound p → AreWithin p.before p.positions
-sets_within p round k d short = omega (arith, round.nets k d short, AllZip-long (IsRoute p.design.grid) p.design.nets p.before round.routing)
+sets_within p round k d short = omega (
+  arith,
+  round.nets k d short,
+  AllZip-long (IsRoute p.design.grid) p.design.nets p.before round.routing,
+)
 
 -- a turn of a worker is one of the round
-pub in_round : (p : Round) (worker turn : ℕ) → IsRound p → worker < p.workers → turn < turns_start p (worker + 1) → turn < length p.positions
+pub in_round : (p : Round) (worker turn : ℕ) → IsRound p → worker < p.workers → turn < turns_start p (worker + 1)
+    → turn < length p.positions
 in_round p worker turn round exists before =
     omega (arith, count p round, in_design p.workers (length (repaired_nets p)) worker turn round.some exists before)
 
@@ -38,7 +44,8 @@ pub in_nets : (p : Round) (turn : ℕ) → IsRound p → turn < length p.positio
 in_nets p turn round short = round.nets turn 0 short
 
 -- the net of the turn and the set that it had
-pub turn_of : (p : Round) (worker turn : ℕ) (n : NetSpec) → IsRound p → IsInPart p.workers (length (repaired_nets p)) worker turn
+pub turn_of : (p : Round) (worker turn : ℕ) (n : NetSpec) → IsRound p
+    → IsInPart p.workers (length (repaired_nets p)) worker turn
     → At p.design.nets (get_or p.positions turn 0) n → (before : List Piece) × IsTurnOf p worker turn n before
 turn_of p worker turn n round part at =
     let k : ℕ = get_or p.positions turn 0 in
@@ -51,7 +58,8 @@ turn_of p worker turn n round part at =
         net = at_positions-at p.design.nets p.positions turn k n round.nets among at;
         had = at_positions-at p.before p.positions turn k t.0 (sets_within p round) among t.1;
         width = (p.design.limits.net k n at).width;
-        pieces = route_pieces p.design.grid n t.0 (AllZip-at (IsRoute p.design.grid) p.design.nets p.before k n t.0 round.routing at t.1);
+        pieces = route_pieces p.design.grid n t.0 (AllZip-at
+            (IsRoute p.design.grid) p.design.nets p.before k n t.0 round.routing at t.1);
       },
     )
 
@@ -65,17 +73,21 @@ own_set p worker first turn to at n before w place of within =
     let long : length within.sets ≡ at = within.turns.long ∙ sym place in
     let short : length within.sets < length all = omega (arith, length-append within.sets (before ∷ rest)) in
     let here : At all (length within.sets) before =
-    slice_get-get_or all (length within.sets) before short ∙ ap (λ x. Some x) (get_or-append_seam within.sets before rest before) in
+    slice_get-get_or all (length within.sets) before short
+    ∙ ap (λ x. Some x) (get_or-append_seam within.sets before rest before) in
     subst (λ (l : List (List Piece)). At l at before) (sym (at_own_place p worker first turn to n before w of within))
     (subst (λ (k : ℕ). At all k before) long here)
 
 -- the set that stands there is still in the share
 pub own_set_had : (p : Round) (worker : ℕ) (first : Holding) (turn to at : ℕ) (n : NetSpec) (before : List Piece) (w : Worker)
-    → at ≡ turn - turns_start p worker → IsRound p → IsInPart p.workers (length (repaired_nets p)) worker turn → At p.design.nets (get_or p.positions turn 0) n
+    → at ≡ turn - turns_start p worker → IsRound p → IsInPart p.workers (length (repaired_nets p)) worker turn
+    → At p.design.nets (get_or p.positions turn 0) n
     → ServesTurns p worker (worker + 1) first → IsWithinTurns p worker first turn to w → At (trees_of w) at before
     → HoldsTree p.design.grid n.width before (party_of w)
 own_set_had p worker first turn to at n before w place round part net serves within there =
     let b = turn_of p worker turn n round part net in
     let own : At (trees_of w) at b.0 = own_set p worker first turn to at n b.0 w place b.1 within in
-    let same : b.0 ≡ before = sym (get_or_from_slice_get (trees_of w) at b.0 before own) ∙ get_or_from_slice_get (trees_of w) at before before there in
-    subst (λ (t : List Piece). HoldsTree p.design.grid n.width t (party_of w)) same (still_had p worker first turn to n b.0 w serves b.1 within)
+    let same : b.0 ≡ before = sym (get_or_from_slice_get (trees_of w) at b.0 before own)
+    ∙ get_or_from_slice_get (trees_of w) at before before there in
+    subst (λ (t : List Piece). HoldsTree p.design.grid n.width t (party_of w)) same
+    (still_had p worker first turn to n b.0 w serves b.1 within)

@@ -1,6 +1,8 @@
 -- The elements at some positions of a list, and lists in which others stand there.
-use Rattle.std.proofs.Common.{◌≡◌, ◌≢◌, ℕ, zero, suc, ◌+◌, ◌-◌, ◌≤◌, ◌<◌, List, [], ◌∷◌, ◌++◌, length, take, drop, get_or, slice_get, slice_set, slice_range, Some, All, AllPairs, refl, sym, ◌∙◌, ap, subst, arith}
-use Rattle.std.proofs.lemmas.List.{get_or-set_same, get_or-set_other, length-set, length-take, get_or-drop, get_or-take, length-drop, set-get_or, append-nil, take_more}
+use Rattle.std.proofs.Common.{◌≡◌, ◌≢◌, ℕ, zero, suc, ◌+◌, ◌-◌, ◌≤◌, ◌<◌, List, [], ◌∷◌, ◌++◌, length, take, drop, get_or}
+use Rattle.std.proofs.Common.{slice_get, slice_set, slice_range, Some, All, AllPairs, refl, sym, ◌∙◌, ap, subst, arith}
+use Rattle.std.proofs.lemmas.List.{get_or-set_same, get_or-set_other, length-set, length-take, get_or-drop, get_or-take}
+use Rattle.std.proofs.lemmas.List.{length-drop, set-get_or, append-nil, take_more}
 use Rattle.std.proofs.lemmas.List.Elements.{All-nil, All-cons, All-tail}
 use Rattle.std.proofs.lemmas.Grind.{flat_map-append}
 use Rattle.std.proofs.lemmas.Option.{slice_get_within, get_or_from_slice_get, slice_get-get_or}
@@ -16,7 +18,8 @@ one_here xs k x at =
     let next : k + 1 - k ≡ 1 = omega arith in
     ap (λ n. take n (drop k xs)) next ∙ take_one xs k x at
 
-pub at_positions-cons : {X : Type 0} (xs : List X) (k : ℕ) (ks : List ℕ) (x : X) → At xs k x → at_positions xs (k ∷ ks) ≡ x ∷ at_positions xs ks
+pub at_positions-cons : {X : Type 0} (xs : List X) (k : ℕ) (ks : List ℕ) (x : X) → At xs k x
+    → at_positions xs (k ∷ ks) ≡ x ∷ at_positions xs ks
 at_positions-cons xs k ks x at = ap (λ first. first ++ at_positions xs ks) (one_here xs k x at)
 
 -- all positions are within the list
@@ -36,14 +39,16 @@ at_positions-long xs (k ∷ ks) within =
     ap length (at_positions-cons xs k ks x.0 x.1) ∙ ap (λ n. suc n) (at_positions-long xs ks (rest_within xs k ks within))
 
 -- what stands at a place among them stands at that position
-pub at_positions-at : {X : Type 0} (xs : List X) (ks : List ℕ) (i k : ℕ) (x : X) → AreWithin xs ks → At ks i k → At xs k x → At (at_positions xs ks) i x
+pub at_positions-at : {X : Type 0} (xs : List X) (ks : List ℕ) (i k : ℕ) (x : X) → AreWithin xs ks → At ks i k → At xs k x
+    → At (at_positions xs ks) i x
 at_positions-at xs [] i k x within at stands' = absurd (omega (arith, slice_get_within [] i k at))
 at_positions-at xs (j ∷ ks) zero k x within at stands' =
     let same : j ≡ k = get_or_from_slice_get (j ∷ ks) 0 k 0 at in
     ap (λ l. slice_get l 0) (at_positions-cons xs j ks x (subst (λ (p : ℕ). At xs p x) (sym same) stands'))
 at_positions-at xs (j ∷ ks) (suc i) k x within at stands' =
     let y = stands xs j (first_within xs j ks within) in
-    ap (λ l. slice_get l (suc i)) (at_positions-cons xs j ks y.0 y.1) ∙ at_positions-at xs ks i k x (rest_within xs j ks within) at stands'
+    ap (λ l. slice_get l (suc i)) (at_positions-cons xs j ks y.0 y.1)
+    ∙ at_positions-at xs ks i k x (rest_within xs j ks within) at stands'
 
 pub take_within : {X : Type 0} (xs : List X) (ks : List ℕ) (n : ℕ) → AreWithin xs ks → AreWithin xs (take n ks)
 take_within xs ks zero within = All-nil (λ j. j < length xs)
@@ -52,7 +57,8 @@ take_within xs (k ∷ ks) (suc n) within =
     All-cons (λ j. j < length xs) k (take n ks) (first_within xs k ks within) (take_within xs ks n (rest_within xs k ks within))
 
 -- one position more
-pub at_positions-push : {X : Type 0} (xs : List X) (ks : List ℕ) (k : ℕ) (x : X) → At xs k x → at_positions xs (ks ++ k ∷ []) ≡ at_positions xs ks ++ x ∷ []
+pub at_positions-push : {X : Type 0} (xs : List X) (ks : List ℕ) (k : ℕ) (x : X) → At xs k x
+    → at_positions xs (ks ++ k ∷ []) ≡ at_positions xs ks ++ x ∷ []
 at_positions-push xs ks k x at =
     flat_map-append (λ j. slice_range xs j (j + 1)) ks (k ∷ [])
     ∙ ap (λ last. at_positions xs ks ++ last) (append-nil (slice_range xs k (k + 1)) ∙ one_here xs k x at)
@@ -88,12 +94,14 @@ At-set_other xs k j x y at other =
     slice_get-get_or (slice_set xs j y) k x (omega (arith, length-set xs j y, within))
     ∙ ap (λ z. Some z) (get_or-set_other xs j k y x other ∙ get_or_from_slice_get xs k x x at)
 
-pub at_positions-elsewhere : {X : Type 0} (xs : List X) (j : ℕ) (y : X) (ks : List ℕ) → AreWithin xs ks → All (λ k. k ≢ j) ks → at_positions (slice_set xs j y) ks ≡ at_positions xs ks
+pub at_positions-elsewhere : {X : Type 0} (xs : List X) (j : ℕ) (y : X) (ks : List ℕ) → AreWithin xs ks → All (λ k. k ≢ j) ks
+    → at_positions (slice_set xs j y) ks ≡ at_positions xs ks
 at_positions-elsewhere xs j y [] within others = refl
 at_positions-elsewhere xs j y (k ∷ ks) within others =
     let x = stands xs k (first_within xs k ks within) in
     at_positions-cons (slice_set xs j y) k ks x.0 (At-set_other xs k j x.0 y x.1 (head_of (λ i. i ≢ j) k ks others))
-    ∙ ap (λ rest. x.0 ∷ rest) (at_positions-elsewhere xs j y ks (rest_within xs k ks within) (All-tail (λ i. i ≢ j) k ks others))
+    ∙ ap (λ rest. x.0 ∷ rest) (at_positions-elsewhere xs j y ks (rest_within xs k ks within)
+    (All-tail (λ i. i ≢ j) k ks others))
     ∙ sym (at_positions-cons xs k ks x.0 x.1)
 
 -- the list with other elements at some positions is as long
@@ -111,7 +119,8 @@ with_elements-push xs (j ∷ ks) [] k y long = absurd (omega (arith, long))
 with_elements-push xs (j ∷ ks) (z ∷ ys) k y long = with_elements-push (slice_set xs j z) ks ys k y (omega (arith, long))
 
 -- elsewhere it is the list that it was
-pub with_elements-other : {X : Type 0} (xs : List X) (ks : List ℕ) (ys : List X) (j : ℕ) (d : X) → All (λ k. k ≢ j) ks → get_or (with_elements xs ks ys) j d ≡ get_or xs j d
+pub with_elements-other : {X : Type 0} (xs : List X) (ks : List ℕ) (ys : List X) (j : ℕ) (d : X) → All (λ k. k ≢ j) ks
+    → get_or (with_elements xs ks ys) j d ≡ get_or xs j d
 with_elements-other xs [] ys j d others = refl
 with_elements-other xs (k ∷ ks) [] j d others = refl
 with_elements-other xs (k ∷ ks) (y ∷ ys) j d others =
@@ -122,7 +131,8 @@ within_set : {X : Type 0} (xs : List X) (k : ℕ) (y : X) (ks : List ℕ) → Ar
 within_set xs k y ks within i d short = omega (arith, within i d short, length-set xs k y)
 
 -- at the positions stand the other elements
-pub at_positions-with : {X : Type 0} (xs : List X) (ks : List ℕ) (ys : List X) → AreWithin xs ks → AreRising ks → length ys ≡ length ks
+pub at_positions-with : {X : Type 0} (xs : List X) (ks : List ℕ) (ys : List X) → AreWithin xs ks → AreRising ks
+    → length ys ≡ length ks
     → at_positions (with_elements xs ks ys) ks ≡ ys
 at_positions-with xs [] [] within rising long = refl
 at_positions-with xs [] (y ∷ ys) within rising long = absurd (omega (arith, long))
@@ -133,12 +143,15 @@ at_positions-with xs (k ∷ ks) (y ∷ ys) within rising long =
     let here : get_or all k y ≡ y =
     with_elements-other zs ks ys k y (none_is_first k ks rising) ∙ get_or-set_same xs k y y (first_within xs k ks within) in
     let at : At all k y =
-    slice_get-get_or all k y (omega (arith, with_elements-long zs ks ys, length-set xs k y, first_within xs k ks within)) ∙ ap (λ z. Some z) here in
+    slice_get-get_or all k y (omega (arith, with_elements-long zs ks ys, length-set xs k y, first_within xs k ks within))
+    ∙ ap (λ z. Some z) here in
     at_positions-cons all k ks y at
-    ∙ ap (λ rest. y ∷ rest) (at_positions-with zs ks ys (within_set xs k y ks (rest_within xs k ks within)) (rest_rising k ks rising) (omega (arith, long)))
+    ∙ ap (λ rest. y ∷ rest) (at_positions-with zs ks ys (within_set xs k y ks (rest_within xs k ks within))
+    (rest_rising k ks rising) (omega (arith, long)))
 
 -- two elements at different places can be put there in either order
-set_apart : {X : Type 0} (xs : List X) (j k : ℕ) (x y : X) → j ≢ k → slice_set (slice_set xs j x) k y ≡ slice_set (slice_set xs k y) j x
+set_apart : {X : Type 0} (xs : List X) (j k : ℕ) (x y : X) → j ≢ k
+    → slice_set (slice_set xs j x) k y ≡ slice_set (slice_set xs k y) j x
 set_apart [] j k x y apart = refl
 set_apart (z ∷ xs) zero zero x y apart = absurd (apart refl)
 set_apart (z ∷ xs) zero (suc k) x y apart = refl
@@ -160,7 +173,8 @@ set_twice (z ∷ xs) zero x y = refl
 set_twice (z ∷ xs) (suc k) x y = ap (λ l. z ∷ l) (set_twice xs k x y)
 
 -- with the elements that stood there before, it is the list that it was
-pub with_elements-back : {X : Type 0} (xs : List X) (ks : List ℕ) (ys : List X) → AreWithin xs ks → AreRising ks → length ys ≡ length ks
+pub with_elements-back : {X : Type 0} (xs : List X) (ks : List ℕ) (ys : List X) → AreWithin xs ks → AreRising ks
+    → length ys ≡ length ks
     → with_elements (with_elements xs ks ys) ks (at_positions xs ks) ≡ xs
 with_elements-back xs [] ys within rising long = refl
 with_elements-back xs (k ∷ ks) [] within rising long = absurd (omega (arith, long))
@@ -171,11 +185,13 @@ with_elements-back xs (k ∷ ks) (y ∷ ys) within rising long =
     let again : slice_set zs k x.0 ≡ xs =
     set_twice xs k y x.0 ∙ ap (slice_set xs k) (sym (get_or_from_slice_get xs k x.0 x.0 x.1)) ∙ set-get_or xs k x.0 in
     ap (with_elements (with_elements zs ks ys) (k ∷ ks)) (at_positions-cons xs k ks x.0 x.1)
-    ∙ ap (λ l. with_elements l ks (at_positions xs ks)) (set_aside zs ks ys k x.0 others ∙ ap (λ l. with_elements l ks ys) again)
+    ∙ ap (λ l. with_elements l ks (at_positions xs ks))
+    (set_aside zs ks ys k x.0 others ∙ ap (λ l. with_elements l ks ys) again)
     ∙ with_elements-back xs ks ys (rest_within xs k ks within) (rest_rising k ks rising) (omega (arith, long))
 
 -- a part of a list that is longer by one
-pub slice-push : {X : Type 0} (xs : List X) (a i : ℕ) (x : X) → At xs i x → a ≤ i → slice_range xs a (i + 1) ≡ slice_range xs a i ++ x ∷ []
+pub slice-push : {X : Type 0} (xs : List X) (a i : ℕ) (x : X) → At xs i x → a ≤ i
+    → slice_range xs a (i + 1) ≡ slice_range xs a i ++ x ∷ []
 slice-push xs a i x at low =
     let within : i < length xs = slice_get_within xs i x at in
     let many : i + 1 - a ≡ (i - a) + 1 = omega (arith, low) in

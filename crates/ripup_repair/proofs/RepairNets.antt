@@ -1,13 +1,14 @@
 -- Overfull edges, and the positions of the nets that are to be repaired.
-use Rattle.std.proofs.Common.{◌≡◌, ℕ, ◌+◌, ◌*◌, ◌≤◌, ◌<◌, Bool, ◌||◌, cond, List, [], ◌∷◌, length, get_or, slice_index_or, All, AllPairs, refl, sym, ◌∙◌, ap, subst, arith, not, ne_eqb}
-use Rattle.std.specs.List.{filter, list_any, range_with_len}
+use Rattle.std.proofs.Common.{◌≡◌, ℕ, ◌≤◌, ◌<◌, Bool, ◌||◌, cond, List, [], ◌∷◌, length, slice_index_or, refl, ◌∙◌, ap, arith}
+use Rattle.std.proofs.Common.{not, ne_eqb}
+use Rattle.std.specs.List.{list_any, range_with_len}
 use Rattle.std.proofs.lemmas.List.Elements.{All-filter, All-head, All-tail}
 use Rattle.std.proofs.lemmas.List.Filters.{length-filter_both}
 use Rattle.std.proofs.lemmas.List.FromFn.{get_or-range_with_len, length-range_with_len}
 use Rattle.std.proofs.lemmas.List.Kept.{AllPairs-filter}
 use Rattle.grid_base.specs.declared.piece.Piece.{Piece}
 use Rattle.grid_base.specs.declared.piece.Piece.TheVariants.{Edge, Via}
-use Rattle.grid_base.specs.Numbers.{IsPiece, vertices}
+use Rattle.grid_base.specs.Numbers.{IsPiece}
 use Rattle.grid_graph.specs.declared.design.Design.{Design}
 use Rattle.grid_graph.specs.declared.grid.Grid.{Grid}
 use Rattle.grid_graph.specs.declared.net_spec.NetSpec.{NetSpec}
@@ -19,17 +20,21 @@ use Rattle.sharing_runs.specs.RepairRuns.{holds_overfull, is_overfull, is_overfu
 use Rattle.ripup_repair.proofs.Positions.{AreRising, AreWithin}
 
 -- the load of a routing on an edge
-pub load_on-edge : (g : Grid) (nets : List NetSpec) (trees : List (List Piece)) (e : ℕ) → e < edge_numbers g → load_on g nets trees e ≡ load g nets trees e
+pub load_on-edge : (g : Grid) (nets : List NetSpec) (trees : List (List Piece)) (e : ℕ) → e < edge_numbers g
+    → load_on g nets trees e ≡ load g nets trees e
 load_on-edge g nets trees e within =
-    ap (λ (b : Bool). cond b (wirelength trees) (load g nets trees e)) (ne_eqb e (edge_numbers g) (λ same. omega (arith, same, within)))
+    ap (λ (b : Bool). cond b (wirelength trees) (load g nets trees e))
+    (ne_eqb e (edge_numbers g) (λ same. omega (arith, same, within)))
 
 -- a piece is overfull at the same loads
-same_edge : (g : Grid) (f h : ℕ → ℕ) (p : Piece) → IsPiece (size_of g) p → ((e : ℕ) → e < edge_numbers g → f e ≡ h e) → is_overfull_edge g f p ≡ is_overfull_edge g h p
+same_edge : (g : Grid) (f h : ℕ → ℕ) (p : Piece) → IsPiece (size_of g) p → ((e : ℕ) → e < edge_numbers g → f e ≡ h e)
+    → is_overfull_edge g f p ≡ is_overfull_edge g h p
 same_edge g f h (Edge e) piece same = ap (λ l. is_overfull (kind g e.0) l (capacity g e.0)) (same e.0 (omega (arith, piece.0)))
 same_edge g f h (Via v) piece same = refl
 
 -- and so is a set
-pub holds_overfull-same : (g : Grid) (f h : ℕ → ℕ) (ps : List Piece) → ArePieces (size_of g) ps → ((e : ℕ) → e < edge_numbers g → f e ≡ h e)
+pub holds_overfull-same : (g : Grid) (f h : ℕ → ℕ) (ps : List Piece) → ArePieces (size_of g) ps
+    → ((e : ℕ) → e < edge_numbers g → f e ≡ h e)
     → holds_overfull g f ps ≡ holds_overfull g h ps
 holds_overfull-same g f h [] pieces same = refl
 holds_overfull-same g f h (p ∷ ps) pieces same =
@@ -39,15 +44,28 @@ holds_overfull-same g f h (p ∷ ps) pieces same =
 -- the positions are those of nets, in rising order, and no more than the nets
 pub repair-within : (d : Design) (trees : List (List Piece)) → AreWithin trees (nets_to_repair d trees)
 repair-within d trees =
-    All-filter (λ position. holds_overfull d.grid (load d.grid d.nets trees) (slice_index_or trees position [])) (λ k. k < length trees) (range_with_len 0 (length trees))
-    (λ k e short. omega (arith, get_or-range_with_len 0 (length trees) k e (omega (arith, short, length-range_with_len 0 (length trees))), short, length-range_with_len 0 (length trees)))
+    All-filter (λ position. holds_overfull d.grid (load d.grid d.nets trees) (slice_index_or trees position []))
+    (λ k. k < length trees) (range_with_len 0 (length trees))
+    (λ k e short. omega (
+      arith,
+      get_or-range_with_len 0 (length trees) k e
+          (omega (arith, short, length-range_with_len 0 (length trees))),
+      short,
+      length-range_with_len 0 (length trees),
+    ))
 
 pub repair-rising : (d : Design) (trees : List (List Piece)) → AreRising (nets_to_repair d trees)
 repair-rising d trees =
-    AllPairs-filter (λ k later. k < later) (λ position. holds_overfull d.grid (load d.grid d.nets trees) (slice_index_or trees position [])) (range_with_len 0 (length trees))
+    AllPairs-filter (λ k later. k < later) (λ position. holds_overfull d.grid (load d.grid d.nets trees)
+    (slice_index_or trees position [])) (range_with_len 0 (length trees))
     (λ i j e before short.
     let inside : j < length trees = omega (arith, short, length-range_with_len 0 (length trees)) in
-    omega (arith, before, get_or-range_with_len 0 (length trees) i e (omega (arith, before, inside)), get_or-range_with_len 0 (length trees) j e inside))
+    omega (
+      arith,
+      before,
+      get_or-range_with_len 0 (length trees) i e (omega (arith, before, inside)),
+      get_or-range_with_len 0 (length trees) j e inside,
+    ))
 
 pub repair-few : (d : Design) (trees : List (List Piece)) → length (nets_to_repair d trees) ≤ length trees
 repair-few d trees =

@@ -1,5 +1,6 @@
 -- A round of repair as a whole: what its workers begin with, and what they leave.
-use Rattle.std.proofs.Common.{◌≡◌, ◌==◌, Bool, true, false, cond, ℕ, zero, suc, ◌+◌, ◌-◌, ◌*◌, ◌≤◌, ◌<◌, List, [], ◌∷◌, ◌++◌, length, map, take, drop, get_or, slice_index_or, slice_range, Option, All, refl, sym, ◌∙◌, ap, subst, arith, ⊎_elim}
+use Rattle.std.proofs.Common.{◌≡◌, ◌==◌, Bool, true, false, cond, ℕ, ◌+◌, ◌-◌, ◌≤◌, ◌<◌, List, [], ◌∷◌, ◌++◌, length, map, take}
+use Rattle.std.proofs.Common.{drop, get_or, slice_range, Option, All, refl, sym, ◌∙◌, ap, subst, arith, ⊎_elim}
 use Rattle.std.proofs.Math.Seq.{take-append_seam}
 use Rattle.std.proofs.lemmas.Bool.{cases_lt}
 use Rattle.std.proofs.lemmas.List.{get_or_past, length-map}
@@ -16,7 +17,6 @@ use Rattle.grid_graph.specs.Grids.{edge_numbers, entries, size_of}
 use Rattle.grid_graph.specs.Grounds.{AreGrounds}
 use Rattle.edge_prices.specs.Limits.{IsBudget}
 use Rattle.price_workers.specs.Limits.{max_workers}
-use Rattle.load_core.specs.Parties.{share_at}
 use Rattle.load_table.specs.Holdings.{Holding}
 use Rattle.tree_set.specs.Loads.{load_on, tree_load}
 use Rattle.tree_set.specs.Order.{IsRising}
@@ -36,7 +36,8 @@ use Rattle.ripup_repair.specs.RoundsDone.{HasLoadOf, IsRoundDone}
 use Rattle.ripup_repair.proofs.Exchanges.{load_on-cons, load_on-with, load_on-within, routing-with}
 use Rattle.ripup_repair.proofs.RepairNets.{repair-few, repair-rising, repair-within}
 use Rattle.ripup_repair.proofs.PartSteps.{sets_within}
-use Rattle.ripup_repair.proofs.Positions.{AreRising, at_positions-at, at_positions-long, at_positions-with, with_elements-long, with_elements-other}
+use Rattle.ripup_repair.proofs.Positions.{AreRising, at_positions-at, at_positions-long, at_positions-with, with_elements-long}
+use Rattle.ripup_repair.proofs.Positions.{with_elements-other}
 use Rattle.ripup_repair.proofs.RoundSplits.{turns_start-le}
 use Rattle.ripup_repair.proofs.TurnSteps.{Turn, start_of}
 
@@ -48,7 +49,8 @@ either_none false = refl
 no_tree_load : (g : Grid) (width r : ℕ) → tree_load g width [] r ≡ 0
 no_tree_load g width r = either_none (r == edge_numbers g)
 
-no_load : (g : Grid) (nets : List NetSpec) (ks : List ℕ) (r : ℕ) → length ks ≡ length nets → load_on g nets (map (λ k. []) ks) r ≡ 0
+no_load : (g : Grid) (nets : List NetSpec) (ks : List ℕ) (r : ℕ) → length ks ≡ length nets
+    → load_on g nets (map (λ k. []) ks) r ≡ 0
 no_load g [] [] r even = load_on-none g [] r
 no_load g [] (k ∷ ks) r even = absurd (omega (arith, even))
 no_load g (n ∷ nets) [] r even = absurd (omega (arith, even))
@@ -69,7 +71,8 @@ load_on-part p r round rising =
     let even : length none ≡ length p.positions = length-map p.positions (λ k. []) in
     omega (
       arith,
-      load_on-with g p.design.nets p.before p.positions none r (AllZip-long (IsRoute g) p.design.nets p.before round.routing) round.nets rising even,
+      load_on-with g p.design.nets p.before p.positions none r
+          (AllZip-long (IsRoute g) p.design.nets p.before round.routing) round.nets rising even,
       no_load g (repaired_nets p) p.positions r (sym (at_positions-long p.design.nets p.positions round.nets)),
     )
 
@@ -78,16 +81,21 @@ old_whole : (p : Round) (r : ℕ) → IsRound p
     → old_load p (turns_start p 0) (turns_start p p.workers) r ≡ load_on p.design.grid (repaired_nets p) (old_sets p) r
 old_whole p r round =
     let n : ℕ = length (repaired_nets p) in
-    let long : length (old_sets p) ≡ n = at_positions-long p.before p.positions (sets_within p round) ∙ sym (at_positions-long p.design.nets p.positions round.nets) in
-    load_between-here p.design.grid (repaired_nets p) (old_sets p) (old_sets p) (turns_start p 0) (turns_start p p.workers) r (all_parts p.workers n (old_sets p) round.some long)
+    let long : length (old_sets p) ≡ n = at_positions-long p.before p.positions (sets_within p round)
+    ∙ sym (at_positions-long p.design.nets p.positions round.nets) in
+    load_between-here p.design.grid (repaired_nets p) (old_sets p) (old_sets p) (turns_start p 0) (turns_start p p.workers) r
+    (all_parts p.workers n (old_sets p) round.some long)
     ∙ ap (λ k. load_on p.design.grid (drop k (repaired_nets p)) (old_sets p) r) (first_start p.workers n)
 
-new_whole : (p : Round) (sets : List (List Piece)) (r : ℕ) → new_load p (turns_start p 0) sets r ≡ load_on p.design.grid (repaired_nets p) sets r
-new_whole p sets r = ap (λ k. load_on p.design.grid (drop k (repaired_nets p)) sets r) (first_start p.workers (length (repaired_nets p)))
+new_whole : (p : Round) (sets : List (List Piece)) (r : ℕ)
+    → new_load p (turns_start p 0) sets r ≡ load_on p.design.grid (repaired_nets p) sets r
+new_whole p sets r = ap (λ k. load_on p.design.grid (drop k (repaired_nets p)) sets r)
+    (first_start p.workers (length (repaired_nets p)))
 
 -- the one share serves all workers of a round
 pub serves_all : (p : Round) (share : Holding) → IsRound p → AreRising p.positions → HasLoadOf p.design p.table p.before share
-    → length share.party.shares ≡ entries p.design.grid → ((k : ℕ) (t : List Piece) → At p.before k t → IsRising t) → ServesTurns p 0 p.workers share
+    → length share.party.shares ≡ entries p.design.grid → ((k : ℕ) (t : List Piece) → At p.before k t → IsRising t)
+    → ServesTurns p 0 p.workers share
 serves_all p share round apart has wide rising =
     let d : Design = p.design in
     record {
@@ -98,14 +106,22 @@ serves_all p share round apart has wide rising =
       loads = λ r within. omega (arith, old_whole p r round, load_on-part p r round apart, has.loads r within);
       few = λ r. ⊎_elim
           (λ (within : r < entries d.grid).
-          omega (arith, has.loads r within, load_on-within d.grid d.nets p.before r (λ k n at. (d.limits.net k n at).width) rising round.routing, d.limits.count))
+          omega (
+            arith,
+            has.loads r within,
+            load_on-within d.grid d.nets p.before r
+                (λ k n at. (d.limits.net k n at).width) rising round.routing,
+            d.limits.count,
+          ))
           (λ (beyond : entries d.grid ≤ r). omega (arith, get_or_past share.party.shares r 0 (omega (arith, beyond, wide))))
           (cases_lt r (entries d.grid));
     }
 
 -- the nets that are to be repaired make a round
-pub begins_round : (d : Design) (grounds : List Ground) (table : TableId) (before : List (List Piece)) (workers : ℕ) (budget : Option ℕ)
-    → AreGrounds d.grid d.nets grounds → table.words ≡ entries d.grid → (1 ≤ workers) × (workers ≤ max_workers) → IsBudget budget → IsRouting d.grid d.nets before
+pub begins_round : (d : Design) (grounds : List Ground) (table : TableId) (before : List (List Piece)) (workers : ℕ)
+    (budget : Option ℕ)
+    → AreGrounds d.grid d.nets grounds → table.words ≡ entries d.grid → (1 ≤ workers) × (workers ≤ max_workers)
+    → IsBudget budget → IsRouting d.grid d.nets before
     → IsRound (round_of d grounds table before (nets_to_repair d before) workers budget)
 begins_round d grounds table before workers budget are words some within routing = record {
   grounds = are;
@@ -119,27 +135,36 @@ begins_round d grounds table before workers budget are words some within routing
 }
 
 -- as many nets had their turns as are to be repaired
-pub as_many : (d : Design) (grounds : List Ground) (table : TableId) (before : List (List Piece)) (workers : ℕ) (budget : Option ℕ) (old new : Holding) (sets : List (List Piece))
+pub as_many : (d : Design) (grounds : List Ground) (table : TableId) (before : List (List Piece)) (workers : ℕ)
+    (budget : Option ℕ) (old new : Holding) (sets : List (List Piece))
     → IsRound (round_of d grounds table before (nets_to_repair d before) workers budget)
     → HadTurns (round_of d grounds table before (nets_to_repair d before) workers budget) 0 workers old new sets
     → length sets ≡ length (nets_to_repair d before)
 as_many d grounds table before workers budget old new sets round had =
     let ks : List ℕ = nets_to_repair d before in
     let n : ℕ = length (at_positions d.nets ks) in
-    had.turns.long ∙ omega (arith, first_start workers n, last_start workers n round.some, at_positions-long d.nets ks round.nets)
+    had.turns.long ∙ omega (
+      arith,
+      first_start workers n,
+      last_start workers n round.some,
+      at_positions-long d.nets ks round.nets,
+    )
 
 -- the sets of a routing are made of pieces of the grid
-pub routing_pieces : (g : Grid) (nets : List NetSpec) (trees : List (List Piece)) → IsRouting g nets trees → All (ArePieces (size_of g)) trees
+pub routing_pieces : (g : Grid) (nets : List NetSpec) (trees : List (List Piece)) → IsRouting g nets trees
+    → All (ArePieces (size_of g)) trees
 routing_pieces g nets trees routing k e short =
     let n = stands nets k (omega (arith, short, AllZip-long (IsRoute g) nets trees routing)) in
-    route_pieces g n.0 (get_or trees k e) (AllZip-at (IsRoute g) nets trees k n.0 (get_or trees k e) routing n.1 (slice_get-get_or trees k e short))
+    route_pieces g n.0 (get_or trees k e) (AllZip-at (IsRoute g) nets trees k n.0 (get_or trees k e) routing n.1
+    (slice_get-get_or trees k e short))
 
 -- a whole list was written over another
 pub written_over : {X : Type 0} (n : ℕ) (xs ys : List X) → n ≡ length xs → take n (xs ++ drop (length xs) ys) ≡ xs
 written_over n xs ys long = ap (λ k. take k (xs ++ drop (length xs) ys)) long ∙ take-append_seam xs (drop (length xs) ys)
 
 -- all nets that are to be repaired had their turns
-pub round_done : (d : Design) (grounds : List Ground) (table : TableId) (before : List (List Piece)) (workers : ℕ) (budget : Option ℕ) (old new : Holding) (sets : List (List Piece))
+pub round_done : (d : Design) (grounds : List Ground) (table : TableId) (before : List (List Piece)) (workers : ℕ)
+    (budget : Option ℕ) (old new : Holding) (sets : List (List Piece))
     → IsRound (round_of d grounds table before (nets_to_repair d before) workers budget)
     → HasLoadOf d table before old
     → HadTurns (round_of d grounds table before (nets_to_repair d before) workers budget) 0 workers old new sets
@@ -156,12 +181,15 @@ round_done d grounds table before workers budget old new sets round has had =
     let last : turns_start p workers ≡ n = last_start workers n round.some in
     let all_sets : length sets ≡ n = had.turns.long ∙ omega (arith, first, last) in
     let even : length sets ≡ length ks = all_sets ∙ many in
-    let whole : slice_range sets (turns_start p 0) (turns_start p workers) ≡ sets = all_parts workers n sets round.some all_sets in
-    let at_turn : (turn worker : ℕ) → IsInPart workers n worker turn → Turn p sets worker turn (had.seen turn) (had.read (start_of p worker turn)) =
+    let whole : slice_range sets (turns_start p 0) (turns_start p workers) ≡ sets =
+    all_parts workers n sets round.some all_sets in
+    let at_turn : (turn worker : ℕ) → IsInPart workers n worker turn
+    → Turn p sets worker turn (had.seen turn) (had.read (start_of p worker turn)) =
     λ turn worker part. had.turns.turns sets turn worker whole (omega (arith, first))
     (omega (arith, part.before, turns_start-le p (worker + 1) workers round.some (omega (arith, part.worker_exists)))) part in
     let all_workers : workers - 0 ≡ workers = omega arith in
-    let there : at_positions (with_elements before ks sets) ks ≡ sets = at_positions-with before ks sets (repair-within d before) rising even in
+    let there : at_positions (with_elements before ks sets) ks ≡ sets =
+    at_positions-with before ks sets (repair-within d before) rising even in
     record {
       read = had.read;
       read_loads = had.turns.read_loads;
@@ -169,8 +197,15 @@ round_done d grounds table before workers budget old new sets round has had =
       round = record {
         long = with_elements-long before ks sets;
         others = λ position other. with_elements-other before ks sets position []
-            (λ i e short same. other (i, short, get_or_from_slice_get ks i (get_or ks i e) position (slice_get-get_or ks i e short) ∙ same));
-        turns = λ turn worker part. subst (λ (sets' : List (List Piece)). IsRepairTurn d.grid workers budget (load_on d.grid d.nets before) nets olds sets' worker turn (had.seen turn) (had.read (start_of p worker turn))) (sym there)
+            (λ i e short same. other (
+              i,
+              short,
+              get_or_from_slice_get ks i (get_or ks i e) position
+                  (slice_get-get_or ks i e short) ∙ same,
+            ));
+        turns = λ turn worker part. subst (λ (sets' : List (List Piece)). IsRepairTurn d.grid workers budget
+            (load_on d.grid d.nets before) nets olds sets' worker turn (had.seen turn) (had.read (start_of p worker turn)))
+            (sym there)
             (at_turn turn worker part);
       };
       routing = routing-with d.grid d.nets before ks sets round.routing round.nets
@@ -186,7 +221,8 @@ round_done d grounds table before workers budget old new sets round has had =
           has.loads r within,
           old_whole p r round,
           new_whole p sets r,
-          load_on-with d.grid d.nets before ks sets r (AllZip-long (IsRoute d.grid) d.nets before round.routing) round.nets rising even,
+          load_on-with d.grid d.nets before ks sets r
+              (AllZip-long (IsRoute d.grid) d.nets before round.routing) round.nets rising even,
         );
       };
       history = had.history

@@ -76,7 +76,8 @@ given_serves p first middle last given share some most low high serves is =
       loads = λ r within. omega (arith, is.amounts r);
       few = λ r. omega (
         arith,
-        given_within (entries p.design.grid) first last (turns_load p first middle) (turns_load p middle last) given share r both is,
+        given_within (entries p.design.grid) first last (turns_load p first middle)
+            (turns_load p middle last) given share r both is,
         serves.few r,
       );
     }
@@ -97,7 +98,8 @@ halves_joined p first middle last old kept other left right s t some low high sp
       read = until m one.read two.read;
       seen = until m one.seen two.seen;
       turns = AreRepairTurns-append p a middle b s t one.read one.seen two.read two.seen some one.turns two.turns;
-      history = histories_joined p.workers (length (repaired_nets p)) first middle last one.read two.read old kept other left right
+      history = histories_joined p.workers (length (repaired_nets p)) first middle last one.read two.read old kept other left
+          right
           some low high split one.history two.history;
       table = one.table ∙ split.kept_table;
       allot = omega (arith, one.allot, two.allot, split.allot);

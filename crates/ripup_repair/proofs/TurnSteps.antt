@@ -1,5 +1,6 @@
 -- The turns of nets in a round, one after another and side by side.
-use Rattle.std.proofs.Common.{◌≡◌, ℕ, ◌+◌, ◌-◌, ◌≤◌, ◌<◌, List, [], ◌∷◌, ◌++◌, length, drop, slice_index, slice_range, sym, ◌∙◌, ap, subst, arith, ⊎_elim}
+use Rattle.std.proofs.Common.{◌≡◌, ℕ, ◌+◌, ◌-◌, ◌≤◌, ◌<◌, List, [], ◌∷◌, ◌++◌, length, drop, slice_index, slice_range, sym, ◌∙◌}
+use Rattle.std.proofs.Common.{ap, subst, arith, ⊎_elim}
 use Rattle.std.proofs.lemmas.Bool.{cases_lt}
 use Rattle.std.proofs.lemmas.List.{length-append}
 use Rattle.grid_base.specs.declared.piece.Piece.{Piece}
@@ -20,7 +21,8 @@ use Rattle.ripup_repair.specs.Rounds.{Round, old_sets, repaired_nets, turns_star
 use Rattle.ripup_repair.specs.RepairTurns.{AreRepairTurns, new_load, old_load}
 
 -- before the first turn
-pub AreRepairTurns-none : (p : Round) (a : ℕ) (read : ℕ → List ℕ) → ((start : ℕ) → IsLoadList p.design.grid (read start)) → AreRepairTurns p a a [] read read
+pub AreRepairTurns-none : (p : Round) (a : ℕ) (read : ℕ → List ℕ) → ((start : ℕ) → IsLoadList p.design.grid (read start))
+    → AreRepairTurns p a a [] read read
 AreRepairTurns-none p a read loads = record {
   before = omega arith;
   long = omega arith;
@@ -31,7 +33,8 @@ AreRepairTurns-none p a read loads = record {
 -- the turn of a net, whatever sets all other nets get
 abbrev pub Turn : Round → List (List Piece) → ℕ → ℕ → List ℕ → List ℕ → Type 0
 Turn p new worker turn seen read =
-    IsRepairTurn p.design.grid p.workers p.budget (load_on p.design.grid p.design.nets p.before) (repaired_nets p) (old_sets p) new worker turn seen read
+    IsRepairTurn p.design.grid p.workers p.budget (load_on p.design.grid p.design.nets p.before) (repaired_nets p)
+    (old_sets p) new worker turn seen read
 
 -- where the stretch of a turn begins
 abbrev pub start_of : Round → ℕ → ℕ → ℕ
@@ -47,29 +50,34 @@ AreRepairTurns-reread p a b sets read seen new same loads old = record {
   read_loads = loads;
   turns = λ all turn worker here low high part.
       let within : start_of p worker turn ≤ turn = stretch_start-le (turns_start p worker) turn part.from in
-      subst (λ (l : List ℕ). Turn p all worker turn (seen turn) l) (sym (same (start_of p worker turn) (omega (arith, within, high))))
+      subst (λ (l : List ℕ). Turn p all worker turn (seen turn) l)
+      (sym (same (start_of p worker turn) (omega (arith, within, high))))
       (old.turns all turn worker here low high part);
 }
 
 -- what the turn of a net owes, where its worker did these of its turns before it
-pub record IsNextTurn (p : Round) (worker turn : ℕ) (sets : List (List Piece)) (tree : List Piece) (read : ℕ → List ℕ) (now : List ℕ) : Type 0 where
+pub record IsNextTurn (p : Round) (worker turn : ℕ) (sets : List (List Piece)) (tree : List Piece) (read : ℕ → List ℕ)
+    (now : List ℕ) : Type 0 where
   pub part : IsInPart p.workers (length (repaired_nets p)) worker turn
   pub step : (n : NetSpec) → At (repaired_nets p) turn n → IsStep p.design.grid n now repair_scale p.budget tree
   pub loads : IsLoadList p.design.grid now
   pub since : (r : ℕ) → r < entries p.design.grid → slice_index now r + old_load p (start_of p worker turn) (turn + 1) r
-      ≡ slice_index (read (start_of p worker turn)) r + new_load p (start_of p worker turn) (drop (start_of p worker turn - turns_start p worker) sets) r
+      ≡ slice_index (read (start_of p worker turn)) r
+      + new_load p (start_of p worker turn) (drop (start_of p worker turn - turns_start p worker) sets) r
   pub alone : p.workers ≡ 1 → (r : ℕ) → r < entries p.design.grid → slice_index now r + old_load p 0 (turn + 1) r
       ≡ load_on p.design.grid p.design.nets p.before r + new_load p 0 sets r
   pub beside : 1 < p.workers → (r : ℕ) → r < entries p.design.grid
       → new_load p (turns_start p worker) sets r + old_load p (turn + 1) (turns_start p (worker + 1)) r ≤ slice_index now r
 
 -- the first worker alone has all turns
-pub first_turn : (workers nets worker turn : ℕ) → workers ≡ 1 → IsInPart workers nets worker turn → part_start workers nets worker ≡ 0
+pub first_turn : (workers nets worker turn : ℕ) → workers ≡ 1 → IsInPart workers nets worker turn
+    → part_start workers nets worker ≡ 0
 first_turn workers nets worker turn one part =
     let first : worker ≡ 0 = omega (arith, one, part.worker_exists) in
     subst (λ (w : ℕ). part_start workers nets w ≡ 0) (sym first) (first_start workers nets)
 
-next_turn : (p : Round) (worker turn : ℕ) (sets : List (List Piece)) (tree : List Piece) (read : ℕ → List ℕ) (now : List ℕ) (all : List (List Piece))
+next_turn : (p : Round) (worker turn : ℕ) (sets : List (List Piece)) (tree : List Piece) (read : ℕ → List ℕ) (now : List ℕ)
+    (all : List (List Piece))
     → IsNextTurn p worker turn sets tree read now
     → length sets ≡ turn - turns_start p worker
     → slice_range all (turns_start p worker) (turn + 1) ≡ sets ++ tree ∷ []
@@ -82,11 +90,14 @@ next_turn p worker turn sets tree read now all next long here =
     let first : slice_range all a turn ≡ sets = slice-first all sets (tree ∷ []) a turn (turn + 1) here long (omega arith) in
     let low : a ≤ start = stretch_start-from a turn next.part.from in
     let high : start ≤ turn = stretch_start-le a turn next.part.from in
-    let since : slice_range all start turn ≡ drop (start - a) sets = slice-rest all a start turn low high ∙ ap (drop (start - a)) first in
+    let since : slice_range all start turn ≡ drop (start - a) sets =
+    slice-rest all a start turn low high ∙ ap (drop (start - a)) first in
     record {
-      step = λ n t at stands. subst (λ (u : List Piece). IsStep g n now repair_scale p.budget u) (slice-last all sets tree t a turn here long next.part.from stands) (next.step n at);
+      step = λ n t at stands. subst (λ (u : List Piece). IsStep g n now repair_scale p.budget u)
+          (slice-last all sets tree t a turn here long next.part.from stands) (next.step n at);
       loads = next.loads;
-      since = λ r within. next.since r within ∙ ap (λ load. slice_index (read start) r + load) (sym (load_between-here g nets all (drop (start - a) sets) start turn r since));
+      since = λ r within. next.since r within ∙ ap (λ load. slice_index (read start) r + load)
+          (sym (load_between-here g nets all (drop (start - a) sets) start turn r since));
       alone = λ one r within.
           let none : a ≡ 0 = first_turn p.workers (length nets) worker turn one next.part in
           let whole : slice_range all 0 turn ≡ sets = ap (λ k. slice_range all k turn) (sym none) ∙ first in
@@ -95,7 +106,8 @@ next_turn p worker turn sets tree read now all next long here =
     }
 
 -- a turn more
-pub AreRepairTurns-push : (p : Round) (worker turn : ℕ) (sets : List (List Piece)) (tree : List Piece) (read seen : ℕ → List ℕ) (now : List ℕ)
+pub AreRepairTurns-push : (p : Round) (worker turn : ℕ) (sets : List (List Piece)) (tree : List Piece) (read seen : ℕ → List ℕ)
+    (now : List ℕ)
     → 0 < p.workers
     → IsNextTurn p worker turn sets tree read now
     → AreRepairTurns p (turns_start p worker) turn sets read seen
@@ -113,7 +125,8 @@ AreRepairTurns-push p worker turn sets tree read seen now some next old =
           (old.turns all k w (slice-first all sets (tree ∷ []) a turn (turn + 1) here old.long (omega arith)) low early part))
           (λ (last : turn ≤ k).
           let same : turn ≡ k = omega (arith, last, high) in
-          let mine : worker ≡ w = one_part p.workers nets worker w k some (subst (λ (j : ℕ). IsInPart p.workers nets worker j) same next.part) part in
+          let mine : worker ≡ w = one_part p.workers nets worker w k some
+          (subst (λ (j : ℕ). IsInPart p.workers nets worker j) same next.part) part in
           subst (λ (l : List ℕ). Turn p all w k l (read (start_of p w k))) (sym (until-from turn seen (λ j. now) k last))
           (subst (λ (v : ℕ). Turn p all v k now (read (start_of p v k))) mine
           (subst (λ (j : ℕ). Turn p all worker j now (read (start_of p worker j))) same
@@ -139,13 +152,16 @@ AreRepairTurns-append p a middle b s t read seen read' seen' some first second =
           (λ (early : k < m).
           subst (λ (l : List ℕ). Turn p all w k l (both (start_of p w k))) (sym (until-below m seen seen' k early))
           (subst (λ (l : List ℕ). Turn p all w k (seen k) l)
-          (sym (until-below m read read' (start_of p w k) (omega (arith, early, stretch_start-le (turns_start p w) k part.from))))
+          (sym (until-below m read read' (start_of p w k)
+          (omega (arith, early, stretch_start-le (turns_start p w) k part.from))))
           (first.turns all k w (slice-first all s t a m b here first.long second.before) low early part)))
           (λ (late : m ≤ k).
-          let mine : m ≤ turns_start p w = part_start-le p.workers nets middle w some (not_earlier p.workers nets middle w k some late part) in
+          let mine : m ≤ turns_start p w = part_start-le p.workers nets middle w some
+          (not_earlier p.workers nets middle w k some late part) in
           subst (λ (l : List ℕ). Turn p all w k l (both (start_of p w k))) (sym (until-from m seen seen' k late))
           (subst (λ (l : List ℕ). Turn p all w k (seen' k) l)
-          (sym (until-from m read read' (start_of p w k) (omega (arith, mine, stretch_start-from (turns_start p w) k part.from))))
+          (sym (until-from m read read' (start_of p w k)
+          (omega (arith, mine, stretch_start-from (turns_start p w) k part.from))))
           (second.turns all k w (slice-second all s t a m b here first.long first.before second.before) late high part)))
           (cases_lt k m);
     }

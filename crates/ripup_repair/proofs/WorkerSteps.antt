@@ -1,12 +1,13 @@
 -- A worker in its turns: what a reading and the turn of a net make of it.
-use Rattle.std.proofs.Common.{◌≡◌, ◌≢◌, ℕ, suc, ◌+◌, ◌-◌, ◌*◌, ◌%◌, ◌≤◌, ◌<◌, ◌==◌, true, false, List, [], ◌∷◌, ◌++◌, length, drop, take, replicate, slice_index, slice_range, slice_set, Option, sym, ◌∙◌, ap, subst, arith, ⊎_elim, eq-eqb, ne_eqb}
+use Rattle.std.proofs.Common.{◌≡◌, ◌≢◌, ℕ, suc, ◌+◌, ◌-◌, ◌%◌, ◌≤◌, ◌<◌, ◌==◌, true, false, List, [], ◌∷◌, ◌++◌, length, drop}
+use Rattle.std.proofs.Common.{take, replicate, slice_index, slice_range, slice_set, Option, sym, ◌∙◌, ap, subst, arith, ⊎_elim}
+use Rattle.std.proofs.Common.{eq-eqb, ne_eqb}
 use Rattle.std.proofs.Math.ListN.{drop_of_length-le}
 use Rattle.std.proofs.Math.Seq.{set-append_seam}
 use Rattle.std.proofs.lemmas.Bool.{cases_eq, cases_lt}
-use Rattle.std.proofs.lemmas.List.{append_assoc, append-nil, length-replicate, drop-append-le, length-append, length-drop, drop_more}
+use Rattle.std.proofs.lemmas.List.{append_assoc, append-nil, drop-append-le, length-append, length-drop, drop_more}
 use Rattle.std.proofs.lemmas.List.FromFn.{length-map-range_with_len}
 use Rattle.std.proofs.lemmas.Option.{get_or_from_slice_get, slice_get_within}
-use Rattle.atomic_table.specs.Seated.{TableId}
 use Rattle.grid_base.specs.declared.piece.Piece.{Piece}
 use Rattle.grid_base.specs.Lists.{At}
 use Rattle.grid_graph.specs.declared.grid.Grid.{Grid}
@@ -15,23 +16,24 @@ use Rattle.grid_graph.specs.Grids.{entries, size_of, IsNetWidth}
 use Rattle.grid_graph.specs.Limits.{max_nets}
 use Rattle.edge_prices.specs.Vectors.{IsLoadList}
 use Rattle.load_core.specs.declared.party.Party.{Party}
-use Rattle.load_core.specs.Parties.{share_at, whole_allotment}
+use Rattle.load_core.specs.Parties.{share_at}
 use Rattle.load_table.specs.Holdings.{Holding}
-use Rattle.tree_set.specs.Loads.{load_between, load_on, max_tree_load, tree_load}
+use Rattle.tree_set.specs.Loads.{max_tree_load, tree_load}
 use Rattle.tree_set.specs.Routings.{ArePieces}
 use Rattle.sharing_runs.specs.NetSteps.{IsStep}
-use Rattle.sharing_runs.specs.Parts.{nets_per_reading, part_start, stretch_start, IsInPart}
+use Rattle.sharing_runs.specs.Parts.{nets_per_reading, stretch_start, IsInPart}
 use Rattle.sharing_runs.specs.RepairRuns.{repair_scale}
 use Rattle.price_workers.specs.declared.worker.Worker.{Worker}
 use Rattle.price_workers.specs.Readings.{loads_of_reading, AreCloseTo}
 use Rattle.price_workers.specs.TreeLoads.{without_tree, HoldsTree}
-use Rattle.price_workers.specs.Workers.{party_of, trees_of, held_share, seen_loads, worked_grid, worked_scale, worked_budget, KeepsWork, MayRoute, IsRepriced, IsUnchanged, WorksOn}
+use Rattle.price_workers.specs.Workers.{party_of, trees_of, held_share, seen_loads, worked_grid, worked_scale, worked_budget}
+use Rattle.price_workers.specs.Workers.{KeepsWork, MayRoute, IsRepriced, IsUnchanged, WorksOn}
 use Rattle.sharing_runs.proofs.Between.{load_on-none}
 use Rattle.price_workers.proofs.NetLoads.{tree_load-beyond}
 use Rattle.price_workers.proofs.Taken.{without_tree-at}
 use Rattle.price_workers.proofs.TurnFacts.{route_pieces}
 use Rattle.sharing_phases.specs.Histories.{nets_history, parts_history}
-use Rattle.sharing_phases.specs.PhaseWords.{HasRead, least_allotment}
+use Rattle.sharing_phases.specs.PhaseWords.{HasRead}
 use Rattle.sharing_phases.proofs.Parts.{stretch_start-from, stretch_start-le}
 use Rattle.sharing_phases.proofs.Ranges.{until, until-below, until-from, until-all}
 use Rattle.sharing_phases.proofs.Readings.{nets_history-goes_on, parts_history-one}
@@ -40,10 +42,12 @@ use Rattle.sharing_phases.proofs.TreeLimits.{tree_load-within}
 use Rattle.sharing_phases.proofs.WorkerSteps.{begins_with_reading, same_net, seen_are_loads, works-kept, zeros_are_loads}
 use Rattle.ripup_repair.specs.Rounds.{Round, ServesTurns, old_sets, repaired_nets, turns_start}
 use Rattle.ripup_repair.specs.RepairTurns.{AreRepairTurns, HadTurns, IsAtTurn, IsWithinTurns, new_load, old_load}
-use Rattle.ripup_repair.proofs.TurnSteps.{AreRepairTurns-none, AreRepairTurns-push, AreRepairTurns-reread, IsNextTurn, first_turn, start_of}
+use Rattle.ripup_repair.proofs.TurnSteps.{AreRepairTurns-none, AreRepairTurns-push, AreRepairTurns-reread, IsNextTurn}
+use Rattle.ripup_repair.proofs.TurnSteps.{first_turn, start_of}
 
 -- a stretch that begins at its turn has no new set yet, and no old one less
-nothing_new : (p : Round) (a s turn : ℕ) (sets : List (List Piece)) (r : ℕ) → s ≡ turn → length sets ≡ turn - a → new_load p s (drop (s - a) sets) r ≡ 0
+nothing_new : (p : Round) (a s turn : ℕ) (sets : List (List Piece)) (r : ℕ) → s ≡ turn → length sets ≡ turn - a
+    → new_load p s (drop (s - a) sets) r ≡ 0
 nothing_new p a s turn sets r same long =
     ap (λ rest. new_load p s rest r) (drop_of_length-le sets {i = s - a} (omega (arith, same, long)))
     ∙ load_on-none p.design.grid (drop s (repaired_nets p)) r
@@ -72,7 +76,8 @@ read_where_due p worker first turn old new due has kept w =
       read = read;
       seen = w.seen;
       turns = AreRepairTurns-reread p a turn w.sets w.read w.seen read (λ s low. until-below turn w.read (λ k. now) s low)
-          (until-all (λ (l : List ℕ). IsLoadList p.design.grid l) turn w.read (λ k. now) w.turns.read_loads (λ k. loads)) w.turns;
+          (until-all (λ (l : List ℕ). IsLoadList p.design.grid l) turn w.read (λ k. now) w.turns.read_loads (λ k. loads))
+          w.turns;
       trees = has.trees ∙ w.trees;
       history = ap (λ (h : Holding). h.party.history) has.reading
           ∙ ap (λ h. h ++ loads_of_reading now) w.history
@@ -116,7 +121,8 @@ read_where_not_due p worker first turn old new midway same kept w =
       trees = same.trees ∙ w.trees;
       history = ap (λ (h : Holding). h.party.history) same.share
           ∙ w.history
-          ∙ ap (λ h. first.party.history ++ h) (sym (ap (nets_history w.read a) long ∙ nets_history-goes_on w.read a (turn - a) midway));
+          ∙ ap (λ h. first.party.history ++ h) (sym
+          (ap (nets_history w.read a) long ∙ nets_history-goes_on w.read a (turn - a) midway));
       allot = ap (λ (h : Holding). h.party.allot) same.share ∙ w.allot;
       shares = λ r. ap (λ (h : Holding). share_at r h.party + old_load p a turn r) same.share ∙ w.shares r;
       few = w.few;
@@ -133,15 +139,18 @@ read_where_not_due p worker first turn old new midway same kept w =
 -- whether or not a reading was due
 pub read_either : (p : Round) (worker : ℕ) (first : Holding) (turn from : ℕ) (old new : Worker)
     → from ≡ turns_start p worker
-    → ((turn - from) % nets_per_reading == 0 ≡ true → HasRead p.table old new) → ((turn - from) % nets_per_reading == 0 ≡ false → IsUnchanged old new) → KeepsWork old new
+    → ((turn - from) % nets_per_reading == 0 ≡ true → HasRead p.table old new)
+    → ((turn - from) % nets_per_reading == 0 ≡ false → IsUnchanged old new) → KeepsWork old new
     → IsWithinTurns p worker first turn turn old
     → IsWithinTurns p worker first turn (turn + 1) new
 read_either p worker first turn from old new start read same kept w =
     ⊎_elim
     (λ (due : (turn - from) % nets_per_reading ≡ 0).
-    read_where_due p worker first turn old new (ap (λ k. (turn - k) % nets_per_reading) (sym start) ∙ due) (read (eq-eqb ((turn - from) % nets_per_reading) 0 due)) kept w)
+    read_where_due p worker first turn old new (ap (λ k. (turn - k) % nets_per_reading) (sym start) ∙ due)
+    (read (eq-eqb ((turn - from) % nets_per_reading) 0 due)) kept w)
     (λ (other : (turn - from) % nets_per_reading ≡ 0 → ⊥).
-    read_where_not_due p worker first turn old new (λ due. other (ap (λ k. (turn - k) % nets_per_reading) start ∙ due)) (same (ne_eqb ((turn - from) % nets_per_reading) 0 other)) kept w)
+    read_where_not_due p worker first turn old new (λ due. other (ap (λ k. (turn - k) % nets_per_reading) start ∙ due))
+    (same (ne_eqb ((turn - from) % nets_per_reading) 0 other)) kept w)
     (cases_eq ((turn - from) % nets_per_reading) 0)
 
 -- the net of a turn, and the set that it had
@@ -158,7 +167,8 @@ old_sets_from : (p : Round) (turn end : ℕ) (before : List Piece) → At (old_s
 old_sets_from p turn end before at within =
     let all : List (List Piece) = old_sets p in
     let more : drop turn all ≡ before ∷ drop (turn + 1) all =
-    drop_more all turn before (slice_get_within all turn before at) ∙ ap (λ x. x ∷ drop (turn + 1) all) (get_or_from_slice_get all turn before before at) in
+    drop_more all turn before (slice_get_within all turn before at)
+    ∙ ap (λ x. x ∷ drop (turn + 1) all) (get_or_from_slice_get all turn before before at) in
     let many : end - turn ≡ suc (end - (turn + 1)) = omega (arith, within) in
     ap (λ l. take (end - turn) l) more ∙ ap (λ n. take n (before ∷ drop (turn + 1) all)) many
 
@@ -170,14 +180,18 @@ at_own_place p worker first turn to n before w of within =
     within.trees ∙ ap (λ l. within.sets ++ l) (old_sets_from p turn (turns_start p (worker + 1)) before of.had of.part.before)
 
 -- the load of the old set of a turn
-old_load-next : (p : Round) (a turn : ℕ) (n : NetSpec) (before : List Piece) (r : ℕ) → At (repaired_nets p) turn n → At (old_sets p) turn before → a ≤ turn
+old_load-next : (p : Round) (a turn : ℕ) (n : NetSpec) (before : List Piece) (r : ℕ) → At (repaired_nets p) turn n
+    → At (old_sets p) turn before → a ≤ turn
     → old_load p a (turn + 1) r ≡ old_load p a turn r + tree_load p.design.grid n.width before r
-old_load-next p a turn n before r net had low = load_between-next p.design.grid (repaired_nets p) (old_sets p) a turn n before r net had low
+old_load-next p a turn n before r net had low =
+    load_between-next p.design.grid (repaired_nets p) (old_sets p) a turn n before r net had low
 
 -- and of the new one
-new_load-push : (p : Round) (a turn : ℕ) (sets : List (List Piece)) (n : NetSpec) (tree : List Piece) (r : ℕ) → At (repaired_nets p) turn n → a ≤ turn → length sets ≡ turn - a
+new_load-push : (p : Round) (a turn : ℕ) (sets : List (List Piece)) (n : NetSpec) (tree : List Piece) (r : ℕ)
+    → At (repaired_nets p) turn n → a ≤ turn → length sets ≡ turn - a
     → new_load p a (sets ++ tree ∷ []) r ≡ new_load p a sets r + tree_load p.design.grid n.width tree r
-new_load-push p a turn sets n tree r net low long = load_on-behind_push p.design.grid (repaired_nets p) a turn sets n tree r net low long
+new_load-push p a turn sets n tree r net low long =
+    load_on-behind_push p.design.grid (repaired_nets p) a turn sets n tree r net low long
 
 -- the load of the old set is still in the share
 pub still_had : (p : Round) (worker : ℕ) (first : Holding) (turn to : ℕ) (n : NetSpec) (before : List Piece) (w : Worker)
@@ -195,15 +209,18 @@ still_had p worker first turn to n before w serves of within =
             arith,
             within.shares r,
             serves.loads r inside,
-            load_between-split p.design.grid (repaired_nets p) (old_sets p) a (turn + 1) b r (omega (arith, low)) (omega (arith, of.part.before)),
+            load_between-split p.design.grid (repaired_nets p) (old_sets p) a (turn + 1) b r (omega (arith, low))
+                (omega (arith, of.part.before)),
             old_load-next p a turn n before r of.net of.had low,
           ))
-          (λ (beyond : entries p.design.grid ≤ r). omega (arith, tree_load-beyond p.design.grid n.width before r of.pieces beyond))
+          (λ (beyond : entries p.design.grid ≤ r). omega
+          (arith, tree_load-beyond p.design.grid n.width before r of.pieces beyond))
           (cases_lt r (entries p.design.grid));
     }
 
 -- the loads without a set are loads
-without_loads : (g : Grid) (width : ℕ) (before : List Piece) (loads : List ℕ) → IsLoadList g loads → IsLoadList g (without_tree g width before loads)
+without_loads : (g : Grid) (width : ℕ) (before : List Piece) (loads : List ℕ) → IsLoadList g loads
+    → IsLoadList g (without_tree g width before loads)
 without_loads g width before loads are = record {
   long = length-map-range_with_len (λ r. slice_index loads r - tree_load g width before r) 0 (length loads) ∙ are.long;
   within = λ r. omega (arith, without_tree-at g width before loads r, are.within r);
@@ -213,7 +230,8 @@ without_loads g width before loads are = record {
 seen_turn : (p : Round) (worker : ℕ) (first : Holding) (turn : ℕ) (n : NetSpec) (before tree : List Piece) (old : Worker)
     → ServesTurns p worker (worker + 1) first → IsTurnOf p worker turn n before
     → (w : IsWithinTurns p worker first turn (turn + 1) old)
-    → IsStep p.design.grid n (without_tree p.design.grid n.width before (seen_loads old)) (worked_scale old) (worked_budget old) tree
+    → IsStep p.design.grid n (without_tree p.design.grid n.width before (seen_loads old)) (worked_scale old)
+    (worked_budget old) tree
     → IsAtTurn p (turns_start p worker) w.read turn w.sets old
     → IsNextTurn p worker turn w.sets tree w.read (without_tree p.design.grid n.width before (seen_loads old))
 seen_turn p worker first turn n before tree old serves of w step mid =
@@ -231,11 +249,17 @@ seen_turn p worker first turn n before tree old serves of w step mid =
     let to : start_of p worker turn ≤ turn = stretch_start-le a turn low in
     record {
       part = of.part;
-      step = λ m stands. subst (λ (x : NetSpec). IsStep g x now repair_scale p.budget tree) (same_net (repaired_nets p) turn n m of.net stands)
+      step = λ m stands. subst (λ (x : NetSpec). IsStep g x now repair_scale p.budget tree)
+          (same_net (repaired_nets p) turn n m of.net stands)
           (subst (λ (scale : ℕ). IsStep g n now scale p.budget tree) w.scale
           (subst (λ (budget : Option ℕ). IsStep g n now (worked_scale old) budget tree) w.budgeted step));
       loads = without_loads g n.width before seen (seen_are_loads g p.table old w.works);
-      since = λ r within. omega (arith, less r, mid.sees r, old_load-next p (start_of p worker turn) turn n before r of.net of.had to);
+      since = λ r within. omega (
+        arith,
+        less r,
+        mid.sees r,
+        old_load-next p (start_of p worker turn) turn n before r of.net of.had to,
+      );
       alone = λ one r within.
           let none : a ≡ 0 = first_turn p.workers (length (repaired_nets p)) worker turn one of.part in
           omega (
@@ -257,28 +281,34 @@ seen_turn p worker first turn n before tree old serves of w step mid =
         (close r).least,
         w.shares r,
         serves.loads r within,
-        load_between-split g (repaired_nets p) (old_sets p) a (turn + 1) b r (omega (arith, low)) (omega (arith, of.part.before)),
+        load_between-split g (repaired_nets p) (old_sets p) a (turn + 1) b r (omega (arith, low))
+            (omega (arith, of.part.before)),
         old_load-next p a turn n before r of.net of.had low,
       );
     }
 
 -- what is seen after a turn in the middle of a stretch
-sees_more : (p : Round) (a turn : ℕ) (n : NetSpec) (read : ℕ → List ℕ) (sets : List (List Piece)) (before tree : List Piece) (old new : List ℕ) (r : ℕ)
-    → At (repaired_nets p) turn n → At (old_sets p) turn before → a ≤ turn → length sets ≡ turn - a → (turn + 1 - a) % nets_per_reading ≢ 0
+sees_more : (p : Round) (a turn : ℕ) (n : NetSpec) (read : ℕ → List ℕ) (sets : List (List Piece)) (before tree : List Piece)
+    (old new : List ℕ) (r : ℕ)
+    → At (repaired_nets p) turn n → At (old_sets p) turn before → a ≤ turn → length sets ≡ turn - a
+    → (turn + 1 - a) % nets_per_reading ≢ 0
     → slice_index old r + old_load p (stretch_start a turn) turn r
     ≡ slice_index (read (stretch_start a turn)) r + new_load p (stretch_start a turn) (drop (stretch_start a turn - a) sets) r
     → slice_index new r + tree_load p.design.grid n.width before r ≡ slice_index old r + tree_load p.design.grid n.width tree r
     → slice_index new r + old_load p (stretch_start a (turn + 1)) (turn + 1) r
-    ≡ slice_index (read (stretch_start a (turn + 1))) r + new_load p (stretch_start a (turn + 1)) (drop (stretch_start a (turn + 1) - a) (sets ++ tree ∷ [])) r
+    ≡ slice_index (read (stretch_start a (turn + 1))) r
+    + new_load p (stretch_start a (turn + 1)) (drop (stretch_start a (turn + 1) - a) (sets ++ tree ∷ [])) r
 sees_more p a turn n read sets before tree old new r net had low long midway earlier gained =
     let s : ℕ = stretch_start a turn in
     let from : a ≤ s = stretch_start-from a turn low in
     let within : s ≤ turn = stretch_start-le a turn low in
     let rest : List (List Piece) = drop (s - a) sets in
     let same : s ≡ stretch_start a (turn + 1) = omega (arith, low, midway) in
-    let behind : drop (s - a) (sets ++ tree ∷ []) ≡ rest ++ tree ∷ [] = drop-append-le (s - a) sets (tree ∷ []) (omega (arith, long, within, from)) in
+    let behind : drop (s - a) (sets ++ tree ∷ []) ≡ rest ++ tree ∷ [] =
+    drop-append-le (s - a) sets (tree ∷ []) (omega (arith, long, within, from)) in
     let many : length rest ≡ turn - s = length-drop (s - a) sets ∙ omega (arith, long, from, within) in
-    subst (λ (j : ℕ). slice_index new r + old_load p j (turn + 1) r ≡ slice_index (read j) r + new_load p j (drop (j - a) (sets ++ tree ∷ [])) r) same
+    subst (λ (j : ℕ). slice_index new r + old_load p j (turn + 1) r
+    ≡ slice_index (read j) r + new_load p j (drop (j - a) (sets ++ tree ∷ [])) r) same
     (omega (
       arith,
       earlier,
@@ -289,7 +319,8 @@ sees_more p a turn n read sets before tree old new r net had low long midway ear
     ))
 
 -- the turn of a net
-pub reprice_in_part : (p : Round) (worker : ℕ) (first : Holding) (turn at : ℕ) (n : NetSpec) (before : List Piece) (old new : Worker)
+pub reprice_in_part : (p : Round) (worker : ℕ) (first : Holding) (turn at : ℕ) (n : NetSpec) (before : List Piece)
+    (old new : Worker)
     → 0 < p.workers → at ≡ turn - turns_start p worker
     → ServesTurns p worker (worker + 1) first → IsTurnOf p worker turn n before
     → IsWithinTurns p worker first turn (turn + 1) old
@@ -309,8 +340,10 @@ reprice_in_part p worker first turn at n before old new some place serves of w p
     let had : HoldsTree g n.width before (party_of old) = still_had p worker first turn (turn + 1) n before old serves of w in
     let party : party_of new ≡ record (party_of old) { shares = (party_of new).shares } = priced.counted.party in
     let long : length sets ≡ at = w.turns.long ∙ sym place in
-    let within : (r : ℕ) → tree_load g n.width tree r ≤ max_tree_load = λ r. tree_load-within g n.width tree r of.width priced.step.set (route_pieces g n tree priced.step.route) in
-    let gained : (r : ℕ) → slice_index (seen_loads new) r + tree_load g n.width before r ≡ slice_index (seen_loads old) r + tree_load g n.width tree r =
+    let within : (r : ℕ) → tree_load g n.width tree r ≤ max_tree_load =
+    λ r. tree_load-within g n.width tree r of.width priced.step.set (route_pieces g n tree priced.step.route) in
+    let gained : (r : ℕ) → slice_index (seen_loads new) r + tree_load g n.width before r
+    ≡ slice_index (seen_loads old) r + tree_load g n.width tree r =
     λ r. omega (arith, priced.seen r, without_tree-at g n.width before (seen_loads old) r, had.had r, (close r).least) in
     record {
       sets = more;
@@ -334,7 +367,13 @@ reprice_in_part p worker first turn at n before old new some place serves of w p
         old_load-next p a turn n before r of.net of.had low,
         new_load-push p a turn sets n tree r of.net low w.turns.long,
       );
-      few = λ r. omega (arith, w.few r, new_load-push p a turn sets n tree r of.net low w.turns.long, length-append sets (tree ∷ []), within r);
+      few = λ r. omega (
+        arith,
+        w.few r,
+        new_load-push p a turn sets n tree r of.net low w.turns.long,
+        length-append sets (tree ∷ []),
+        within r,
+      );
       works = works-kept g p.table old new kept w.works;
       scale = kept.scale ∙ w.scale;
       budgeted = kept.budget ∙ w.budgeted;
@@ -343,13 +382,15 @@ reprice_in_part p worker first turn at n before old new some place serves of w p
           record {
             refreshed = priced.counted.refreshed;
             since = priced.counted.since ∙ omega (arith, mid.since, going, low);
-            sees = λ r. sees_more p a turn n w.read sets before tree (seen_loads old) (seen_loads new) r of.net of.had low w.turns.long going (mid.sees r) (gained r);
+            sees = λ r. sees_more p a turn n w.read sets before tree (seen_loads old)
+                (seen_loads new) r of.net of.had low w.turns.long going (mid.sees r) (gained r);
           };
     }
 
 -- before the first turn of its part
 pub begins_turns : (p : Round) (worker : ℕ) (first : Holding) (w : Worker)
-    → held_share w ≡ first → first.table ≡ p.table → trees_of w ≡ slice_range (old_sets p) (turns_start p worker) (turns_start p (worker + 1))
+    → held_share w ≡ first → first.table ≡ p.table
+    → trees_of w ≡ slice_range (old_sets p) (turns_start p worker) (turns_start p (worker + 1))
     → worked_grid w ≡ p.design.grid → worked_scale w ≡ repair_scale → worked_budget w ≡ p.budget
     → IsWithinTurns p worker first (turns_start p worker) (turns_start p worker) w
 begins_turns p worker first w held on_table olds grid scale budgeted =
@@ -362,9 +403,15 @@ begins_turns p worker first w held on_table olds grid scale budgeted =
       seen = read;
       turns = AreRepairTurns-none p a read (λ k. zeros_are_loads p.design.grid);
       trees = olds;
-      history = ap (λ (h : Holding). h.party.history) held ∙ sym (append-nil first.party.history) ∙ ap (λ k. first.party.history ++ nets_history read a k) (sym nobody);
+      history = ap (λ (h : Holding). h.party.history) held ∙ sym (append-nil first.party.history)
+          ∙ ap (λ k. first.party.history ++ nets_history read a k) (sym nobody);
       allot = ap (λ (h : Holding). h.party.allot) held;
-      shares = λ r. omega (arith, ap (λ (h : Holding). share_at r h.party) held, no_old_load p a r, load_on-none p.design.grid (drop a (repaired_nets p)) r);
+      shares = λ r. omega (
+        arith,
+        ap (λ (h : Holding). share_at r h.party) held,
+        no_old_load p a r,
+        load_on-none p.design.grid (drop a (repaired_nets p)) r,
+      );
       few = λ r. omega (arith, load_on-none p.design.grid (drop a (repaired_nets p)) r);
       works = record { on_grid = grid; on_table = ap (λ (h : Holding). h.table) held ∙ on_table };
       scale = scale;
@@ -395,7 +442,8 @@ ends_turns p worker first w b on_table end within =
           ∙ ap (λ k. first.party.history ++ parts_history p.workers nets within.read worker k) one;
       table = within.works.on_table ∙ sym on_table;
       allot = within.allot;
-      shares = λ r. ap (λ k. share_at r (party_of w) + old_load p a k r) (sym end) ∙ within.shares r ∙ ap (λ l. share_at r first.party + new_load p a l r) (sym all);
+      shares = λ r. ap (λ k. share_at r (party_of w) + old_load p a k r) (sym end) ∙ within.shares r
+          ∙ ap (λ l. share_at r first.party + new_load p a l r) (sym all);
     }
 
 -- the next net may have its turn
@@ -408,5 +456,15 @@ may_repair p worker first turn most w serves inside few within =
     record {
       refreshed = mid.refreshed;
       few = omega (arith, mid.since);
-      room = λ r. omega (arith, within.shares r, within.few r, serves.few r, serves.allot, within.allot, within.turns.long, inside, few);
+      room = λ r. omega (
+        arith,
+        within.shares r,
+        within.few r,
+        serves.few r,
+        serves.allot,
+        within.allot,
+        within.turns.long,
+        inside,
+        few,
+      );
     }

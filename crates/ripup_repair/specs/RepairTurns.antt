@@ -1,7 +1,6 @@
 -- The turns of some nets in a round of repair, and how far a worker is with its own.
 use Rattle.std.specs.Prelude.{ℕ, ◌≡◌, ◌+◌, ◌-◌, ◌*◌, ◌%◌, ◌≤◌, ◌<◌, true, List, ◌++◌, length, drop, slice_index, slice_range}
 use Rattle.grid_base.specs.declared.piece.Piece.{Piece}
-use Rattle.grid_graph.specs.Grids.{entries}
 use Rattle.edge_prices.specs.Vectors.{IsLoadList}
 use Rattle.load_core.specs.Parties.{share_at}
 use Rattle.load_table.specs.Holdings.{Holding}

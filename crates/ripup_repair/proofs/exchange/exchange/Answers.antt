@@ -1,11 +1,13 @@
-use Rattle.std.proofs.Common.{◌≡◌, ◌≤◌, ◌<◌, ◌+◌, ◌-◌, ◌∷◌, ◌++◌, [], ℕ, List, length, take, drop, get_or, slice_set, sym, ◌∙◌, ap, arith}
+use Rattle.std.proofs.Common.{◌≡◌, ◌<◌, ◌+◌, ◌-◌, ◌∷◌, ◌++◌, [], ℕ, List, length, take, drop, get_or, slice_set, sym, ◌∙◌, ap}
+use Rattle.std.proofs.Common.{arith}
 use Rattle.std.proofs.Math.Seq.{set-append_seam}
 use Rattle.std.proofs.lemmas.List.{take_more, length-take, append_assoc, drop_more, get_or-append_right}
 use Rattle.std.proofs.lemmas.Option.{slice_get-get_or}
 use Rattle.grid_base.specs.declared.piece.Piece.{Piece}
 use Rattle.sharing_runs.specs.RepairRuns.{at_positions}
 use Rattle.ripup_repair.specs.Exchanged.{with_elements}
-use Rattle.ripup_repair.proofs.Positions.{at_positions-long, at_positions-push, with_elements-other, with_elements-push, earlier_apart, take_within}
+use Rattle.ripup_repair.proofs.Positions.{at_positions-long, at_positions-push, with_elements-other, with_elements-push}
+use Rattle.ripup_repair.proofs.Positions.{earlier_apart, take_within}
 use Rattle.ripup_repair.proofs.exchange.exchange.Goals as goal
 
 pub loop-i-preserved : goal.loop-i-preserved
@@ -19,8 +21,10 @@ loop-i-preserved c =
     let in_sets : i < length sets = omega (arith, short, c.requires.long) in
     let in_trees : k < length trees = c.requires.positions i 0 short in
     let so_far : List (List Piece) = at_positions trees (take i ks) in
-    let long : length so_far ≡ i = at_positions-long trees (take i ks) (take_within trees ks i c.requires.positions) ∙ length-take i ks ∙ omega (arith, short) in
-    let even : length (take i sets) ≡ length (take i ks) = length-take i sets ∙ omega (arith, length-take i ks, short, in_sets) in
+    let long : length so_far ≡ i = at_positions-long trees (take i ks) (take_within trees ks i c.requires.positions)
+    ∙ length-take i ks ∙ omega (arith, short) in
+    let even : length (take i sets) ≡ length (take i ks) =
+    length-take i sets ∙ omega (arith, length-take i ks, short, in_sets) in
     let none : i - i ≡ 0 = omega arith in
     let y : List Piece = get_or sets i c.index-sets-i.result in
     let t : List Piece = get_or trees k c.index-trees-positions.result in
@@ -34,7 +38,8 @@ loop-i-preserved c =
     let had : c.swap.new.y ≡ t =
     c.swap.ensures.y_after
     ∙ ap (λ l. get_or l k c.index-trees-positions.result) c.loop-i.invariant.trees
-    ∙ with_elements-other trees (take i ks) (take i sets) k c.index-trees-positions.result (earlier_apart ks i c.requires.rising short) in
+    ∙ with_elements-other trees (take i ks) (take i sets) k c.index-trees-positions.result
+    (earlier_apart ks i c.requires.rising short) in
     record {
       trees = ap (λ l. slice_set l k c.swap.new.x) c.loop-i.invariant.trees
           ∙ ap (λ z. slice_set (with_elements trees (take i ks) (take i sets)) k z) read
@@ -46,6 +51,7 @@ loop-i-preserved c =
           ∙ set-append_seam so_far y (drop (i + 1) sets) c.swap.new.y
           ∙ ap (λ z. so_far ++ z ∷ drop (i + 1) sets) had
           ∙ sym (append_assoc so_far (t ∷ []) (drop (i + 1) sets))
-          ∙ ap (λ l. l ++ drop (i + 1) sets) (sym (at_positions-push trees (take i ks) k t (slice_get-get_or trees k c.index-trees-positions.result in_trees)))
+          ∙ ap (λ l. l ++ drop (i + 1) sets) (sym (at_positions-push trees (take i ks) k t
+          (slice_get-get_or trees k c.index-trees-positions.result in_trees)))
           ∙ ap (λ l. at_positions trees l ++ drop (i + 1) sets) (sym (take_more ks i 0 short));
     }

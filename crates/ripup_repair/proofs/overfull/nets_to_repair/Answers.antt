@@ -1,15 +1,16 @@
-use Rattle.std.proofs.Common.{◌≡◌, ◌≤◌, ◌<◌, ◌+◌, ◌∷◌, ◌++◌, [], ℕ, Bool, cond, List, length, take, get_or, slice_index_or, refl, sym, ◌∙◌, ap, subst, arith, ⊎_elim}
+use Rattle.std.proofs.Common.{◌≡◌, ◌≤◌, ◌<◌, ◌+◌, ◌∷◌, ◌++◌, [], ℕ, Bool, cond, List, length, take, get_or, slice_index_or, sym}
+use Rattle.std.proofs.Common.{◌∙◌, ap, subst, arith, ⊎_elim}
 use Rattle.std.specs.List.{filter, range_with_len}
 use Rattle.std.proofs.lemmas.Bool.{cases_lt}
 use Rattle.std.proofs.lemmas.List.{take_all}
 use Rattle.std.proofs.lemmas.List.Elements.{filter_more}
 use Rattle.std.proofs.lemmas.List.FromFn.{get_or-range_with_len, length-range_with_len}
-use Rattle.std.proofs.lemmas.Option.{get_or_from_slice_get, slice_get-get_or}
+use Rattle.std.proofs.lemmas.Option.{get_or_from_slice_get}
 use Rattle.std.proofs.lemmas.Slice.Zip.{AllZip-long}
 use Rattle.grid_base.specs.declared.piece.Piece.{Piece}
 use Rattle.grid_base.specs.Lists.{At}
 use Rattle.grid_base.proofs.Lists.{AllZip-at}
-use Rattle.grid_graph.specs.Grids.{size_of, entries, edge_numbers}
+use Rattle.grid_graph.specs.Grids.{size_of}
 use Rattle.load_core.specs.Parties.{share_at}
 use Rattle.tree_set.specs.Loads.{load}
 use Rattle.tree_set.specs.Order.{IsRising}
@@ -24,7 +25,11 @@ holds_overfull-due-requires-clause-pieces c =
     let d = c.args.design.now in
     let trees : List (List Piece) = c.args.trees.now in
     let k = c.loop-position.position in
-    let n = stands d.nets k (omega (arith, c.loop-position-test.true, AllZip-long (IsRoute d.grid) d.nets trees c.requires.routing)) in
+    let n = stands d.nets k (omega (
+      arith,
+      c.loop-position-test.true,
+      AllZip-long (IsRoute d.grid) d.nets trees c.requires.routing,
+    )) in
     route_pieces d.grid n.0 c.index-trees-position.result
     (AllZip-at (IsRoute d.grid) d.nets trees k n.0 c.index-trees-position.result c.requires.routing n.1
     (At-read trees k c.index-trees-position.result c.index-trees-position.is c.loop-position-test.true))
@@ -32,7 +37,12 @@ holds_overfull-due-requires-clause-pieces c =
 pub overflow_cast-position : goal.overflow_cast-position
 overflow_cast-position c =
     let d = c.args.design.now in
-    omega (arith, c.loop-position-test.true, AllZip-long (IsRoute d.grid) d.nets c.args.trees.now c.requires.routing, d.limits.count)
+    omega (
+      arith,
+      c.loop-position-test.true,
+      AllZip-long (IsRoute d.grid) d.nets c.args.trees.now c.requires.routing,
+      d.limits.count,
+    )
 
 pub loop-position-preserved : goal.loop-position-preserved
 loop-position-preserved c =
@@ -74,7 +84,9 @@ returns-clause-positions c =
     let trees : List (List Piece) = c.args.trees.now in
     let all : List ℕ = range_with_len 0 (length trees) in
     c.loop-position.invariant.found
-    ∙ ap (filter (λ position. holds_overfull d.grid (load d.grid d.nets trees) (slice_index_or trees position []))) (take_all c.loop-position.position all (omega (arith, c.loop-position-test.false, length-range_with_len 0 (length trees))))
+    ∙ ap (filter (λ position. holds_overfull d.grid (load d.grid d.nets trees) (slice_index_or trees position [])))
+    (take_all c.loop-position.position all (omega
+    (arith, c.loop-position-test.false, length-range_with_len 0 (length trees))))
 
 pub returns-clause-rising : goal.returns-clause-rising
 returns-clause-rising c k e short = c.loop-position.invariant.rising k e (omega (arith, short, c.loop-position-test.false))

@@ -9,7 +9,8 @@ use Rattle.ripup_repair.proofs.overfull.nets_to_repair.Given as goal
 -- the positions so far
 abbrev pub invariant-loop-position : goal.invariant-loop-position
 invariant-loop-position l = record {
-  found : l.positions.items ≡ filter (λ position. holds_overfull l.design.grid (load l.design.grid l.design.nets l.trees) (slice_index_or l.trees position []))
+  found : l.positions.items ≡ filter (λ position. holds_overfull l.design.grid (load l.design.grid l.design.nets l.trees)
+      (slice_index_or l.trees position []))
       (take l.position (range_with_len 0 (length l.trees)));
   rising : (k : ℕ) (d : List Piece) → k < l.position → IsRising (slice_index_or l.trees k d);
 }
