@@ -16,7 +16,6 @@ pub mod Tables
 pub mod Roots
 pub mod Pruned
 pub mod Finding
-pub mod KeptRows
 pub mod RowSteps
 pub mod Seeding
 pub mod RowTables

@@ -1,5 +1,5 @@
 -- The table with one more row.
-use Rattle.std.proofs.Common.{◌≡◌, ◌≢◌, ℕ, ◌+◌, ◌-◌, ◌*◌, ◌<◌, ◌≤◌, ◌⊎◌, List, [], ◌∷◌, length, get_or, take, ltb, true, false, lt-ltb, le-ltb, sym, ◌∙◌, ap, subst, inl, inr, ⊎_elim, arith}
+use Rattle.std.proofs.Common.{◌≡◌, ◌≢◌, ℕ, ◌+◌, ◌-◌, ◌<◌, ◌≤◌, ◌⊎◌, List, [], ◌∷◌, length, get_or, take, sym, ◌∙◌, ap, subst, inl, inr, ⊎_elim, arith}
 use Rattle.std.proofs.lemmas.Bool.{cases_eq, cases_lt}
 use Rattle.std.proofs.lemmas.List.{get_or-take, length-take}
 use Rattle.std.proofs.Math.ListN.{get_or-eq_default}
@@ -183,10 +183,7 @@ taken_same numbers len i beyond = ⊎_elim
 
 -- no kept number is above `far`
 pub kept_limit : (rows : KeptRows) (mask i : ℕ) → kept_in rows mask i ≤ far
-kept_limit rows mask i = ⊎_elim
-    (λ inside. let test : ltb i (kept_len rows mask) ≡ true = lt-ltb _ _ inside in rw test (rows.kept.limits ((mask - 1) * rows.room + i)))
-    (λ past. let test : ltb i (kept_len rows mask) ≡ false = le-ltb _ _ past in rw test (omega arith))
-    (cases_lt i (kept_len rows mask))
+kept_limit rows mask i = rows.kept.limits (mask - 1) i
 
 -- the lengths of all rows where one was stored
 pub lens_within : (old new : KeptRows) (mask len : ℕ) → kept_len new mask ≤ len → ((other : ℕ) → 0 < other → other ≢ mask → kept_len new other ≡ kept_len old other) → ((m : ℕ) → kept_len old m ≤ len) → (m : ℕ) → kept_len new m ≤ len

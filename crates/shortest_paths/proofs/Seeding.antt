@@ -1,9 +1,9 @@
 -- What a row is after offers for its mask.
-use Rattle.std.proofs.Common.{◌≡◌, ℕ, zero, suc, ◌+◌, ◌-◌, ◌*◌, ◌^◌, ◌%◌, ◌<◌, ◌≤◌, ◌⊎◌, List, refl, sym, ◌∙◌, ap, subst, ltb, false, inl, inr, ⊎_elim, arith}
+use Rattle.std.proofs.Common.{◌≡◌, ℕ, zero, suc, ◌+◌, ◌-◌, ◌*◌, ◌^◌, ◌%◌, ◌<◌, ◌≤◌, ◌⊎◌, List, refl, sym, ◌∙◌, ap, subst, inl, inr, ⊎_elim, arith}
 use Rattle.std.proofs.lemmas.Bool.{cases_lt}
 use Rattle.std.proofs.Math.Nat.{pow-succ'}
 use Rattle.std.proofs.lemmas.Nat.{pow_pos}
-use Rattle.std.proofs.Common.{le-ltb}
+use Rattle.std.proofs.lemmas.List.{get_or_past}
 use Rattle.grid_base.specs.declared.piece.Piece.{Piece}
 use Rattle.grid_base.specs.declared.size.Size.{Size}
 use Rattle.grid_base.specs.declared.vertex.Vertex.{Vertex}
@@ -13,6 +13,7 @@ use Rattle.shortest_paths.specs.declared.found.Found.{Found}
 use Rattle.shortest_paths.specs.declared.row.Row.{Row}
 use Rattle.shortest_paths.specs.Founds.{index_in, FindsMore}
 use Rattle.shortest_paths.specs.Kept.{kept_in, kept_len}
+use Rattle.shortest_paths.specs.Keeping.{numbers_of}
 use Rattle.shortest_paths.specs.Masks.{single}
 use Rattle.shortest_paths.specs.Rows.{size_in, number_in, IsWaiting}
 use Rattle.shortest_paths.specs.RowWork.{table_of, IsSum, IsSeeded, IsSumOffered}
@@ -23,7 +24,7 @@ use Rattle.shortest_paths.proofs.Spreading.{still_answered}
 
 -- a kept row has no number beyond its length
 kept_past : (rows : KeptRows) (mask i : ℕ) → kept_len rows mask ≤ i → kept_in rows mask i ≡ far
-kept_past rows mask i past = let test : ltb i (kept_len rows mask) ≡ false = le-ltb _ _ past in rw test refl
+kept_past rows mask i past = get_or_past (numbers_of rows.rows.items (mask - 1)) i far past
 
 pub kept_cases : (rows : KeptRows) (mask i : ℕ) → kept_in rows mask i < far → i < kept_len rows mask
 kept_cases rows mask i has = ⊎_elim (λ inside. inside) (λ past. absurd (omega (arith, has, kept_past rows mask i past))) (cases_lt i (kept_len rows mask))

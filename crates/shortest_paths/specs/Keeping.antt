@@ -1,13 +1,22 @@
 -- Lists of kept rows.
-use Rattle.std.specs.Prelude.{ℕ, ◌≡◌, ◌*◌, ◌≤◌, List, length, get_or}
+use Rattle.std.specs.Prelude.{ℕ, ◌≡◌, ◌<◌, ◌≤◌, List, length, get_or}
 use Rattle.grid_base.specs.Limits.{max_vertices}
+use Rattle.shortest_paths.specs.KeptNumbers.{KeptNumbers, no_numbers}
 use Rattle.shortest_paths.specs.Masks.{proper_masks}
 use Rattle.shortest_paths.specs.Stamped.{far}
 
--- rows of one length behind one another, each with how many of its numbers are in use
-pub record AreKept (room : ℕ) (numbers lens : List ℕ) : Type 0 where
+-- the numbers of a row
+abbrev pub numbers_of : List KeptNumbers → ℕ → List ℕ
+numbers_of rows row = (get_or rows row no_numbers).numbers
+
+-- how many numbers a row has room for
+abbrev pub room_of : List KeptNumbers → ℕ → ℕ
+room_of rows row = (get_or rows row no_numbers).room
+
+-- rows with one room, none of which has more numbers than it has room for
+pub record AreKept (room : ℕ) (rows : List KeptNumbers) : Type 0 where
   pub small : room ≤ max_vertices
-  pub few : length lens ≤ proper_masks
-  pub count : length numbers ≡ length lens * room
-  pub within : (row : ℕ) → get_or lens row 0 ≤ room
-  pub limits : (i : ℕ) → get_or numbers i far ≤ far
+  pub few : length rows ≤ proper_masks
+  pub rooms : (row : ℕ) → row < length rows → room_of rows row ≡ room
+  pub within : (row : ℕ) → length (numbers_of rows row) ≤ room
+  pub limits : (row i : ℕ) → get_or (numbers_of rows row) i far ≤ far

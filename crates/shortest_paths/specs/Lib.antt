@@ -15,6 +15,7 @@ pub mod Rows
 pub mod RowParts
 pub mod RowWork
 pub mod Runs
+pub mod KeptNumbers
 pub mod Keeping
 pub mod Kept
 pub mod LabelParts

@@ -1,29 +1,28 @@
 //! Rows of numbers that are kept, one for each mask.
 
-ghost use Rattle.std.specs.Prelude.{◌≡◌, ◌<◌, ◌≤◌, ◌+◌, ◌⊎◌, ℕ, length, get_or};
-ghost use Rattle.shortest_paths.specs.Keeping.{AreKept};
-ghost use Rattle.shortest_paths.specs.Stamped.{far};
+ghost use Rattle.std.specs.Prelude.{◌≡◌, ◌≤◌, ℕ, [], All, IfOk, length};
+ghost use Rattle.shortest_paths.specs.Keeping.{AreKept, numbers_of, room_of};
+ghost use Rattle.shortest_paths.specs.KeptNumbers.{kept_numbers};
 
-use crate::row::FAR;
+use crate::kept_row::KeptRow;
 use grid_base::NoMemory;
 use std::alloc::Global;
 
-/// A row of numbers for each mask, by the index of the vertices that were found when it was stored.
-///
-/// The rows stand one behind the other, each with room for all vertices; the first `lens` of a row are in use.
+/// A row of numbers for each mask, by the index of the vertices that were found when it was stored. Each has room for all
+/// vertices.
 #[derive(Drop)]
 pub(crate) struct KeptRows {
     room: u32,
-    numbers: Vec<u64>,
-    lens: Vec<u32>,
-    pub ghost kept: { AreKept room numbers.items lens.items },
+    rows: Vec<KeptRow>,
+    pub ghost kept: { AreKept room rows.items },
 }
 
 impl KeptRows {
-    ghost use Rattle.std.specs.Prelude.{◌≡◌, ◌≢◌, ◌<◌, ◌≤◌, ◌+◌, ◌*◌, ℕ, IfOk, length, get_or, cond, ltb};
+    ghost use Rattle.std.specs.Prelude.{◌≡◌, ◌≢◌, ◌<◌, ◌≤◌, ℕ, IfOk, length, get_or};
     ghost use Rattle.grid_base.specs.Limits.{max_vertices};
     ghost use Rattle.shortest_paths.specs.Kept.{kept_in, kept_len, masks_in};
     ghost use Rattle.shortest_paths.specs.Masks.{proper_masks};
+    ghost use Rattle.shortest_paths.specs.Stamped.{far};
 
     /// Empty rows for this many masks, each with room for so many numbers.
     pub(crate) fn new(alloc: Global, masks: u32, room: u32) -> Result<KeptRows, NoMemory>
@@ -33,13 +32,8 @@ impl KeptRows {
         ensures masks { IfOk result (λ k. masks_in k ≡ masks) }
         ensures none { IfOk result (λ k. (mask : ℕ) → kept_len k mask ≡ 0) }
     {
-        let numbers = vec![in alloc; 0; (masks * room) as usize]?;
-        let lens = vec![in alloc; 0; masks as usize]?;
-        Ok(KeptRows {
-            room,
-            numbers,
-            lens,
-        })
+        let rows = empty_rows(alloc, masks, room)?;
+        Ok(KeptRows { room, rows })
     }
 
     /// Empties all rows.
@@ -48,14 +42,14 @@ impl KeptRows {
         ensures masks { masks_in self.new ≡ masks_in self.old }
         ensures none { (mask : ℕ) → kept_len self.new mask ≡ 0 }
     {
-        empty_all(self.lens.as_mut_slice());
+        empty_all(self.rows.as_mut_slice());
     }
 
     /// How many masks have a row.
     pub(crate) fn masks(&self) -> u32
         ensures { result ≡ masks_in self.now }
     {
-        self.lens.len() as u32
+        self.rows.len() as u32
     }
 
     /// The kept number of a mask at an index, or `FAR`.
@@ -63,14 +57,9 @@ impl KeptRows {
         requires some { 0 < mask }
         requires room { mask ≤ masks_in self.now }
         ensures number { result ≡ kept_in self.now mask index }
-        ensures limit { result ≤ FAR }
+        ensures limit { result ≤ far }
     {
-        let row = mask - 1;
-        if index < self.lens[row as usize] {
-            self.numbers[(row * self.room + index) as usize]
-        } else {
-            FAR
-        }
+        self.rows[(mask - 1) as usize].number(index)
     }
 
     /// A number of indices below which stand all at which both masks have a number.
@@ -91,7 +80,7 @@ impl KeptRows {
         requires room { mask ≤ masks_in self.now }
         ensures { result ≡ kept_len self.now mask }
     {
-        self.lens[(mask - 1) as usize]
+        self.rows[(mask - 1) as usize].list().len() as u32
     }
 
     /// Stores the row of a mask.
@@ -107,31 +96,29 @@ impl KeptRows {
         ensures others { (other i : ℕ) → 0 < other → other ≢ mask → kept_in self.new other i ≡ kept_in self.old other i }
         ensures other_lens { (other : ℕ) → 0 < other → other ≢ mask → kept_len self.new other ≡ kept_len self.old other }
     {
-        let row = mask - 1;
-        let start = row * self.room;
-        copy_to(self.numbers.as_mut_slice(), start as usize, numbers);
-        self.lens[row as usize] = numbers.len() as u32;
+        self.rows[(mask - 1) as usize].store(numbers);
     }
+}
+
+/// So many empty rows.
+fn empty_rows(alloc: Global, masks: u32, room: u32) -> Result<Vec<KeptRow>, NoMemory>
+    ensures count { IfOk result (λ rows. length rows.items ≡ masks) }
+    ensures empty { IfOk result (λ rows. All (λ row. row ≡ kept_numbers room []) rows.items) }
+{
+    let mut rows = Vec::new(alloc);
+    for _ in 0..masks {
+        rows.push(KeptRow::new(alloc, room)?)?;
+    }
+    Ok(rows)
 }
 
 /// Empties each row.
-fn empty_all(lens: &mut [u32])
-    ensures length { length lens.new ≡ length lens.old }
-    ensures none { (row : ℕ) → get_or lens.new row 0 ≡ 0 }
+fn empty_all(rows: &mut [KeptRow])
+    ensures length { length rows.new ≡ length rows.old }
+    ensures none { (row : ℕ) → numbers_of rows.new row ≡ [] }
+    ensures rooms { (row : ℕ) → room_of rows.new row ≡ room_of rows.old row }
 {
-    for row in 0..lens.len() {
-        lens[row] = 0;
-    }
-}
-
-/// Copies a row to where it begins.
-fn copy_to(all: &mut [u64], start: usize, row: &[u64])
-    requires room { start + length row.now ≤ length all.old }
-    ensures length { length all.new ≡ length all.old }
-    ensures copied { (i : ℕ) → i < length row.now → get_or all.new (start + i) far ≡ get_or row.now i far }
-    ensures others { (j : ℕ) → (j < start) ⊎ (start + length row.now ≤ j) → get_or all.new j far ≡ get_or all.old j far }
-{
-    for i in 0..row.len() {
-        all[start + i] = row[i];
+    for row in 0..rows.len() {
+        rows[row].forget();
     }
 }

@@ -55,6 +55,7 @@ mod floor_bound;
 mod found;
 mod grid_distances;
 mod heap;
+mod kept_row;
 mod kept_rows;
 mod labels;
 mod laws;

@@ -1,8 +1,10 @@
-use Rattle.std.proofs.Common.{◌≡◌, ◌<◌, ℕ, length, get_or}
+use Rattle.std.proofs.Common.{◌≡◌, ◌<◌, ℕ, [], length}
+use Rattle.shortest_paths.specs.Keeping.{numbers_of, room_of}
 use Rattle.shortest_paths.proofs.kept_rows.empty_all.Given as goal
 
 abbrev pub invariant-loop-row : goal.invariant-loop-row
 invariant-loop-row l = record {
-  length : length l.lens ≡ length l.initial.lens;
-  cleared : (j : ℕ) → j < l.row → get_or l.lens j 0 ≡ 0;
+  length : length l.rows ≡ length l.initial.rows;
+  emptied : (j : ℕ) → j < l.row → numbers_of l.rows j ≡ [];
+  rooms : (j : ℕ) → room_of l.rows j ≡ room_of l.initial.rows j;
 }
