@@ -38,13 +38,14 @@ impl PieceSet for Tree {
 
 impl Tree {
     /// The set of the listed pieces, in whatever order and however often each is listed. It takes
-    /// no memory beyond the list that it is given.
+    /// no memory beyond the list that it is given, and gives back what of that is room for more.
     pub fn of(mut pieces: Vec<Piece>) -> Tree
         ensures rising { IsRising result }
         ensures same { (p : Piece) → Contains result p ↔ Contains pieces.items p }
     {
         pieces.sort_unstable();
         pieces.dedup();
+        pieces.shrink_to_fit();
         Tree { pieces }
     }
 
