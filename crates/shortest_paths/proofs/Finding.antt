@@ -12,7 +12,7 @@ use Rattle.std.specs.List.{All}
 use Rattle.std.proofs.lemmas.List.Elements.{All-get_or}
 use Rattle.shortest_paths.specs.declared.found.Slot.{Slot}
 use Rattle.shortest_paths.specs.declared.found.Found.{Found}
-use Rattle.shortest_paths.specs.Finding.{AreFound, unset, nowhere, vertex_found}
+use Rattle.shortest_paths.specs.Finding.{AreFound, HasSpotAt, unset, nowhere, vertex_found}
 use Rattle.shortest_paths.specs.Founds.{index_in, FindsMore, AreFoundFirst}
 use Rattle.shortest_paths.proofs.Pigeons.{less_than}
 
@@ -64,21 +64,20 @@ room_for f v vertex new =
     (λ j high same. new (subst (λ u. (get_or f.slots.items u unset).stamp ≡ f.present) same (ap (λ (x : Slot). x.stamp) (f.found.indexed j high))))
 
 -- one more vertex is found
-pub AreFound-more : (s : Size) (slots : List Slot) (spots : List Spot) (len present : ℕ) (to : Spot) → AreFound s slots spots len present → IsSpot s to → (get_or slots to.vertex.0 unset).stamp ≢ present → len < vertices s →
-    AreFound s (set slots to.vertex.0 (record { stamp = present; index = len })) (set spots len to) (len + 1) present
-AreFound-more s slots spots len present to is at new room =
+pub AreFound-more : (s : Size) (slots : List Slot) (spots more : List Spot) (len present : ℕ) (to : Spot) → AreFound s slots spots len present → IsSpot s to → (get_or slots to.vertex.0 unset).stamp ≢ present → len < vertices s → HasSpotAt spots more len to →
+    AreFound s (set slots to.vertex.0 (record { stamp = present; index = len })) more (len + 1) present
+AreFound-more s slots spots more len present to is at new room put =
     let v = to.vertex.0 in
     let slot : Slot = record { stamp = present; index = len } in
     let in_slots : v < length slots = subst (λ n. v < n) (sym is.slot_count) at.vertex in
-    let in_spots : len < length spots = subst (λ n. len < n) (sym is.spot_count) room in
     let slot_here : (u : ℕ) → u ≡ v → get_or (set slots v slot) u unset ≡ slot = λ u here. subst (λ w. get_or (set slots v slot) w unset ≡ slot) (sym here) (get_or-set_same slots v slot unset in_slots) in
     let slot_there : (u : ℕ) → u ≢ v → get_or (set slots v slot) u unset ≡ get_or slots u unset = λ u other. get_or-set_other slots v u slot unset other in
-    let spot_here : (i : ℕ) → i ≡ len → get_or (set spots len to) i nowhere ≡ to = λ i here. subst (λ j. get_or (set spots len to) j nowhere ≡ to) (sym here) (get_or-set_same spots len to nowhere in_spots) in
-    let spot_there : (i : ℕ) → i ≢ len → get_or (set spots len to) i nowhere ≡ get_or spots i nowhere = λ i other. get_or-set_other spots len i to nowhere other in
+    let spot_here : (i : ℕ) → i ≡ len → get_or more i nowhere ≡ to = λ i here. subst (λ j. get_or more j nowhere ≡ to) (sym here) put.here in
+    let spot_there : (i : ℕ) → i ≢ len → get_or more i nowhere ≡ get_or spots i nowhere = put.others in
     let apart : (i : ℕ) → i < len → vertex_found spots i ≢ v = λ i low same. new (subst (λ u. (get_or slots u unset).stamp ≡ present) same (ap (λ (x : Slot). x.stamp) (is.indexed i low))) in
     record {
       slot_count = length-set slots v slot ∙ is.slot_count;
-      spot_count = length-set spots len to ∙ is.spot_count;
+      spot_count = omega (arith, put.inside);
       room = omega (arith, room);
       started = is.started;
       standing = λ i low. ⊎_elim
@@ -99,11 +98,11 @@ AreFound-more s slots spots len present to is at new room =
           omega (arith, ap (λ (x : Slot). x.index) same, is.back u (ap (λ (x : Slot). x.stamp) (sym same) ∙ stamped)))
           (cases_eq u v);
       same = λ u stamped. ⊎_elim
-          (λ here. ap (vertex_found (set spots len to)) (ap (λ (x : Slot). x.index) (slot_here u here)) ∙ ap (λ (x : Spot). x.vertex.0) (spot_here len refl) ∙ sym here)
+          (λ here. ap (vertex_found more) (ap (λ (x : Slot). x.index) (slot_here u here)) ∙ ap (λ (x : Spot). x.vertex.0) (spot_here len refl) ∙ sym here)
           (λ other.
           let same = slot_there u other in
           let old = ap (λ (x : Slot). x.stamp) (sym same) ∙ stamped in
-          ap (vertex_found (set spots len to)) (ap (λ (x : Slot). x.index) same) ∙ ap (λ (x : Spot). x.vertex.0) (spot_there _ (λ at_len. omega (arith, at_len, is.back u old))) ∙ is.same u old)
+          ap (vertex_found more) (ap (λ (x : Slot). x.index) same) ∙ ap (λ (x : Spot). x.vertex.0) (spot_there _ (λ at_len. omega (arith, at_len, is.back u old))) ∙ is.same u old)
           (cases_eq u v);
       stamps = λ u. ⊎_elim
           (λ here. omega (arith, ap (λ (x : Slot). x.stamp) (slot_here u here)))

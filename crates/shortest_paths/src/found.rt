@@ -1,9 +1,10 @@
 //! The vertices that a search has found.
 
-ghost use Rattle.std.specs.Prelude.{◌≡◌, ℕ, length, get_or};
-ghost use Rattle.shortest_paths.specs.Finding.{AreFound, unset};
+ghost use Rattle.std.specs.Prelude.{◌≡◌, ◌<◌, ◌≤◌, ℕ, length, get_or, vec_capacity};
+ghost use Rattle.grid_base.specs.Numbers.{vertices};
+ghost use Rattle.shortest_paths.specs.Finding.{AreFound, HasSpotAt, unset};
 
-use grid_base::{NoMemory, Place, Size, Spot, Vertex};
+use grid_base::{NoMemory, Size, Spot, Vertex};
 use std::alloc::Global;
 
 /// Where a vertex stands among those found, under the stamp of the search that found it.
@@ -15,8 +16,8 @@ pub(crate) struct Slot {
 
 /// The vertices that the present search has found with their places, each by an index in the order of finding.
 ///
-/// The first `len` of `spots` are in use. A slot counts only under the stamp of the present search, so that a search
-/// clears nothing.
+/// The first `len` of `spots` are in use. The list is as long as the widest search so far needed, with room for all
+/// vertices. A slot counts only under the stamp of the present search, so that a search clears nothing.
 #[derive(Drop)]
 pub(crate) struct Found {
     size: Size,
@@ -25,6 +26,7 @@ pub(crate) struct Found {
     len: u32,
     present: u32,
     pub ghost found: { AreFound size slots.items spots.items len present },
+    pub ghost room: { vertices size ≤ vec_capacity spots },
 }
 
 impl Found {
@@ -40,15 +42,7 @@ impl Found {
     {
         let vertices = size.vertices() as usize;
         let slots = vec![in alloc; Slot { stamp: 0, index: 0 }; vertices]?;
-        let nowhere = Spot {
-            vertex: Vertex(0),
-            place: Place {
-                col: 0,
-                row: 0,
-                layer: 0,
-            },
-        };
-        let spots = vec![in alloc; nowhere; vertices]?;
+        let spots = Vec::with_capacity(alloc, vertices)?;
         Ok(Found {
             size,
             slots,
@@ -138,9 +132,23 @@ impl Found {
             stamp: self.present,
             index,
         };
-        self.spots[index as usize] = to;
+        write_spot(&mut self.spots, index as usize, to);
         self.len += 1;
         index
+    }
+}
+
+/// Writes a spot at an index of the list, or behind its end.
+fn write_spot(spots: &mut Vec<Spot>, index: usize, to: Spot)
+    requires index { index ≤ length spots.old.items }
+    requires room { index < vec_capacity spots.old }
+    ensures written { HasSpotAt spots.old.items spots.new.items index to }
+    ensures capacity { vec_capacity spots.new ≡ vec_capacity spots.old }
+{
+    if index < spots.len() {
+        spots[index] = to;
+    } else {
+        spots.push_reserved(to);
     }
 }
 
