@@ -5,7 +5,7 @@ use Rattle.std.proofs.lemmas.Bool.{cases_eq}
 use Rattle.std.proofs.lemmas.List.Sums.{sum_by-cons}
 
 -- a sum is at least one of its numbers
-one_entry : (f : ℕ → ℕ) (count first i : ℕ) → first ≤ i → i < first + count → f i ≤ sum_by f (range_with_len first count)
+pub one_entry : (f : ℕ → ℕ) (count first i : ℕ) → first ≤ i → i < first + count → f i ≤ sum_by f (range_with_len first count)
 one_entry f zero first i from before = absurd (omega (arith, from, before))
 one_entry f (suc count) first i from before =
     let whole = sum_by-cons f first (range_with_len (first + 1) count) in

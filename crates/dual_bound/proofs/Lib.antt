@@ -3,6 +3,8 @@ pub mod CapacityCosts
 pub mod Closed
 pub mod Duality
 pub mod Entries
+pub mod FreeBudgets
+pub mod GreatestPrices
 pub mod NetLimits
 pub mod NetsOf
 pub mod Overfull

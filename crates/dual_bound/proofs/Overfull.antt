@@ -17,7 +17,7 @@ use Rattle.tree_set.specs.Loads.{load, load_on}
 use Rattle.tree_set.specs.Measures.{excess, overflow, wirelength}
 use Rattle.tree_set.specs.Routings.{IsRouting}
 use Rattle.dual_bound.specs.DesignBounds.{IsAtMostEachRoute, IsBoundOfNet, IsSumOfBounds}
-use Rattle.dual_bound.specs.LeastOverflow.{IsGreatestPrice, least_overflow}
+use Rattle.dual_bound.specs.LeastOverflow.{IsMostOfPrices, least_overflow}
 use Rattle.dual_bound.specs.Prices.{price_at, capacity_cost}
 use Rattle.dual_bound.proofs.CapacityCosts.{sum_by-range-more, sum_by-range-same, capacity_cost-parts}
 use Rattle.dual_bound.proofs.Closed.{at_edge, at_wirelength}
@@ -93,7 +93,7 @@ load_on_edges g prices nets trees =
     whole ∙ parts
 
 -- what the routes cost at least is at most what the capacities cost and, at the greatest price, the overflow
-overfull : (d : Design) (prices : List ℕ) (price total : ℕ) (trees : List (List Piece)) → AreEdgePrices d.grid prices → IsGreatestPrice prices price
+overfull : (d : Design) (prices : List ℕ) (price total : ℕ) (trees : List (List Piece)) → AreEdgePrices d.grid prices → IsMostOfPrices prices price
     → IsSumOfBounds d.grid prices None d.nets total → IsRouting d.grid d.nets trees
     → total ≤ capacity_cost d.grid prices None + price * overflow d.grid (load d.grid d.nets trees)
 overfull d prices price total trees are greatest is routing =
@@ -116,7 +116,7 @@ rounded_up price beyond most some at_most =
     let below = (div-lt_iff_lt-mul {k = price} {x = beyond + (price - 1)} {y = most + 1} some).1 less in
     omega (arith, below)
 
-pub overflows : (d : Design) (prices : List ℕ) (price total : ℕ) (trees : List (List Piece)) → AreEdgePrices d.grid prices → IsGreatestPrice prices price
+pub overflows : (d : Design) (prices : List ℕ) (price total : ℕ) (trees : List (List Piece)) → AreEdgePrices d.grid prices → IsMostOfPrices prices price
     → IsSumOfBounds d.grid prices None d.nets total → IsRouting d.grid d.nets trees
     → least_overflow total (capacity_cost d.grid prices None) price ≤ overflow d.grid (load d.grid d.nets trees)
 overflows d prices price total trees are greatest is routing =

@@ -1,6 +1,7 @@
--- The limits of net bounds and of what capacities cost.
+-- The limits of net bounds, of what capacities cost and of what overflow a price list shows.
 use Rattle.std.specs.Prelude.{ℕ, ◌-◌, ◌*◌, ◌^◌}
 use Rattle.grid_base.specs.Limits.{max_vertices}
+use Rattle.grid_graph.specs.Limits.{max_demand, max_nets}
 
 -- the greatest cost of a piece: a demand at the greatest price, and the greatest price
 abbrev pub max_piece_cost : ℕ
@@ -21,3 +22,7 @@ max_wirelength_cost = 2 ^ 57
 -- in so many parts the nets are divided at most
 abbrev pub max_parts : ℕ
 max_parts = 8
+
+-- the greatest overflow that a price list shows: each net pays the greatest price for a demand on fewer edges than there are vertices
+abbrev pub max_least_overflow : ℕ
+max_least_overflow = max_nets * ((max_vertices - 1) * max_demand)

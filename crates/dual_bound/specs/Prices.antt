@@ -1,6 +1,7 @@
 -- Price lists, and what sets of pieces cost at them.
 use Rattle.std.specs.Prelude.{ℕ, ◌*◌, ◌==◌, List, slice_index, Option, cond}
 use Rattle.std.specs.List.{sum_by, range_with_len}
+use Rattle.std.specs.Option.{option_map}
 use Rattle.grid_base.specs.declared.piece.Piece.{Piece}
 use Rattle.grid_graph.specs.declared.grid.Grid.{Grid}
 use Rattle.grid_graph.specs.Grids.{edge_numbers, entries}
@@ -26,3 +27,7 @@ capacity_cost g prices budget = sum_by (λ r. price_at g prices budget r * capac
 -- what a set of pieces costs for a net of this width: the sum over the resources of price and load
 abbrev pub load_cost : Grid → List ℕ → Option Budget → ℕ → List Piece → ℕ
 load_cost g prices budget width set = sum_by (λ r. price_at g prices budget r * tree_load g width set r) (range_with_len 0 (entries g))
+
+-- a wirelength that is to be kept, if there is one, at the price 0
+abbrev pub free_budget : Option ℕ → Option Budget
+free_budget most = option_map (λ m. record { most = m; price = 0 }) most

@@ -12,7 +12,7 @@ ghost use Rattle.tree_set.specs.Measures.{overflow};
 ghost use Rattle.tree_set.specs.Routings.{IsRouting};
 ghost use Rattle.dual_bound.specs.Bounds.{IsResource, BoundsDesign};
 ghost use Rattle.dual_bound.specs.DesignBounds.{IsAtMostEachRoute, IsSumOfBounds};
-ghost use Rattle.dual_bound.specs.LeastOverflow.{IsGreatestPrice, least_overflow};
+ghost use Rattle.dual_bound.specs.LeastOverflow.{IsMostOfPrices, least_overflow};
 ghost use Rattle.dual_bound.specs.Prices.{ArePricesWith, capacity_cost};
 
 /// Weak duality. At any price list at which the capacities cost something, the sum of what the nets' routes cost at least
@@ -35,7 +35,7 @@ pub fn weak_duality()
 /// routes, has at least so much overflow.
 pub fn prices_show_overflow()
     ensures { (d : Design) (prices : List ℕ) (price total : ℕ) (trees : List (List Piece))
-        → AreEdgePrices d.grid prices → IsGreatestPrice prices price
+        → AreEdgePrices d.grid prices → IsMostOfPrices prices price
         → IsSumOfBounds d.grid prices None d.nets total → IsRouting d.grid d.nets trees
         → least_overflow total (capacity_cost d.grid prices None) price ≤ overflow d.grid (load d.grid d.nets trees) }
 {}
