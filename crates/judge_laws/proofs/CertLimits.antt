@@ -15,6 +15,7 @@ use Rattle.cert_text.specs.declared.cert.Cert.{Cert}
 use Rattle.cert_text.specs.Certs.{AreFractionsWithin, IsCertWithin}
 use Rattle.cert_text.specs.Limits.{max_stated_total}
 use Rattle.cert_text.specs.Versions.{version_of}
+use Rattle.cert_text.proofs.LowestFractions.{least_denominator}
 use Rattle.dual_bound.specs.DesignBounds.{IsBoundOrNone}
 use Rattle.dual_bound.specs.Prices.{capacity_cost}
 use Rattle.dual_bound.proofs.CapacityCosts.{capacity_cost-parts}
@@ -42,7 +43,6 @@ use Rattle.tree_set.proofs.Fullest.{capacity-open}
 use Rattle.route_judge.specs.Counts.{needs_choked_edges, listed_prices}
 use Rattle.route_judge.proofs.OpenEdges.{listed_are_prices}
 use Rattle.judge_laws.specs.Meeting.{ClaimsTruly}
-use Rattle.judge_laws.proofs.LowestTerms.{least_denominator}
 use Rattle.judge_laws.proofs.WrittenBlocks.{AreRoutedSets, sets_long, set_at}
 
 -- ---- loads
@@ -133,7 +133,7 @@ edge_costs_small g prices are =
       (size_of g).within.vertex_limit,
     )
 
-bound_within : (d : Design) (prices : List ℕ) (budget : Option Budget) (bound : Option Fraction) → AreEdgePrices d.grid prices → IsBoundOrNone d prices budget bound
+pub bound_within : (d : Design) (prices : List ℕ) (budget : Option Budget) (bound : Option Fraction) → AreEdgePrices d.grid prices → IsBoundOrNone d prices budget bound
     → AreFractionsWithin (version_of budget) bound
 bound_within d prices None None are is = λ f none. absurd (cc none)
 bound_within d prices None (Some f) are is = λ h same.

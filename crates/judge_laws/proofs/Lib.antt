@@ -7,5 +7,7 @@ pub mod OneMeasure
 pub mod OneBound
 pub mod Resources
 pub mod TrueClaims
-pub mod LowestTerms
 pub mod CertLimits
+pub mod OneVerdict
+pub mod OpenPrices
+pub mod OtherPrices

@@ -28,7 +28,7 @@ use Rattle.judge_laws.proofs.OneMeasure.{one_list_of_sets, one_peak}
 use Rattle.judge_laws.proofs.Resources.{costly_has_resource}
 
 -- a budget is one piece at least
-budget_positive : (budget : Option Budget) → IsWithinLimits budget → (most : ℕ) → most_of budget ≡ Some most → 0 < most
+pub budget_positive : (budget : Option Budget) → IsWithinLimits budget → (most : ℕ) → most_of budget ≡ Some most → 0 < most
 budget_positive None within most is = absurd (cc is)
 budget_positive (Some b) within most is = omega (arith, (within b refl).0.0, same_Some _ _ is)
 

@@ -1,22 +1,30 @@
 //! What the words of the contracts amount to. Nothing is computed here: each contract is a law.
 
-ghost use Rattle.std.specs.Prelude.{◌≤◌, List, All};
+ghost use Rattle.std.specs.Prelude.{ℕ, ◌≡◌, ◌≤◌, List, All, Option, Some, None};
 ghost use Rattle.cert_text.specs.declared.cert.Cert.{Cert};
-ghost use Rattle.cert_text.specs.Certs.{IsCertOf};
+ghost use Rattle.cert_text.specs.Certs.{IsCertOf, IsCertWithin};
 ghost use Rattle.cert_text.specs.CertText.{cert_text};
+ghost use Rattle.dual_bound.specs.DesignBounds.{IsBoundOrNone};
+ghost use Rattle.dual_bound.specs.Prices.{free_budget};
 ghost use Rattle.edge_prices.specs.Limits.{max_price};
+ghost use Rattle.edge_prices.specs.Weights.{AreEdgePrices};
 ghost use Rattle.grid_base.specs.declared.piece.Piece.{Piece};
 ghost use Rattle.grid_graph.specs.Borders.{HasBordersInRange};
 ghost use Rattle.grid_graph.specs.declared.design.Design.{Design};
 ghost use Rattle.grid_graph.specs.declared.ground.Ground.{Ground};
 ghost use Rattle.grid_graph.specs.Grounds.{AreGrounds};
+ghost use Rattle.tree_set.specs.declared.fraction.Fraction.{Fraction};
+ghost use Rattle.tree_set.specs.Budgets.{IsWithinLimits, most_of};
 ghost use Rattle.tree_set.specs.Order.{IsRising};
 ghost use Rattle.route_text.specs.declared.block.Block.{Block};
 ghost use Rattle.route_text.specs.Written.{written_blocks};
+ghost use Rattle.route_judge.specs.declared.reason.Reason.{Reason};
+ghost use Rattle.route_judge.specs.Judgements.{IsJudged, StatesBound};
 ghost use Rattle.route_judge.specs.Limits.{AreBlocks};
 ghost use Rattle.route_judge.specs.NetSets.{AreSetsOf, AreJoining};
 ghost use Rattle.route_judge.specs.Orders.{AreRoutes};
 ghost use Rattle.judge_laws.specs.Meeting.{ClaimsTruly, Meet};
+ghost use Rattle.judge_laws.specs.OpenPrices.{with_prices};
 
 /// The blocks that are written for sets that join the nets of a design without walls are routes of it, which give the nets these
 /// very sets. Where the design's borders are in range, the blocks can be judged.
@@ -39,4 +47,25 @@ pub fn true_certificates_read_back()
     ensures { (d : Design) (over : List Ground) (trees : List (List Piece)) (cert : Cert)
         → AreGrounds d.grid d.nets over → All IsRising trees → AreJoining d trees → All (λ price. price ≤ max_price) cert.prices
         → ClaimsTruly d over trees cert → IsCertOf (cert_text cert) cert }
+{}
+
+/// A verdict excludes every other: no two are given of the same routes and the same certificate, be they yes or no.
+pub fn one_verdict()
+    ensures { (d : Design) (over : List Ground) (blocks : List Block) (cert : Cert) (one other : Option Reason)
+        → IsWithinLimits cert.budget → IsJudged d over blocks cert one → IsJudged d over blocks cert other → one ≡ other }
+{}
+
+/// Where routes and a certificate are accepted, they stay so with other prices of the edges and the bound at these, where a
+/// wirelength that is to be kept costs nothing. The new text reads back, and states a bound of the design.
+pub fn certificates_with_another_bound_are_accepted()
+    ensures accepted { (d : Design) (over : List Ground) (blocks : List Block) (cert : Cert) (prices : List ℕ) (f : Fraction)
+        → IsJudged d over blocks cert None → AreEdgePrices d.grid prices
+        → IsBoundOrNone d prices (free_budget (most_of cert.budget)) (Some f)
+        → IsJudged d over blocks (with_prices d.grid cert prices (Some f)) None }
+    ensures reads_back { (d : Design) (cert : Cert) (prices : List ℕ) (f : Fraction) → IsCertWithin cert → AreEdgePrices d.grid prices
+        → IsBoundOrNone d prices (free_budget (most_of cert.budget)) (Some f)
+        → IsCertOf (cert_text (with_prices d.grid cert prices (Some f))) (with_prices d.grid cert prices (Some f)) }
+    ensures bounds { (d : Design) (cert : Cert) (prices : List ℕ) (f : Fraction) → IsWithinLimits cert.budget → AreEdgePrices d.grid prices
+        → IsBoundOrNone d prices (free_budget (most_of cert.budget)) (Some f)
+        → StatesBound d (with_prices d.grid cert prices (Some f)) }
 {}
