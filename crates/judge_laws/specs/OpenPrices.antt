@@ -19,4 +19,5 @@ open_prices g prices = map (slice_index prices) (open_edges g)
 
 -- the certificate with these prices of edges and this bound, and a wirelength that costs nothing
 abbrev pub with_prices : Grid → Cert → List ℕ → Option Fraction → Cert
-with_prices g cert prices bound = record cert { bound = bound; budget = free_budget (most_of cert.budget); prices = open_prices g prices }
+with_prices g cert prices bound =
+    record cert { bound = bound; budget = free_budget (most_of cert.budget); prices = open_prices g prices }

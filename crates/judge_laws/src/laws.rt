@@ -62,10 +62,12 @@ pub fn certificates_with_another_bound_are_accepted()
         → IsJudged d over blocks cert None → AreEdgePrices d.grid prices
         → IsBoundOrNone d prices (free_budget (most_of cert.budget)) (Some f)
         → IsJudged d over blocks (with_prices d.grid cert prices (Some f)) None }
-    ensures reads_back { (d : Design) (cert : Cert) (prices : List ℕ) (f : Fraction) → IsCertWithin cert → AreEdgePrices d.grid prices
+    ensures reads_back { (d : Design) (cert : Cert) (prices : List ℕ) (f : Fraction)
+        → IsCertWithin cert → AreEdgePrices d.grid prices
         → IsBoundOrNone d prices (free_budget (most_of cert.budget)) (Some f)
         → IsCertOf (cert_text (with_prices d.grid cert prices (Some f))) (with_prices d.grid cert prices (Some f)) }
-    ensures bounds { (d : Design) (cert : Cert) (prices : List ℕ) (f : Fraction) → IsWithinLimits cert.budget → AreEdgePrices d.grid prices
+    ensures bounds { (d : Design) (cert : Cert) (prices : List ℕ) (f : Fraction)
+        → IsWithinLimits cert.budget → AreEdgePrices d.grid prices
         → IsBoundOrNone d prices (free_budget (most_of cert.budget)) (Some f)
         → StatesBound d (with_prices d.grid cert prices (Some f)) }
 {}

@@ -5,8 +5,9 @@
 //! certificates, and on `dual_bound`, `edge_prices`, `tree_set`, `grid_graph` and `grid_base`. Nothing is computed here.
 //!
 //! Promised: a design, sets that join its nets without walls and a true certificate of them have one judgement, a yes, and the
-//! judge measures what the certificate states. So whoever writes down what it knows to be true is never refused. All routes and
-//! certificates have one verdict. A certificate that is accepted stays so with the bound at other prices, and its text reads back.
+//! judge measures what the certificate states. So whoever writes down what it knows to be true is never refused. Routes and a
+//! certificate have one verdict. A certificate that is accepted stays so with the bound at other prices, and its text reads
+//! back.
 
 #![tactic(auto)]
 
