@@ -1,18 +1,16 @@
 -- Loads as one more piece, or one more net, is counted.
-use Rattle.std.proofs.Common.{◌≡◌, ℕ, ◌+◌, ◌<◌, Bool, true, false, cond, ◌||◌, List, length, get_or, take, slice_index, slice_set, refl, sym, ◌∙◌, ap, subst, ⊎_elim, arith, ◌≤◌, ◌*◌, eq-eqb, ne_eqb}
+use Rattle.std.proofs.Common.{◌≡◌, ℕ, ◌+◌, ◌<◌, Bool, true, false, cond, ◌||◌, List, length, get_or, take, slice_index, slice_set, refl, sym, ◌∙◌, ap, subst, ⊎_elim, arith, ◌≤◌, ◌*◌, eq-eqb, ne_eqb, eqb-true}
 use Rattle.grid_base.specs.declared.via.Via.{Via as ViaNumber}
 use Rattle.grid_base.specs.declared.size.Size.{Size}
+use Rattle.grid_base.specs.Lists.{At, HasNoRepeats}
 use Rattle.grid_base.specs.Numbers.{vertices, IsPiece}
 use Rattle.tree_set.specs.Routings.{ArePieces}
-use Rattle.std.specs.Ordering.{is_eq}
-use Rattle.std.specs.Cmp.{unsigned_ties}
 use Rattle.std.specs.List.{sum_by, zip}
-use Rattle.std.specs.declared.cmp.Ordering.TheVariants.{Less}
-use Rattle.std.proofs.lemmas.Bool.{cases_eq}
-use Rattle.std.proofs.lemmas.List.{get_or-set_same, get_or-set_other, get_or-take, get_or_default, length-take}
+use Rattle.std.proofs.lemmas.Bool.{cases_Bool, cases_eq}
+use Rattle.std.proofs.lemmas.List.{get_or-set_same, get_or-set_other, get_or-take, length-take}
 use Rattle.std.proofs.lemmas.List.Folds.{list_any_more, list_any_none}
 use Rattle.std.proofs.lemmas.List.Sums.{sum_by_more}
-use Rattle.std.proofs.lemmas.Map.Keys.{Less-from_sorted}
+use Rattle.std.proofs.lemmas.Option.{slice_get-get_or}
 use Rattle.std.proofs.lemmas.Slice.Zip.{get_or-zip, length-zip}
 use Rattle.grid_base.specs.declared.edge.Edge.{Edge as EdgeNumber}
 use Rattle.grid_base.specs.declared.piece.Piece.{Piece}
@@ -21,7 +19,8 @@ use Rattle.grid_graph.specs.declared.grid.Grid.{Grid}
 use Rattle.grid_graph.specs.declared.net_spec.NetSpec.{NetSpec}
 use Rattle.grid_graph.specs.Grids.{demand_on}
 use Rattle.tree_set.specs.Loads.{is_edge_of, holds, net_load}
-use Rattle.tree_set.specs.Order.{piece_cmp, IsRising}
+use Rattle.tree_set.specs.Order.{IsRising}
+use Rattle.tree_set.proofs.Order.{rising_once}
 use Rattle.grid_graph.specs.Limits.{max_demand}
 
 or_false : (b : Bool) → (b || false) ≡ b
@@ -32,20 +31,22 @@ or_true : (b : Bool) → (b || true) ≡ true
 or_true true = refl
 or_true false = refl
 
--- a piece that comes before an edge isn't that edge
-apart : (q : Piece) (x : EdgeNumber) → piece_cmp q (Edge x) ≡ Less → is_edge_of x.0 q ≡ false
-apart (Edge y) x less = unsigned_ties y.0 x.0 ∙ ap is_eq less
-apart (Via v) x less = refl
+edge_of : (e : ℕ) (p : Piece) → is_edge_of e p ≡ true → p ≡ Edge (record { 0 = e })
+edge_of e (Edge x) is = ap (λ n. Edge (record { 0 = n })) (eqb-true x.0 e is)
+edge_of e (Via v) is = cc
 
--- an edge doesn't stand before itself in a rising list
-not_before : (ps : List Piece) (i : ℕ) (d : Piece) (x : EdgeNumber) → IsRising ps → i < length ps → get_or ps i d ≡ Edge x → holds (take i ps) x.0 ≡ false
-not_before ps i d x rising within is =
+-- an edge doesn't stand before itself in a list without repeats
+not_before : (ps : List Piece) (i : ℕ) (d : Piece) (x : EdgeNumber) → HasNoRepeats ps → i < length ps → get_or ps i d ≡ Edge x → holds (take i ps) x.0 ≡ false
+not_before ps i d x once within is =
     list_any_none (is_edge_of x.0) (take i ps) (λ k e low.
     let early : k < i = omega (arith, length-take i ps) in
-    let here : get_or ps i e ≡ Edge x = get_or_default ps i e d within ∙ is in
-    let less : piece_cmp (get_or ps k e) (Edge x) ≡ Less =
-    subst (λ (q : Piece). piece_cmp (get_or ps k e) q ≡ Less) here (Less-from_sorted piece_cmp ps k i e rising early within) in
-    subst (λ (q : Piece). is_edge_of x.0 q ≡ false) (sym (get_or-take i ps k e early)) (apart (get_or ps k e) x less))
+    ⊎_elim
+    (λ (same : is_edge_of x.0 (get_or (take i ps) k e) ≡ true).
+    let first : get_or ps k e ≡ Edge x = sym (get_or-take i ps k e early) ∙ edge_of x.0 (get_or (take i ps) k e) same in
+    let twice : k ≡ i = once k i (Edge x) (subst (At ps k) first (slice_get-get_or ps k e (omega (arith, early, within)))) (subst (At ps i) is (slice_get-get_or ps i d within)) in
+    absurd (omega (arith, twice, early)))
+    (λ other. other)
+    (cases_Bool (is_edge_of x.0 (get_or (take i ps) k e))))
 
 -- one more piece is looked at
 holds_more : (ps : List Piece) (i e : ℕ) (d p : Piece) → i < length ps → get_or ps i d ≡ p → holds (take (i + 1) ps) e ≡ (holds (take i ps) e || is_edge_of e p)
@@ -64,8 +65,8 @@ net_load-new g width ps i e d p within is same =
     (holds_more ps i e d p within is ∙ ap (λ (b : Bool). holds (take i ps) e || b) same ∙ or_true (holds (take i ps) e))
 
 -- before, it didn't
-net_load-none : (g : Grid) (width : ℕ) (ps : List Piece) (i : ℕ) (d : Piece) (x : EdgeNumber) → IsRising ps → i < length ps → get_or ps i d ≡ Edge x → net_load g width (take i ps) x.0 ≡ 0
-net_load-none g width ps i d x rising within is = ap (λ (b : Bool). cond b (demand_on g width x.0) 0) (not_before ps i d x rising within is)
+net_load-none : (g : Grid) (width : ℕ) (ps : List Piece) (i : ℕ) (d : Piece) (x : EdgeNumber) → HasNoRepeats ps → i < length ps → get_or ps i d ≡ Edge x → net_load g width (take i ps) x.0 ≡ 0
+net_load-none g width ps i d x once within is = ap (λ (b : Bool). cond b (demand_on g width x.0) 0) (not_before ps i d x once within is)
 
 -- what was counted of a net's load so far, and that no edge has more than the greatest demand
 pub record IsCounted (g : Grid) (width : ℕ) (ps : List Piece) (i : ℕ) (first loads : List ℕ) : Type 0 where
@@ -76,8 +77,8 @@ put_together : (loads first before demand after : ℕ) → loads ≡ first + bef
 put_together loads first before demand after is none new = omega arith
 
 -- an edge's demand is added to its load
-pub IsCounted-edge : (g : Grid) (width : ℕ) (ps : List Piece) (i : ℕ) (d : Piece) (x : EdgeNumber) (first loads : List ℕ) → IsRising ps → i < length ps → get_or ps i d ≡ Edge x → x.0 < length loads → demand_on g width x.0 ≤ max_demand → IsCounted g width ps i first loads → IsCounted g width ps (i + 1) first (slice_set loads x.0 (slice_index loads x.0 + demand_on g width x.0))
-IsCounted-edge g width ps i d x first loads rising within is inside small before =
+pub IsCounted-once : (g : Grid) (width : ℕ) (ps : List Piece) (i : ℕ) (d : Piece) (x : EdgeNumber) (first loads : List ℕ) → HasNoRepeats ps → i < length ps → get_or ps i d ≡ Edge x → x.0 < length loads → demand_on g width x.0 ≤ max_demand → IsCounted g width ps i first loads → IsCounted g width ps (i + 1) first (slice_set loads x.0 (slice_index loads x.0 + demand_on g width x.0))
+IsCounted-once g width ps i d x first loads once within is inside small before =
     let new = net_load-new g width ps i x.0 d (Edge x) within is (eq-eqb x.0 x.0 refl) in
     let off : (e : ℕ) → (x.0 ≡ e → ⊥) → net_load g width (take (i + 1) ps) e ≡ net_load g width (take i ps) e =
     λ e other. net_load-other g width ps i e d (Edge x) within is (ne_eqb x.0 e other) in
@@ -85,7 +86,7 @@ IsCounted-edge g width ps i d x first loads rising within is inside small before
       value = λ e. ⊎_elim
           (λ (here : x.0 ≡ e). subst (λ (y : ℕ). slice_index (slice_set loads x.0 (slice_index loads x.0 + demand_on g width x.0)) y ≡ slice_index first y + net_load g width (take (i + 1) ps) y) here
           (get_or-set_same loads x.0 (slice_index loads x.0 + demand_on g width x.0) 0 inside
-          ∙ put_together _ _ _ _ _ (before.value x.0) (net_load-none g width ps i d x rising within is) new))
+          ∙ put_together _ _ _ _ _ (before.value x.0) (net_load-none g width ps i d x once within is) new))
           (λ (other : x.0 ≡ e → ⊥). get_or-set_other loads x.0 e (slice_index loads x.0 + demand_on g width x.0) 0 (λ at. other (sym at))
           ∙ before.value e ∙ ap (λ (y : ℕ). slice_index first e + y) (sym (off e other)))
           (cases_eq x.0 e);
@@ -94,6 +95,10 @@ IsCounted-edge g width ps i d x first loads rising within is inside small before
           (λ (other : x.0 ≡ e → ⊥). subst (λ (y : ℕ). y ≤ max_demand) (sym (off e other)) (before.limit e))
           (cases_eq x.0 e);
     }
+
+-- the same in a set, which is a rising list
+pub IsCounted-edge : (g : Grid) (width : ℕ) (ps : List Piece) (i : ℕ) (d : Piece) (x : EdgeNumber) (first loads : List ℕ) → IsRising ps → i < length ps → get_or ps i d ≡ Edge x → x.0 < length loads → demand_on g width x.0 ≤ max_demand → IsCounted g width ps i first loads → IsCounted g width ps (i + 1) first (slice_set loads x.0 (slice_index loads x.0 + demand_on g width x.0))
+IsCounted-edge g width ps i d x first loads rising within is inside small before = IsCounted-once g width ps i d x first loads (rising_once ps rising) within is inside small before
 
 -- a via changes no load
 pub IsCounted-via : (g : Grid) (width : ℕ) (ps : List Piece) (i : ℕ) (d : Piece) (v : ViaNumber) (first loads : List ℕ) → i < length ps → get_or ps i d ≡ Via v → IsCounted g width ps i first loads → IsCounted g width ps (i + 1) first loads

@@ -11,9 +11,8 @@ ghost use Rattle.grid_graph.specs.Limits.{max_nets};
 ghost use Rattle.grid_graph.specs.Grids.{size_of};
 
 use crate::load::add_load;
+use crate::load_measure::measure_of_loads;
 use crate::measure::Measure;
-use crate::overflow::overflow_of;
-use crate::peak::peak_of;
 use crate::tree::Tree;
 use grid_base::{NoMemory, Size};
 use grid_graph::Design;
@@ -32,11 +31,8 @@ pub fn measure_of(alloc: Global, design: &Design, trees: &[Tree]) -> Result<Meas
     let size = design.grid.size();
     let mut loads = vec![in alloc; 0; 2 * size.vertices() as usize]?;
     add_all(design, trees, loads.as_mut_slice());
-    Ok(Measure {
-        overflow: overflow_of(&design.grid, loads.as_slice()),
-        wirelength: wirelength_of(size, trees),
-        peak: peak_of(&design.grid, loads.as_slice()),
-    })
+    let wirelength = wirelength_of(size, trees);
+    Ok(measure_of_loads(&design.grid, loads.as_slice(), wirelength))
 }
 
 /// Adds the loads of all sets to a table without loads.
