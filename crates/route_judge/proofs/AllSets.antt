@@ -1,24 +1,22 @@
--- The sets of all nets, by the slots after all blocks.
-use Rattle.std.proofs.Common.{◌≡◌, ℕ, zero, suc, ◌<◌, ◌≤◌, List, [], ◌∷◌, length, map, get_or, Contains, Option, None, Some, refl, sym, ◌∙◌, subst, ⊎_elim, arith, All}
-use Rattle.std.specs.Prelude.{unwrap_or}
-use Rattle.std.proofs.lemmas.Bool.{cases_lt}
-use Rattle.std.proofs.lemmas.List.{length-map}
-use Rattle.std.proofs.lemmas.Option.{slice_get_within, slice_get-get_or, same_Some}
+-- The sets of all nets, after all blocks.
+use Rattle.std.proofs.Common.{◌≡◌, ℕ, ◌<◌, ◌≤◌, ◌⊎◌, List, [], ◌∷◌, length, map, get_or, Contains, None, refl, sym, ◌∙◌, ap, subst, inl, inr, ⊎_elim, arith, All}
+use Rattle.std.proofs.lemmas.Bool.{cases_eq, cases_lt}
+use Rattle.std.proofs.lemmas.Option.{slice_get-get_or}
 use Rattle.grid_base.specs.declared.piece.Piece.{Piece}
 use Rattle.grid_base.specs.declared.vertex.Vertex.{Vertex}
 use Rattle.grid_base.specs.Lists.{At}
 use Rattle.grid_base.specs.Numbers.{IsVertex}
 use Rattle.grid_base.proofs.Joined.{JoinsList-few}
-use Rattle.grid_base.proofs.Lists.{AllZip-from_places, member_from_place, head_or_rest}
+use Rattle.grid_base.proofs.Lists.{AllZip-from_places, Contains-rest, member_from_place, head_or_rest}
 use Rattle.grid_graph.specs.declared.design.Design.{Design}
 use Rattle.grid_graph.specs.declared.grid.Grid.{Grid}
 use Rattle.grid_graph.specs.declared.net_spec.NetSpec.{NetSpec}
 use Rattle.grid_graph.specs.Grids.{size_of}
 use Rattle.route_text.specs.declared.block.Block.{Block}
 use Rattle.tree_set.proofs.Order.{empty-IsRising}
-use Rattle.route_judge.specs.NetSets.{IsSetOfNet, IsJoining, AreSetsOf, AreJoining}
+use Rattle.route_judge.specs.NetSets.{HasBlock, IsSetOfNet, IsJoining, AreSetsOf, AreJoining}
 use Rattle.route_judge.specs.Objections.{Objection, missing_net, Applies, Finds}
-use Rattle.route_judge.specs.Slots.{IsSlot, AreSlots}
+use Rattle.route_judge.specs.TestedBlocks.{AreSetsAfter}
 
 -- where nothing is objected, no objection applies
 pub none_of_each : {X : Type 0} (d : Design) (f : X → Objection) (xs : List X) (x : X) → Finds d (map f xs) None → Contains xs x → ¬ Applies d (f x)
@@ -29,47 +27,58 @@ none_of_each d f (y ∷ xs) x none held =
     (λ not. ⊎_elim (λ (is : x ≡ y). subst (λ z. ¬ Applies d (f z)) (sym is) not.0) (λ later. none_of_each d f xs x not.1 later) (head_or_rest y xs x held))
     none
 
--- the set in a slot, and the empty set in place of one that is empty
-abbrev pub set_in : Option (List Piece) → List Piece
-set_in slot = unwrap_or slot []
-
 terminals_are_vertices : (d : Design) (place : ℕ) (n : NetSpec) → At d.nets place n → All (λ (t : Vertex). IsVertex (size_of d.grid) t.0) n.terminals
 terminals_are_vertices d place n at = λ k other below. (d.limits.net place n at).vertices k (get_or n.terminals k other) (slice_get-get_or n.terminals k other below)
 
-set_of_slot : (g : Grid) (blocks : List Block) (n : NetSpec) (slot : Option (List Piece)) → IsSlot g blocks n slot → IsSetOfNet g blocks n (set_in slot)
-set_of_slot g blocks n None none = record {
-  rising = empty-IsRising;
-  pieces = λ p. (λ held. absurd (omega (arith, held.1)), λ of. absurd (none (of.0, of.1, of.2)));
+-- before the first block each net has the empty set
+pub no_sets : (d : Design) (trees : List (List Piece)) → length trees ≡ length d.nets → ((i : ℕ) (tree : List Piece) → At trees i tree → tree ≡ []) → AreSetsAfter d [] trees
+no_sets d trees long empty = record {
+  long = long;
+  each = λ i n tree at_n at_tree. subst (IsSetOfNet d.grid [] n) (sym (empty i tree at_tree)) (record {
+    rising = empty-IsRising;
+    pieces = λ p. (λ held. absurd (omega (arith, held.1)), λ of. absurd (omega (arith, of.1.1)));
+  });
+  joining = λ i n tree at_n at_tree has. absurd (omega (arith, has.1.1));
 }
-set_of_slot g blocks n (Some tree) filled = filled.1
 
-joining_of_slot : (d : Design) (blocks : List Block) (place : ℕ) (n : NetSpec) (slot : Option (List Piece)) → At d.nets place n → ¬ Applies d (missing_net blocks n) → IsSlot d.grid blocks n slot → IsJoining d.grid n (set_in slot)
-joining_of_slot d blocks place n None at not_missing none =
+-- a list without elements
+pub none_held : {X : Type 0} (xs : List X) → ((x : X) → ¬ Contains xs x) → xs ≡ []
+none_held [] none = refl
+none_held (x ∷ xs) none = absurd (none x (0, omega arith, refl))
+
+-- the set of a net without a block is empty
+pub set_of_none : (g : Grid) (blocks : List Block) (n : NetSpec) (tree : List Piece) → ¬ HasBlock blocks n.id → IsSetOfNet g blocks n tree → tree ≡ []
+set_of_none g blocks n tree none set = none_held tree (λ p held. let of = (set.pieces p).0 held in none (of.0, of.1, of.2))
+
+-- a net has a block or has none
+known_block : (blocks : List Block) (id : ℕ) → HasBlock blocks id ⊎ (¬ HasBlock blocks id)
+known_block [] id = inr (λ has. omega (arith, has.1.1))
+known_block (block ∷ blocks) id = ⊎_elim
+    (λ (is : block.id ≡ id). inl (block, (0, omega arith, refl), is))
+    (λ (other : block.id ≡ id → ⊥). ⊎_elim
+    (λ has. inl (has.0, Contains-rest block blocks has.0 has.1, has.2))
+    (λ none. inr (λ has. ⊎_elim (λ is. other (sym (ap (λ (b : Block). b.id) is) ∙ has.2)) (λ later. none (has.0, later, has.2)) (head_or_rest block blocks has.0 has.1)))
+    (known_block blocks id))
+    (cases_eq block.id id)
+
+-- the sets after all blocks are those of the nets
+pub all_sets : (d : Design) (blocks : List Block) (trees : List (List Piece)) → AreSetsAfter d blocks trees → AreSetsOf d blocks trees
+all_sets d blocks trees after = AllZip-from_places (IsSetOfNet d.grid blocks) d.nets trees after.long (λ k n tree at_n at_tree. after.each k n tree at_n at_tree)
+
+joining_at : (d : Design) (blocks : List Block) (place : ℕ) (n : NetSpec) (tree : List Piece) → At d.nets place n → ¬ Applies d (missing_net blocks n) → IsSetOfNet d.grid blocks n tree → (HasBlock blocks n.id → IsJoining d.grid n tree) → IsJoining d.grid n tree
+joining_at d blocks place n tree at present set joining =
+    ⊎_elim joining
+    (λ (none : ¬ HasBlock blocks n.id).
+    let empty = set_of_none d.grid blocks n tree none set in
     ⊎_elim
-    (λ (few : length n.terminals < 2). record { joined = JoinsList-few (size_of d.grid) [] n.terminals few (terminals_are_vertices d place n at); no_wall = λ k other below. absurd (omega (arith, below)) })
-    (λ (many : 2 ≤ length n.terminals). absurd (not_missing (many, none)))
-    (cases_lt (length n.terminals) 2)
-joining_of_slot d blocks place n (Some tree) at not_missing filled = filled.2
+    (λ (few : length n.terminals < 2). subst (IsJoining d.grid n) (sym empty)
+    (record { joined = JoinsList-few (size_of d.grid) [] n.terminals few (terminals_are_vertices d place n at); no_wall = λ k other below. absurd (omega (arith, below)) }))
+    (λ (many : 2 ≤ length n.terminals). absurd (present (many, none)))
+    (cases_lt (length n.terminals) 2))
+    (known_block blocks n.id)
 
--- what stands in a list that a map has made
-made_at : {X Y : Type 0} (f : X → Y) (xs : List X) (k : ℕ) (y : Y) → At (map f xs) k y → (x : X) × At xs k x × (y ≡ f x)
-made_at f [] k y at = absurd (omega (arith, slice_get_within (map f []) k y at))
-made_at f (x ∷ xs) zero y at = (x, refl, sym (same_Some _ _ at))
-made_at f (x ∷ xs) (suc k) y at = made_at f xs k y at
-
--- so the sets in the slots are those of the nets
-pub sets_of_slots : (d : Design) (blocks : List Block) (slots : List (Option (List Piece))) → AreSlots d blocks slots → AreSetsOf d blocks (map set_in slots)
-sets_of_slots d blocks slots filled =
-    AllZip-from_places (IsSetOfNet d.grid blocks) d.nets (map set_in slots) (length-map slots set_in ∙ filled.long)
-    (λ k n tree at_n at_tree.
-    let slot = made_at set_in slots k tree at_tree in
-    subst (IsSetOfNet d.grid blocks n) (sym slot.2) (set_of_slot d.grid blocks n slot.0 (filled.each k n slot.0 at_n slot.1)))
-
--- and they join the nets' terminals
-pub joining_of_slots : (d : Design) (blocks : List Block) (slots : List (Option (List Piece))) → AreSlots d blocks slots → Finds d (map (missing_net blocks) d.nets) None → AreJoining d (map set_in slots)
-joining_of_slots d blocks slots filled none =
-    AllZip-from_places (IsJoining d.grid) d.nets (map set_in slots) (length-map slots set_in ∙ filled.long)
-    (λ k n tree at_n at_tree.
-    let slot = made_at set_in slots k tree at_tree in
-    let present : ¬ Applies d (missing_net blocks n) = none_of_each d (missing_net blocks) d.nets n none (member_from_place d.nets k n at_n) in
-    subst (IsJoining d.grid n) (sym slot.2) (joining_of_slot d blocks k n slot.0 at_n present (filled.each k n slot.0 at_n slot.1)))
+-- and where no net lacks a block, they join the nets' terminals
+pub all_joining : (d : Design) (blocks : List Block) (trees : List (List Piece)) → AreSetsAfter d blocks trees → Finds d (map (missing_net blocks) d.nets) None → AreJoining d trees
+all_joining d blocks trees after none =
+    AllZip-from_places (IsJoining d.grid) d.nets trees after.long
+    (λ k n tree at_n at_tree. joining_at d blocks k n tree at_n (none_of_each d (missing_net blocks) d.nets n none (member_from_place d.nets k n at_n)) (after.each k n tree at_n at_tree) (after.joining k n tree at_n at_tree))

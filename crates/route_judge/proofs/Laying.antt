@@ -9,9 +9,12 @@ use Rattle.grid_base.specs.declared.piece.Piece.{Piece}
 use Rattle.grid_base.specs.declared.piece.Piece.TheVariants.{Edge, Via}
 use Rattle.grid_base.specs.declared.size.Size.{Size}
 use Rattle.grid_base.specs.declared.vertex.Vertex.{Vertex}
+use Rattle.grid_base.specs.Lists.{HasNoRepeats}
 use Rattle.grid_base.specs.Numbers.{IsPiece, vertices, cols, rows, to_next_col, to_next_row, to_next_layer}
 use Rattle.grid_base.specs.Walks.{Joins, JoinsList, InPieces, InVertices}
 use Rattle.grid_base.proofs.Joined.{Joins-superset}
+use Rattle.grid_base.proofs.Lists.{member_from_place}
+use Rattle.grid_base.proofs.NoRepeats.{HasNoRepeats-push}
 use Rattle.grid_base.proofs.Pieces.{by_kind}
 use Rattle.grid_graph.specs.declared.grid.Grid.{Grid}
 use Rattle.grid_graph.specs.declared.ground.Ground.TheVariants.{WithChoked}
@@ -68,6 +71,7 @@ pub record IsLaying (g : Grid) (d : Direction) (start count i : ℕ) (table : Li
   pub only : (p : Piece) → Contains now p → Contains old p ⊎ IsOfRun (size_of g) d start count p
   pub told : (p : Piece) → Contains now p → IsLaidIn table p
   pub no_wall : (p : Piece) → Contains now p → Allows g WithChoked p
+  pub once : HasNoRepeats now
 
 pub none_laying : (g : Grid) (d : Direction) (start count : ℕ) (table : List ℕ) (old : List Piece) → AreLaid g table old → IsLaying g d start count 0 table old old
 none_laying g d start count table old laid = record {
@@ -80,6 +84,7 @@ none_laying g d start count table old laid = record {
   only = λ p held. inl held;
   told = laid.told;
   no_wall = laid.no_wall;
+  once = laid.once;
 }
 
 pub all_laid : (g : Grid) (d : Direction) (start count i : ℕ) (table : List ℕ) (old now : List Piece) → count ≤ i → IsLaying g d start count i table old now → AreLaid g table now
@@ -91,6 +96,7 @@ all_laid g d start count i table old now all laying = record {
       (laying.follow e v k below);
   told = laying.told;
   no_wall = laying.no_wall;
+  once = laying.once;
 }
 
 pub all_put_in_run : (g : Grid) (d : Direction) (start count i : ℕ) (table : List ℕ) (old now : List Piece) → count ≤ i → IsLaying g d start count i table old now → ArePut g (IsOfRun (size_of g) d start count) old now
@@ -109,6 +115,7 @@ record IsGrown (g : Grid) (d : Direction) (start count i : ℕ) (now next : List
   here : (k : ℕ) → k < n → Contains next (nth_piece (size_of g) d start (i + k))
   only : (p : Piece) → Contains next p → Contains now p ⊎ (p ≡ nth_piece (size_of g) d start i)
   no_wall : (p : Piece) → Contains next p → Allows g WithChoked p
+  once : HasNoRepeats next
 
 passed : (g : Grid) (d : Direction) (start count i : ℕ) (table : List ℕ) (old now : List Piece) (n : ℕ) → i < count → IsLaying g d start count i table old now → 0 < slice_index table (table_place (nth_piece (size_of g) d start i)) → n ≡ min (slice_index table (table_place (nth_piece (size_of g) d start i))) (count - i) → IsGrown g d start count i now now n
 passed g d start count i table old now n below laying known is = record {
@@ -118,10 +125,11 @@ passed g d start count i table old now n below laying known is = record {
   here = λ k under. laying.ahead i k (omega arith) (omega (arith, under, is));
   only = λ p held. inl held;
   no_wall = laying.no_wall;
+  once = laying.once;
 }
 
-put : (g : Grid) (d : Direction) (start count i : ℕ) (table : List ℕ) (old now : List Piece) (n : ℕ) → i < count → IsLaying g d start count i table old now → n ≡ 1 → Allows g WithChoked (nth_piece (size_of g) d start i) → IsGrown g d start count i now (now ++ nth_piece (size_of g) d start i ∷ []) n
-put g d start count i table old now n below laying is allowed =
+put : (g : Grid) (d : Direction) (start count i : ℕ) (table : List ℕ) (old now : List Piece) (n : ℕ) → i < count → IsLaying g d start count i table old now → slice_index table (table_place (nth_piece (size_of g) d start i)) ≡ 0 → n ≡ 1 → Allows g WithChoked (nth_piece (size_of g) d start i) → IsGrown g d start count i now (now ++ nth_piece (size_of g) d start i ∷ []) n
+put g d start count i table old now n below laying unknown is allowed =
     let piece = nth_piece (size_of g) d start i in
     record {
       some = omega (arith, is);
@@ -132,6 +140,7 @@ put g d start count i table old now n below laying is allowed =
           subst (λ j. Contains (now ++ piece ∷ []) (nth_piece (size_of g) d start j)) first (Contains-append_right now (piece ∷ []) piece (0, omega arith, refl));
       only = λ p held. pushed now piece p held;
       no_wall = λ p held. ⊎_elim (laying.no_wall p) (λ new. subst (Allows g WithChoked) (sym new) allowed) (pushed now piece p held);
+      once = HasNoRepeats-push now piece laying.once (λ j p at same. absurd (omega (arith, unknown, subst (IsLaidIn table) same (laying.told p (member_from_place now j p at)))));
     }
 
 -- the table after the step
@@ -189,6 +198,7 @@ module _ (g : Grid) (d : Direction) (start count i : ℕ) (table : List ℕ) (ol
     only = λ p held. ⊎_elim (laying.only p) (λ new. inr (i, below, new)) (grown.only p held);
     told = λ p held. still_told p (⊎_elim (λ was. inl (laying.told p was)) (λ new. inr (ap table_place new)) (grown.only p held));
     no_wall = grown.no_wall;
+    once = grown.once;
   }
 
   -- the pieces that are laid after one more step
@@ -196,7 +206,7 @@ module _ (g : Grid) (d : Direction) (start count i : ℕ) (table : List ℕ) (ol
   after_step next n step =
       ⊎_elim
       (λ known. subst (IsLaying g d start count (i + n) told old) (sym known.1) (after_grown now n (passed g d start count i table old now n below laying known.0 known.2)))
-      (λ new. subst (IsLaying g d start count (i + n) told old) (sym new.1) (after_grown (now ++ nth_piece (size_of g) d start i ∷ []) n (put g d start count i table old now n below laying new.2 new.3)))
+      (λ new. subst (IsLaying g d start count (i + n) told old) (sym new.1) (after_grown (now ++ nth_piece (size_of g) d start i ∷ []) n (put g d start count i table old now n below laying new.0 new.2 new.3)))
       step
 
 -- the table while the pieces of a list are taken out, one behind the other: it tells of none but those that are left
@@ -226,15 +236,6 @@ laid_exactly g table pieces laid p = (
       p,
   laid.told p,
 )
-
--- the same pieces in another order
-pub laid_again : (g : Grid) (table : List ℕ) (pieces tree : List Piece) → ((p : Piece) → Contains tree p ↔ Contains pieces p) → AreLaid g table pieces → AreLaid g table tree
-laid_again g table pieces tree same laid = record {
-  long = laid.long;
-  follow = λ d v i below. (same _).1 (laid.follow d v i below);
-  told = λ p held. laid.told p ((same p).0 held);
-  no_wall = λ p held. laid.no_wall p ((same p).0 held);
-}
 
 -- so they join what the list joins
 pub joined_by_laid : (g : Grid) (table : List ℕ) (pieces : List Piece) (terminals : List Vertex) → AreLaid g table pieces → Joins (size_of g) (IsLaidIn table) (InVertices terminals) ↔ JoinsList (size_of g) pieces terminals

@@ -2,7 +2,6 @@ pub mod AllSets
 pub mod Between
 pub mod BlockTests
 pub mod Found
-pub mod Joining
 pub mod Judged
 pub mod Laying
 pub mod Marked
@@ -10,4 +9,6 @@ pub mod OnSegments
 pub mod OpenEdges
 pub mod PlacesById
 pub mod Puts
+pub mod Risen
+pub mod RunningSums
 pub mod ShortTexts

@@ -1,8 +1,8 @@
 -- What is objected to a segment, and the pieces of some segments.
-use Rattle.std.proofs.Common.{◌≡◌, ℕ, ◌+◌, ◌<◌, ◌≤◌, All, List, [], ◌∷◌, ◌++◌, length, get_or, take, Contains, Some, Result, Ok, Err, refl, sym, ◌∙◌, ap, subst, inl, inr, ⊎_elim, arith}
+use Rattle.std.proofs.Common.{◌≡◌, ℕ, ◌+◌, ◌<◌, ◌≤◌, List, [], ◌∷◌, ◌++◌, length, get_or, take, Contains, Some, Result, Ok, Err, refl, sym, ◌∙◌, ap, subst, inl, inr, ⊎_elim, arith}
 use Rattle.std.specs.Prelude.{◌↔◌, IfErr, OnOk}
 use Rattle.std.proofs.lemmas.List.{take_more, take_all}
-use Rattle.std.proofs.lemmas.List.Elements.{All-contains_itself, All-weaker, Contains-append_left, Contains-append_right, Contains-append_cases}
+use Rattle.std.proofs.lemmas.List.Elements.{Contains-append_left, Contains-append_right, Contains-append_cases}
 use Rattle.std.proofs.lemmas.Option.{same_Some}
 use Rattle.grid_base.specs.declared.piece.Piece.{Piece}
 use Rattle.grid_base.specs.declared.place.Place.{Place}
@@ -10,8 +10,7 @@ use Rattle.grid_base.specs.Lines.{AreInLine}
 use Rattle.grid_base.proofs.Lists.{head_or_rest}
 use Rattle.grid_graph.specs.declared.design.Design.{Design}
 use Rattle.grid_graph.specs.declared.grid.Grid.{Grid}
-use Rattle.grid_graph.specs.declared.ground.Ground.TheVariants.{WithChoked}
-use Rattle.grid_graph.specs.Grids.{Allows, size_of}
+use Rattle.grid_graph.specs.Grids.{size_of}
 use Rattle.route_text.specs.declared.segment.Segment.{Segment}
 use Rattle.route_text.specs.BlockPieces.{point_place, LiesOn}
 use Rattle.route_judge.specs.declared.reason.Reason.TheVariants.{OnWall}
@@ -101,16 +100,12 @@ pub put_on : (g : Grid) (segment : Segment) (from to : Place) (old new : List Pi
 put_on g segment from to old new (Ok x) at straight put = put_same g (RunsBetween (size_of g) from to) (LiesOn g segment) old new (lies_on g segment from to at straight) (runs_between g segment from to at) put
 put_on g segment from to old new (Err stop) at straight put = tt
 
--- the set of what was put on an empty list has the pieces of all segments and no wall
+-- what was put on an empty list are the pieces of all segments
 pub all_put : (g : Grid) (segments : List Segment) (n : ℕ) (pieces : List Piece) → length segments ≤ n → ArePut g (IsOnSome g (take n segments)) [] pieces → ArePut g (IsOnSome g segments) [] pieces
 all_put g segments n pieces all put = subst (λ xs. ArePut g (IsOnSome g xs) [] pieces) (take_all n segments all) put
 
-pub held_where_put : (g : Grid) (P : Piece → Type 0) (pieces tree : List Piece) → ArePut g P [] pieces → ((p : Piece) → Contains tree p ↔ Contains pieces p) → (p : Piece) → Contains tree p ↔ P p
-held_where_put g P pieces tree put same p = (
-  λ held. ⊎_elim (λ none. absurd (omega (arith, none.1))) (λ one. one) ((put.pieces p).0 ((same p).0 held)),
-  λ one. (same p).1 ((put.pieces p).1 (inr one)),
+pub held_where_put : (g : Grid) (P : Piece → Type 0) (pieces : List Piece) → ArePut g P [] pieces → (p : Piece) → Contains pieces p ↔ P p
+held_where_put g P pieces put p = (
+  λ held. ⊎_elim (λ none. absurd (omega (arith, none.1))) (λ one. one) ((put.pieces p).0 held),
+  λ one. (put.pieces p).1 (inr one),
 )
-
-pub no_wall_held : (g : Grid) (P : Piece → Type 0) (pieces tree : List Piece) → ArePut g P [] pieces → ((p : Piece) → Contains tree p ↔ Contains pieces p) → All (Allows g WithChoked) tree
-no_wall_held g P pieces tree put same =
-    All-weaker (Contains tree) (Allows g WithChoked) (λ p held. put.no_wall p ((held_where_put g P pieces tree put same p).0 held)) tree (All-contains_itself tree)

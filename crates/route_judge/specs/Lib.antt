@@ -20,7 +20,8 @@ pub mod NetSets
 pub mod Objections
 pub mod Orders
 pub mod Reasons
-pub mod Slots
+pub mod RunningMeasures
 pub mod Stamps
 pub mod Stops
 pub mod Tables
+pub mod TestedBlocks

@@ -10,16 +10,16 @@ ghost use Rattle.route_judge.specs.Objections.{Finds};
 ghost use Rattle.route_judge.specs.Orders.{route_objections, AreRoutes};
 ghost use Rattle.route_judge.specs.Stops.{StopsAt};
 
-use crate::beyond::beyond_count;
 use crate::checked::Checked;
 use crate::measured::Measured;
 use crate::net_sets::sets_of;
 use crate::stop::Stop;
+use crate::summing::sums_of;
 use grid_base::NoMemory;
 use grid_graph::{Design, Ground};
 use route_text::Block;
 use std::alloc::Global;
-use tree_set::{Tree, measure_of};
+use tree_set::{Tree, measure_of_loads};
 
 /// Measures routes. Stops at the first reason against them.
 pub(crate) fn measure_routes(
@@ -33,11 +33,11 @@ pub(crate) fn measure_routes(
     ensures stops { StopsAt design.now (route_objections design.now blocks.now) result }
     ensures measured { IfOk result (λ m. AreMeasured design.now grounds.now blocks.now None m.measure m.beyond) }
 {
-    let sets = sets_of(alloc, design, blocks)?;
-    let trees = sets.as_slice();
-    let beyond = beyond_count(&design.grid, grounds, trees);
-    let measure = measure_of(alloc, design, trees)?;
-    Ok(Measured { measure, beyond })
+    let sums = sums_of(alloc, design, grounds, blocks)?;
+    Ok(Measured {
+        measure: measure_of_loads(&design.grid, sums.loads.as_slice(), sums.wirelength),
+        beyond: sums.beyond,
+    })
 }
 
 /// Whether the blocks are routes of the design: each block is of a net of its own, and its pieces join the net's terminals
@@ -46,7 +46,7 @@ pub(crate) fn measure_routes(
 /// A set may use choked edges that are outside its net's ground. The answer counts the nets whose sets do.
 ///
 /// Takes about `n log n` steps for n nets, segments and pieces, where a piece counts once for each block that has it, and a few
-/// passes over the grid.
+/// passes over the grid. No set is kept: each block's pieces are counted and let go.
 pub fn judge_routes(
     alloc: Global,
     design: &Design,

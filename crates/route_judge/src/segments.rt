@@ -3,12 +3,9 @@
 ghost use Rattle.std.specs.Prelude.{◌≡◌, ◌↔◌, [], ◌<◌, IsTrue, IfOk, OnOk, length, All, Contains};
 ghost use Rattle.grid_base.specs.declared.piece.Piece.{Piece};
 ghost use Rattle.grid_base.specs.Lines.{AreInLine};
-ghost use Rattle.grid_graph.specs.declared.ground.Ground.TheVariants.{WithChoked};
 ghost use Rattle.grid_graph.specs.Grids.{size_of};
 ghost use Rattle.route_text.specs.BlockPieces.{LiesOn, IsPieceOf};
 ghost use Rattle.route_text.specs.ReadLimits.{IsSegmentInRange, IsBlockInRange};
-ghost use Rattle.tree_set.specs.Order.{IsRising};
-ghost use Rattle.tree_set.specs.Routings.{KeepsTo};
 ghost use Rattle.route_judge.specs.Laid.{AreLaid};
 ghost use Rattle.route_judge.specs.Limits.{number_limit};
 ghost use Rattle.route_judge.specs.Lines.{ArePut};
@@ -23,7 +20,6 @@ use grid_base::{Piece, Place};
 use grid_graph::Design;
 use route_text::{Block, Segment};
 use std::alloc::Global;
-use tree_set::Tree;
 
 /// Whether two places differ in at most one of column, row and layer.
 fn are_in_line(from: Place, to: Place) -> bool
@@ -74,30 +70,28 @@ fn lay_segment(
     lay_between(&design.grid, from, to, wall, table, pieces)
 }
 
-/// The set of the pieces of a block, which has this number in the text. They are laid in a table in which nothing was.
+/// The pieces of a block, each listed once; the block has this number in the text. They are laid in a table in which nothing was.
 ///
 /// Takes about `n log n` steps for n segments and distinct pieces, however long the segments are and however often they
 /// overlap.
-pub(crate) fn set_of(
+pub(crate) fn pieces_of(
     alloc: Global,
     design: &Design,
     number: u32,
     block: &Block,
     table: &mut [u32],
-) -> Result<Tree, Stop>
+) -> Result<Vec<Piece>, Stop>
     requires short { length block.now.segments < number_limit }
     requires range { IsBlockInRange block.now }
     requires laid { AreLaid design.now.grid table.old [] }
     ensures stops { StopsAt design.now (all_segment_objections number block.now.segments) result }
-    ensures rising { IfOk result (λ tree. IsRising tree) }
-    ensures pieces { IfOk result (λ tree. (p : Piece) → Contains tree p ↔ IsPieceOf design.now.grid block.now p) }
-    ensures laid { IfOk result (λ tree. AreLaid design.now.grid table.new tree) }
-    ensures no_wall { IfOk result (λ tree. KeepsTo design.now.grid WithChoked tree) }
+    ensures named { IfOk result (λ pieces. (p : Piece) → Contains pieces.items p ↔ IsPieceOf design.now.grid block.now p) }
+    ensures laid { IfOk result (λ pieces. AreLaid design.now.grid table.new pieces.items) }
 {
     let segments = block.segments.list();
     let mut pieces = Vec::new(alloc);
     for i in 0..segments.len() {
         lay_segment(design, number, i as u32, segments[i], table, &mut pieces)?;
     }
-    Ok(Tree::of(pieces))
+    Ok(pieces)
 }

@@ -1,41 +1,44 @@
-use Rattle.std.proofs.Common.{map, None, sym, subst}
+use Rattle.std.proofs.Common.{refl, sym, slice_set, subst, take}
+use Rattle.std.proofs.lemmas.List.{take_all}
+use Rattle.std.proofs.lemmas.Option.{get_or_from_slice_get, slice_get-get_or}
 use Rattle.std.proofs.lemmas.Result.{err_from_is_err_and}
-use Rattle.route_judge.specs.Objections.{missing_net}
-use Rattle.route_judge.specs.Orders.{all_block_objections}
-use Rattle.route_judge.specs.Slots.{AreSlots}
-use Rattle.route_judge.proofs.AllSets.{sets_of_slots, joining_of_slots}
-use Rattle.route_judge.proofs.Found.{found_behind, stops_before, stops_behind}
+use Rattle.grid_graph.proofs.Grounds.{at_place}
+use Rattle.route_judge.specs.Orders.{block_objections}
+use Rattle.route_judge.specs.TestedBlocks.{AreSetsAfter}
+use Rattle.route_judge.proofs.BlockTests.{one_block_more, sets_more}
+use Rattle.route_judge.proofs.Found.{none_numbered, stops_numbered, none_in_all}
 use Rattle.route_judge.proofs.net_sets.sets_of.Goals as goal
 
-pub returns-in_err-slots-clause-stops : goal.returns-in_err-slots-clause-stops
-returns-in_err-slots-clause-stops c =
-    let d = c.args.design.now in
+pub returns-in_err-place-clause-stops : goal.returns-in_err-place-clause-stops
+returns-in_err-place-clause-stops c =
+    let exit = err_from_is_err_and c.from_residual-in_err-place.result c.from_residual-in_err-place.ensures.1 in
     let blocks = c.args.blocks.now in
-    let exit = err_from_is_err_and c.from_residual.result c.from_residual.ensures.1 in
-    rw (exit.1, exit.2) (stops_before d (all_block_objections blocks) (map (missing_net blocks) d.nets) c.in_err-slots.field-0.0 c.in_err-slots.ensures.stops)
+    let found = at_place blocks c.loop-number.number c.loop-number-test.true in
+    rw (exit.1, exit.2) (stops_numbered c.args.design.now (block_objections blocks) blocks blocks c.loop-number.number found.0 c.in_err-place.field-0.0 refl c.loop-number-test.true c.loop-number.invariant.clear
+    (c.in_err-place.ensures.stops _ (slice_get-get_or blocks c.loop-number.number found.0 c.loop-number-test.true)))
 
-pub returns-in_err-find_missing-clause-stops : goal.returns-in_err-find_missing-clause-stops
-returns-in_err-find_missing-clause-stops c =
+pub loop-number-preserved : goal.loop-number-preserved
+loop-number-preserved c =
     let d = c.args.design.now in
     let blocks = c.args.blocks.now in
-    let exit = err_from_is_err_and c.from_residual-in_err-find_missing.result c.from_residual-in_err-find_missing.ensures.1 in
-    let filled : AreSlots d blocks c.as_slice.result.now = subst (AreSlots d blocks) (sym c.as_slice.ensures.value) c.in_ok-slots.ensures.slots in
-    rw (exit.1, exit.2) (stops_behind d (all_block_objections blocks) (map (missing_net blocks) d.nets) c.in_err-find_missing.field-0.0 c.in_ok-slots.ensures.stops (c.in_err-find_missing.ensures.stops blocks filled))
+    let k = c.loop-number.number in
+    let block = at_place blocks k c.loop-number-test.true in
+    let tree = c.of-in-loop-number.result in
+    let place = c.in_ok-place.field-0.place in
+    let trees = c.loop-number.trees.items in
+    let same = c.of-in-loop-number.ensures.same in
+    record {
+      clear = none_numbered d (block_objections blocks) blocks blocks k block.0 refl c.loop-number-test.true c.loop-number.invariant.clear
+          (c.in_ok-place.ensures.stops _ (slice_get-get_or blocks k block.0 c.loop-number-test.true));
+      tables = c.in_ok-place.ensures.tables;
+      taken = c.in_ok-place.ensures.taken;
+      sets = subst (λ earlier. AreSetsAfter d earlier (slice_set trees place tree)) (one_block_more blocks k block.0 c.loop-number-test.true (sym (get_or_from_slice_get blocks k block.0 block.0 block.1)))
+          (sets_more d (take k blocks) block.0 place c.in_ok-place.field-0.pieces.items tree trees (c.in_ok-place.ensures.tested block.0 block.1) c.of-in-loop-number.ensures.rising same c.loop-number.invariant.sets);
+    }
 
 pub returns-clause-stops : goal.returns-clause-stops
-returns-clause-stops c =
-    let d = c.args.design.now in
-    let blocks = c.args.blocks.now in
-    let filled : AreSlots d blocks c.as_slice.result.now = subst (AreSlots d blocks) (sym c.as_slice.ensures.value) c.in_ok-slots.ensures.slots in
-    found_behind d (all_block_objections blocks) (map (missing_net blocks) d.nets) None c.in_ok-slots.ensures.stops (c.in_ok-find_missing.ensures.stops blocks filled)
+returns-clause-stops c = none_in_all c.args.design.now (block_objections c.args.blocks.now) c.args.blocks.now c.loop-number.number c.loop-number-test.false c.loop-number.invariant.clear
 
 pub returns-clause-sets : goal.returns-clause-sets
 returns-clause-sets c =
-    rw c.in_ok-sets_in.ensures (sets_of_slots c.args.design.now c.args.blocks.now c.in_ok-slots.slots.items c.in_ok-slots.ensures.slots)
-
-pub returns-clause-joining : goal.returns-clause-joining
-returns-clause-joining c =
-    let d = c.args.design.now in
-    let blocks = c.args.blocks.now in
-    let filled : AreSlots d blocks c.as_slice.result.now = subst (AreSlots d blocks) (sym c.as_slice.ensures.value) c.in_ok-slots.ensures.slots in
-    rw c.in_ok-sets_in.ensures (joining_of_slots d blocks c.in_ok-slots.slots.items c.in_ok-slots.ensures.slots (c.in_ok-find_missing.ensures.stops blocks filled))
+    subst (λ earlier. AreSetsAfter c.args.design.now earlier c.loop-number.trees.items) (take_all c.loop-number.number c.args.blocks.now c.loop-number-test.false) c.loop-number.invariant.sets

@@ -1,36 +1,33 @@
-use Rattle.std.proofs.Common.{◌≤◌, List, length, All, sym, ◌∙◌, ap, subst}
-use Rattle.std.proofs.lemmas.Slice.Zip.{AllZip-long}
-use Rattle.grid_base.specs.declared.piece.Piece.{Piece}
-use Rattle.grid_graph.specs.declared.ground.Ground.TheVariants.{WithChoked}
-use Rattle.grid_graph.specs.Grids.{size_of}
-use Rattle.grid_graph.specs.Grounds.{IsGround}
-use Rattle.grid_graph.specs.Limits.{max_nets}
-use Rattle.tree_set.specs.Routings.{ArePieces, KeepsTo}
-use Rattle.route_judge.proofs.Joining.{joining_long, without_walls, all_pieces}
+use Rattle.std.proofs.Common.{◌≡◌, ◌≤◌, ℕ, List, slice_index, sym, ◌∙◌, ap, subst}
+use Rattle.grid_base.proofs.Lists.{AllZip-at}
+use Rattle.tree_set.specs.Limits.{max_routing_load}
+use Rattle.tree_set.specs.Loads.{load}
+use Rattle.route_judge.specs.NetSets.{IsSetOfNet}
+use Rattle.route_judge.proofs.RunningSums.{load-limit, set_pieces}
 use Rattle.route_judge.proofs.routes.measure_routes.Goals as goal
 
-pub beyond_count-beyond-requires-clause-one_each : goal.beyond_count-beyond-requires-clause-one_each
-beyond_count-beyond-requires-clause-one_each c =
+pub measure_of_loads-requires-clause-room : goal.measure_of_loads-requires-clause-room
+measure_of_loads-requires-clause-room c e =
     let d = c.args.design.now in
-    AllZip-long (λ n found. IsGround d.grid n.terminals found) d.nets c.args.grounds.now c.requires.grounds
-    ∙ sym (ap (length {A = List Piece}) c.as_slice-trees.ensures.value ∙ joining_long d c.in_ok-sets.sets.items c.in_ok-sets.ensures.joining)
+    let blocks = c.args.blocks.now in
+    let of = c.in_ok-sums.ensures.sums in
+    let is : slice_index c.as_slice.result.now e ≡ load d.grid d.nets of.trees e = ap (λ (xs : List ℕ). slice_index xs e) c.as_slice.ensures.value ∙ of.sums_of.loaded e in
+    subst (λ n. n ≤ max_routing_load) (sym is)
+    (load-limit d of.trees e (λ k n tree at_n at_tree. set_pieces d.grid blocks n tree (AllZip-at (IsSetOfNet d.grid blocks) d.nets of.trees k n tree of.sets at_n at_tree)))
 
-pub beyond_count-beyond-requires-clause-few : goal.beyond_count-beyond-requires-clause-few
-beyond_count-beyond-requires-clause-few c =
+pub returns-clause-measured : goal.returns-clause-measured
+returns-clause-measured c =
     let d = c.args.design.now in
-    subst (λ n. n ≤ max_nets) (sym (ap (length {A = List Piece}) c.as_slice-trees.ensures.value ∙ joining_long d c.in_ok-sets.sets.items c.in_ok-sets.ensures.joining)) d.limits.count
-
-pub beyond_count-beyond-requires-clause-no_wall : goal.beyond_count-beyond-requires-clause-no_wall
-beyond_count-beyond-requires-clause-no_wall c =
-    let d = c.args.design.now in
-    subst (All (KeepsTo d.grid WithChoked)) (sym c.as_slice-trees.ensures.value) (without_walls d c.in_ok-sets.sets.items c.in_ok-sets.ensures.joining)
-
-pub measure_of-requires-clause-one_each : goal.measure_of-requires-clause-one_each
-measure_of-requires-clause-one_each c =
-    let d = c.args.design.now in
-    ap (length {A = List Piece}) c.as_slice-trees.ensures.value ∙ joining_long d c.in_ok-sets.sets.items c.in_ok-sets.ensures.joining
-
-pub measure_of-requires-clause-pieces : goal.measure_of-requires-clause-pieces
-measure_of-requires-clause-pieces c =
-    let d = c.args.design.now in
-    subst (All (ArePieces (size_of d.grid))) (sym c.as_slice-trees.ensures.value) (all_pieces d.grid c.in_ok-sets.sets.items (without_walls d c.in_ok-sets.sets.items c.in_ok-sets.ensures.joining))
+    let of = c.in_ok-sums.ensures.sums in
+    let loaded : (e : ℕ) → slice_index c.as_slice.result.now e ≡ load d.grid d.nets of.trees e = λ e. ap (λ (xs : List ℕ). slice_index xs e) c.as_slice.ensures.value ∙ of.sums_of.loaded e in
+    record {
+      trees = of.trees;
+      sets = of.sets;
+      joining = of.joining;
+      measure = record {
+        of_overflow = c.measure_of_loads.ensures.overflow (load d.grid d.nets of.trees) loaded;
+        of_wirelength = c.measure_of_loads.ensures.wirelength ∙ of.sums_of.long;
+        of_peak = c.measure_of_loads.ensures.peak (load d.grid d.nets of.trees) loaded;
+      };
+      beyond_ground = of.sums_of.outside;
+    }

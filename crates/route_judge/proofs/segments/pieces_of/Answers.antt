@@ -3,9 +3,8 @@ use Rattle.std.proofs.lemmas.Result.{err_from_is_err_and}
 use Rattle.route_text.specs.declared.segment.Segment.{Segment}
 use Rattle.route_judge.specs.Orders.{segment_objections}
 use Rattle.route_judge.proofs.Found.{none_numbered, stops_numbered, none_in_all, read_again}
-use Rattle.route_judge.proofs.Laying.{laid_again}
-use Rattle.route_judge.proofs.OnSegments.{IsOnSome, none_on, one_more_segment, all_put, held_where_put, no_wall_held}
-use Rattle.route_judge.proofs.segments.set_of.Goals as goal
+use Rattle.route_judge.proofs.OnSegments.{IsOnSome, none_on, one_more_segment, all_put, held_where_put}
+use Rattle.route_judge.proofs.segments.pieces_of.Goals as goal
 
 pub loop-i-init : goal.loop-i-init
 loop-i-init c = rw c.new-pieces.ensures.items (record { clear = refl; put = none_on c.args.design.now.grid []; laid = c.requires.laid })
@@ -28,25 +27,15 @@ loop-i-preserved c =
       laid = c.in_ok-lay_segment.ensures.laid;
     }
 
-pub returns-clause-laid : goal.returns-clause-laid
-returns-clause-laid c = laid_again c.args.design.now.grid c.loop-i.table c.loop-i.pieces.items c.of.result c.of.ensures.same c.loop-i.invariant.laid
-
 pub returns-clause-stops : goal.returns-clause-stops
 returns-clause-stops c =
     let segments = c.args.block.now.segments in
     let all : length segments ≤ c.loop-i.i = omega (arith, ap (length {A = Segment}) c.list-segments.ensures) in
     none_in_all c.args.design.now (segment_objections c.args.number) segments c.loop-i.i all c.loop-i.invariant.clear
 
-pub returns-clause-pieces : goal.returns-clause-pieces
-returns-clause-pieces c =
+pub returns-clause-named : goal.returns-clause-named
+returns-clause-named c =
     let g = c.args.design.now.grid in
     let segments = c.args.block.now.segments in
     let all : length segments ≤ c.loop-i.i = omega (arith, ap (length {A = Segment}) c.list-segments.ensures) in
-    held_where_put g (IsOnSome g segments) c.loop-i.pieces.items c.of.result (all_put g segments c.loop-i.i c.loop-i.pieces.items all c.loop-i.invariant.put) c.of.ensures.same
-
-pub returns-clause-no_wall : goal.returns-clause-no_wall
-returns-clause-no_wall c =
-    let g = c.args.design.now.grid in
-    let segments = c.args.block.now.segments in
-    let all : length segments ≤ c.loop-i.i = omega (arith, ap (length {A = Segment}) c.list-segments.ensures) in
-    no_wall_held g (IsOnSome g segments) c.loop-i.pieces.items c.of.result (all_put g segments c.loop-i.i c.loop-i.pieces.items all c.loop-i.invariant.put) c.of.ensures.same
+    held_where_put g (IsOnSome g segments) c.loop-i.pieces.items (all_put g segments c.loop-i.i c.loop-i.pieces.items all c.loop-i.invariant.put)

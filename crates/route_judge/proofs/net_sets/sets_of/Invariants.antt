@@ -3,14 +3,15 @@ use Rattle.std.specs.Prelude.{flat_map}
 use Rattle.std.specs.List.{enumerate_from}
 use Rattle.route_judge.specs.Objections.{Finds}
 use Rattle.route_judge.specs.Orders.{block_objections}
-use Rattle.route_judge.specs.Slots.{AreSlots}
 use Rattle.route_judge.specs.Tables.{AreFresh}
-use Rattle.route_judge.proofs.net_sets.filled_slots.Given as goal
+use Rattle.route_judge.specs.TestedBlocks.{AreTaken, AreSetsAfter}
+use Rattle.route_judge.proofs.net_sets.sets_of.Given as goal
 
--- nothing is objected to the blocks so far, and they filled the slots
+-- nothing is objected to the blocks so far, and their pieces are the nets' sets
 abbrev pub invariant-loop-number : goal.invariant-loop-number
 invariant-loop-number l = record {
   clear : Finds l.design (flat_map (block_objections l.blocks) (take l.number (enumerate_from 0 l.blocks))) None;
-  filled : AreSlots l.design (take l.number l.blocks) l.slots.items;
   tables : AreFresh l.design.grid l.number l.tables;
+  taken : AreTaken l.design (take l.number l.blocks) l.tables.taken.items;
+  sets : AreSetsAfter l.design (take l.number l.blocks) l.trees.items;
 }

@@ -8,7 +8,7 @@ use Rattle.grid_graph.proofs.Grounds.{at_place}
 use Rattle.route_judge.specs.declared.reason.Reason.TheVariants.{MissingNet}
 use Rattle.route_judge.specs.Objections.{Objection, missing_net, Finds}
 use Rattle.route_judge.proofs.Found.{none_more, found_at}
-use Rattle.route_judge.proofs.net_sets.find_missing.Goals as goal
+use Rattle.route_judge.proofs.missing.find_missing.Goals as goal
 
 pub returns-then-lacks_block : goal.returns-then-lacks_block
 returns-then-lacks_block c = record {

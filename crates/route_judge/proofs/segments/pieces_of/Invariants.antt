@@ -6,7 +6,7 @@ use Rattle.route_judge.specs.Lines.{ArePut}
 use Rattle.route_judge.specs.Objections.{Finds}
 use Rattle.route_judge.specs.Orders.{segment_objections}
 use Rattle.route_judge.proofs.OnSegments.{IsOnSome}
-use Rattle.route_judge.proofs.segments.set_of.Given as goal
+use Rattle.route_judge.proofs.segments.pieces_of.Given as goal
 
 -- nothing is objected to the segments so far, and their pieces were put
 abbrev pub invariant-loop-i : goal.invariant-loop-i

@@ -1,0 +1,45 @@
+//! Goes through the blocks of a text and sums up what is measured of them.
+
+ghost use Rattle.std.specs.Prelude.{IfOk};
+ghost use Rattle.grid_graph.specs.Grounds.{AreGrounds};
+ghost use Rattle.route_judge.specs.Limits.{AreBlocks};
+ghost use Rattle.route_judge.specs.Orders.{route_objections};
+ghost use Rattle.route_judge.specs.RunningMeasures.{AreSumsOf};
+ghost use Rattle.route_judge.specs.Stops.{StopsAt};
+
+use crate::blocks::test_block;
+use crate::missing::find_missing;
+use crate::net_places::NetPlaces;
+use crate::running_measure::RunningMeasure;
+use crate::stop::Stop;
+use crate::tables::Tables;
+use grid_graph::{Design, Ground};
+use route_text::Block;
+use std::alloc::Global;
+
+/// The sums of all sets. Stops at the first reason against the blocks. Each block's pieces are let go before the next is read.
+pub(crate) fn sums_of(
+    alloc: Global,
+    design: &Design,
+    grounds: &[Ground],
+    blocks: &[Block],
+) -> Result<RunningMeasure, Stop>
+    requires grounds { AreGrounds design.now.grid design.now.nets grounds.now }
+    requires blocks { AreBlocks blocks.now }
+    ensures stops { StopsAt design.now (route_objections design.now blocks.now) result }
+    ensures sums { IfOk result (AreSumsOf design.now grounds.now blocks.now) }
+{
+    let places = NetPlaces::of(alloc, design.nets.list())?;
+    let mut tables = Tables::fresh(alloc, design)?;
+    let mut sums = RunningMeasure::none(alloc, design.grid.size())?;
+    for number in 0..blocks.len() {
+        let block = test_block(alloc, design, &places, blocks, number, &mut tables)?;
+        let net = &design.nets.list()[block.place];
+        let over = grounds[block.place];
+        let pieces = block.pieces.as_slice();
+        sums.add(&design.grid, net.width, over, pieces);
+    }
+    let taken = tables.taken.as_slice();
+    find_missing(design, taken)?;
+    Ok(sums)
+}
