@@ -1,0 +1,62 @@
+//! Runs made disjoint and as long as they can be.
+
+ghost use Rattle.std.specs.Prelude.{All, IfOk};
+ghost use Rattle.std.specs.List.Sorted.{IsNonDecreasingBy};
+ghost use Rattle.block_runs.specs.Merging.{AreMerged, IsTogether};
+ghost use Rattle.block_runs.specs.Runs.{IsRun, run_number};
+
+use crate::run::Run;
+use grid_base::{NoMemory, Size};
+use std::alloc::Global;
+
+/// How many pieces a run has together with one whose pieces overlap or adjoin its own, and which doesn't begin before it.
+fn count_together(size: Size, run: Run, next: Run) -> Option<u32>
+    requires run { IsRun size run }
+    requires next { IsRun size next }
+    ensures { IsTogether size run next result }
+{
+    if next.direction != run.direction || next.first.0 < run.first.0 {
+        return None;
+    }
+    let rise = run.direction.rise(size);
+    let apart = next.first.0 - run.first.0;
+    if apart % rise != 0 || apart / rise > run.count {
+        return None;
+    }
+    Some(run.count.max(apart / rise + next.count))
+}
+
+/// Joins neighbours in a list of runs that are sorted by line and place.
+fn join_neighbours(alloc: Global, size: Size, sorted: &[Run]) -> Result<Vec<Run>, NoMemory>
+    requires runs { All (IsRun size) sorted.now }
+    requires sorted { IsNonDecreasingBy (run_number size) sorted.now }
+    ensures { IfOk result (λ kept. AreMerged size sorted.now kept.items) }
+{
+    let mut kept = Vec::new(alloc);
+    let Some(first) = sorted.first() else {
+        return Ok(kept);
+    };
+    let mut last = *first;
+    for i in 1..sorted.len() {
+        match count_together(size, last, sorted[i]) {
+            Some(count) => last.count = count,
+            None => {
+                kept.push(last)?;
+                last = sorted[i];
+            }
+        }
+    }
+    kept.push(last)?;
+    Ok(kept)
+}
+
+/// The runs of the same pieces that are as long as can be: no two of them overlap or adjoin.
+///
+/// Takes about `n log n` steps for n runs, however long they are.
+pub fn merged(alloc: Global, size: Size, mut runs: Vec<Run>) -> Result<Vec<Run>, NoMemory>
+    requires runs { All (IsRun size) runs.items }
+    ensures { IfOk result (λ kept. AreMerged size runs.items kept.items) }
+{
+    runs.sort_unstable_by_key(|run| run.direction.line_number(size, run.first));
+    join_neighbours(alloc, size, runs.as_slice())
+}
