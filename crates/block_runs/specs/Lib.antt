@@ -1,3 +1,4 @@
+pub mod LineCounts
 pub mod Lines
 pub mod Merging
 pub mod Runs

@@ -1,11 +1,11 @@
 -- The pieces of runs.
-use Rattle.std.specs.Prelude.{ℕ, ◌<◌, ◌≡◌, List, map, flat_map}
+use Rattle.std.specs.Prelude.{ℕ, ◌+◌, ◌*◌, ◌<◌, ◌≡◌, List, map, flat_map}
 use Rattle.std.specs.List.{range_with_len}
 use Rattle.grid_base.specs.declared.piece.Piece.{Piece}
 use Rattle.grid_base.specs.declared.size.Size.{Size}
 use Rattle.grid_base.specs.Numbers.{IsPiece}
 use Rattle.block_runs.specs.declared.run.Run.{Run}
-use Rattle.block_runs.specs.Lines.{nth_piece, line_number}
+use Rattle.block_runs.specs.Lines.{rise, nth_piece, line_number}
 
 -- a piece of a run, by its place from 0
 abbrev pub run_piece : Size → Run → ℕ → Piece
@@ -27,3 +27,7 @@ pub record IsRun (s : Size) (run : Run) : Type 0 where
 -- the number of a run's first piece, when all pieces are counted line by line
 abbrev pub run_number : Size → Run → ℕ
 run_number s run = line_number s run.direction run.first.0
+
+-- where its last piece ends
+abbrev pub run_end : Size → Run → ℕ
+run_end s run = run.first.0 + run.count * rise run.direction s

@@ -2,10 +2,13 @@
 
 #![tactic(auto)]
 
+mod counting;
 mod direction;
+mod line_counts;
 mod merging;
 mod run;
 
 pub use direction::Direction;
+pub use line_counts::LineCounts;
 pub use merging::merged;
 pub use run::Run;

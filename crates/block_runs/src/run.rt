@@ -1,7 +1,7 @@
 //! Runs of pieces.
 
 use crate::direction::Direction;
-use grid_base::Vertex;
+use grid_base::{Size, Vertex};
 
 /// Pieces of a grid that follow each other in a direction: the first goes from a vertex, and each other one from the end of the
 /// one before.
@@ -10,4 +10,19 @@ pub struct Run {
     pub direction: Direction,
     pub first: Vertex,
     pub count: u32,
+}
+
+impl Run {
+    ghost use Rattle.std.specs.Prelude.{◌≡◌};
+    ghost use Rattle.grid_base.specs.Numbers.{IsVertex};
+    ghost use Rattle.block_runs.specs.Runs.{IsRun, run_end};
+
+    /// The vertex at which the last piece ends.
+    pub fn end(self, size: Size) -> Vertex
+        requires { IsRun size self }
+        ensures value { result.0 ≡ run_end size self }
+        ensures vertex { IsVertex size result.0 }
+    {
+        Vertex(self.first.0 + self.count * self.direction.rise(size))
+    }
 }
