@@ -1,4 +1,7 @@
+pub mod Added
 pub mod Counts
 pub mod Lines
 pub mod Merges
+pub mod NetLoads
+pub mod Sums
 pub mod Together

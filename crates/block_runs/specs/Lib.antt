@@ -1,4 +1,6 @@
+pub mod Differences
 pub mod LineCounts
 pub mod Lines
+pub mod LoadSums
 pub mod Merging
 pub mod Runs
