@@ -4,3 +4,4 @@ pub mod Lines
 pub mod LoadSums
 pub mod Merging
 pub mod Runs
+pub mod Touching

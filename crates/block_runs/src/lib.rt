@@ -1,16 +1,40 @@
 //! Straight runs of pieces: many pieces told by a direction, a first vertex and a count.
+//!
+//! ```text
+//! let runs = merged(alloc, size, runs)?;                            // disjoint, and as long as can be
+//! let walls = LineCounts::of(alloc, &grid, Kind::Wall)?;            // once for a grid
+//! let on_wall = runs.iter().any(|run| walls.count(*run) > 0);
+//! let sure = joins_surely(alloc, size, runs.as_slice(), terminals)?;
+//! let mut sums = LoadSums::none(alloc, size)?;                      // once for all nets
+//! sums.add_net(&grid, width, runs.as_slice());
+//! let loads = sums.finish();
+//! ```
+//!
+//! It stands on `tree_set`, `grid_graph` and `grid_base`. Want of memory alone is a free answer.
+//!
+//! Promised: merged runs have the same pieces, none of them twice; a count is that of the run's edges of the kind; the loads are
+//! those of the sets of the added nets; and where `joins_surely` says so, walks in the runs' pieces join the terminals. Nothing
+//! here takes steps for each piece, but for one pass over the edges of the grid before the first run and behind the last.
 
 #![tactic(auto)]
 
+mod columns;
 mod counting;
 mod direction;
+mod groups;
+mod joining;
 mod line_counts;
+mod linking;
 mod load_sums;
+mod lookup;
 mod merging;
 mod run;
+mod stacks;
 mod summing;
+mod sweep;
 
 pub use direction::Direction;
+pub use joining::joins_surely;
 pub use line_counts::LineCounts;
 pub use load_sums::LoadSums;
 pub use merging::merged;

@@ -13,9 +13,10 @@ pub struct Run {
 }
 
 impl Run {
-    ghost use Rattle.std.specs.Prelude.{◌≡◌};
+    ghost use Rattle.std.specs.Prelude.{◌≡◌, IsTrue};
     ghost use Rattle.grid_base.specs.Numbers.{IsVertex};
     ghost use Rattle.block_runs.specs.Runs.{IsRun, run_end};
+    ghost use Rattle.block_runs.specs.Touching.{HasVertex};
 
     /// The vertex at which the last piece ends.
     pub fn end(self, size: Size) -> Vertex
@@ -24,5 +25,17 @@ impl Run {
         ensures vertex { IsVertex size result.0 }
     {
         Vertex(self.first.0 + self.count * self.direction.rise(size))
+    }
+
+    /// Whether a piece goes from the vertex or ends there.
+    pub fn has_vertex(self, size: Size, v: Vertex) -> bool
+        ensures { IsTrue result → HasVertex size self v.0 }
+    {
+        if v.0 < self.first.0 {
+            return false;
+        }
+        let rise = self.direction.rise(size);
+        let apart = v.0 - self.first.0;
+        apart % rise == 0 && apart / rise <= self.count
     }
 }
