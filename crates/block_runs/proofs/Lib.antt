@@ -1,4 +1,5 @@
 pub mod Added
+pub mod Between
 pub mod Chained
 pub mod Counts
 pub mod Lines

@@ -1,3 +1,4 @@
+pub mod Between
 pub mod Differences
 pub mod LineCounts
 pub mod Lines

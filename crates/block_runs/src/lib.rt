@@ -1,9 +1,12 @@
 //! Straight runs of pieces: many pieces told by a direction, a first vertex and a count.
 //!
 //! ```text
-//! let runs = merged(alloc, size, runs)?;                            // disjoint, and as long as can be
 //! let walls = LineCounts::of(alloc, &grid, Kind::Wall)?;            // once for a grid
-//! let on_wall = runs.iter().any(|run| walls.count(*run) > 0);
+//! if let Some(run) = run_between(size, from, to) {
+//!     let on_wall = walls.count(run) > 0;
+//!     runs.push(run)?;
+//! }
+//! let runs = merged(alloc, size, runs)?;                            // disjoint, and as long as can be
 //! let sure = joins_surely(alloc, size, runs.as_slice(), terminals)?;
 //! let mut sums = LoadSums::none(alloc, size)?;                      // once for all nets
 //! sums.add_net(&grid, width, runs.as_slice());
@@ -19,6 +22,7 @@
 #![tactic(auto)]
 
 mod columns;
+mod counted;
 mod counting;
 mod direction;
 mod groups;
@@ -29,13 +33,16 @@ mod load_sums;
 mod lookup;
 mod merging;
 mod run;
+mod spanned;
 mod stacks;
 mod summing;
 mod sweep;
 
+pub use counted::piece_count;
 pub use direction::Direction;
 pub use joining::joins_surely;
 pub use line_counts::LineCounts;
 pub use load_sums::LoadSums;
 pub use merging::merged;
 pub use run::Run;
+pub use spanned::run_between;
