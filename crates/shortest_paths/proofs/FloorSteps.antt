@@ -10,7 +10,8 @@ use Rattle.grid_base.specs.declared.piece.Piece.TheVariants.{Edge, Via}
 use Rattle.grid_base.specs.declared.place.Place.{Place}
 use Rattle.grid_base.specs.declared.size.Size.{Size}
 use Rattle.grid_base.specs.Limits.{max_vertices}
-use Rattle.grid_base.specs.Numbers.{place_at, next_along, start_of, end_of, end_place, edge_axis, edge_start, IsVertex, IsInside, Goes}
+use Rattle.grid_base.specs.Numbers.{place_at, next_along, start_of, end_of, end_place, edge_axis, edge_start, IsVertex}
+use Rattle.grid_base.specs.Numbers.{IsInside, Goes}
 use Rattle.grid_base.proofs.Pieces.{place_at-end_of, end_of-vertex}
 use Rattle.grid_graph.specs.Limits.{max_weight}
 use Rattle.grid_graph.specs.declared.floors.Floors.{Floors}
@@ -36,19 +37,27 @@ one_less c g floor = scaled (abs_diff c g) (abs_diff (c + 1) g) floor (omega ari
 -- a step along an axis
 step_along : (floors : Floors) (axis : Axis) (p goal : Place) →
     AreApartBy (floor_distance floors (next_along axis p) goal) (floor_distance floors p goal) (floor_along floors axis)
-step_along floors X p goal = (omega (arith, one_more p.col goal.col floors.along_x), omega (arith, one_less p.col goal.col floors.along_x))
-step_along floors Y p goal = (omega (arith, one_more p.row goal.row floors.along_y), omega (arith, one_less p.row goal.row floors.along_y))
+step_along floors X p goal = (
+  omega (arith, one_more p.col goal.col floors.along_x),
+  omega (arith, one_less p.col goal.col floors.along_x),
+)
+step_along floors Y p goal = (
+  omega (arith, one_more p.row goal.row floors.along_y),
+  omega (arith, one_less p.row goal.row floors.along_y),
+)
 
 -- the step of a piece
 step_of : (s : Size) (floors : Floors) (goal : Place) (p : Piece) →
-    AreApartBy (floor_distance floors (end_place s p) goal) (floor_distance floors (place_at s (start_of p)) goal) (floor_of floors p)
+    AreApartBy (floor_distance floors (end_place s p) goal) (floor_distance floors (place_at s (start_of p)) goal)
+    (floor_of floors p)
 step_of s floors goal (Edge e) = step_along floors (edge_axis e.0) (place_at s (edge_start e.0)) goal
 step_of s floors goal (Via v) =
     let here = place_at s v.0 in
     (omega (arith, one_more here.layer goal.layer floors.via), omega (arith, one_less here.layer goal.layer floors.via))
 
 -- from a vertex
-pub floor_rest-vertex : (s : Size) (floors : Floors) (goal : Place) (v : ℕ) → IsVertex s v → floor_rest s floors goal v ≡ floor_distance floors (place_at s v) goal
+pub floor_rest-vertex : (s : Size) (floors : Floors) (goal : Place) (v : ℕ) → IsVertex s v
+    → floor_rest s floors goal v ≡ floor_distance floors (place_at s v) goal
 floor_rest-vertex s floors goal v vertex = grind (arith, nat_tests, vertex)
 
 -- the ends of a piece
@@ -58,7 +67,8 @@ ends_within s floors goal p a b goes =
     let rest = floor_rest s floors goal in
     let far : Place → ℕ = λ q. floor_distance floors q goal in
     let at_end : rest b ≡ far (end_place s p) =
-    ap rest (sym goes.2) ∙ floor_rest-vertex s floors goal (end_of s p) (end_of-vertex s p goes.0) ∙ ap far (place_at-end_of s p goes.0) in
+    ap rest (sym goes.2) ∙ floor_rest-vertex s floors goal (end_of s p) (end_of-vertex s p goes.0)
+    ∙ ap far (place_at-end_of s p goes.0) in
     let at_start : rest a ≡ far (place_at s (start_of p)) =
     ap rest (sym goes.1) ∙ floor_rest-vertex s floors goal (start_of p) goes.0.0 in
     rw (at_end, at_start) (step_of s floors goal p)
@@ -77,17 +87,21 @@ pub record AreLowered (low floors : Floors) (limit : ℕ) : Type 0 where
   pub y : low.along_y ≡ min floors.along_y limit
   pub via : low.via ≡ min floors.via limit
 
-lowered_axis : (low floors : Floors) (limit : ℕ) → AreLowered low floors limit → (axis : Axis) → floor_along low axis ≤ floor_along floors axis
+lowered_axis : (low floors : Floors) (limit : ℕ) → AreLowered low floors limit → (axis : Axis)
+    → floor_along low axis ≤ floor_along floors axis
 lowered_axis low floors limit lowered X = omega (arith, lowered.x)
 lowered_axis low floors limit lowered Y = omega (arith, lowered.y)
 
-lowered_piece : (low floors : Floors) (limit : ℕ) → AreLowered low floors limit → (p : Piece) → floor_of low p ≤ floor_of floors p
+lowered_piece : (low floors : Floors) (limit : ℕ) → AreLowered low floors limit → (p : Piece)
+    → floor_of low p ≤ floor_of floors p
 lowered_piece low floors limit lowered (Edge e) = lowered_axis low floors limit lowered (edge_axis e.0)
 lowered_piece low floors limit lowered (Via v) = omega (arith, lowered.via)
 
 -- are floors
-pub AreFloors-lowered : (low floors : Floors) (limit : ℕ) (pieces : List (Piece × ℕ)) → AreLowered low floors limit → AreFloors floors pieces → AreFloors low pieces
-AreFloors-lowered low floors limit pieces lowered are p weight weighs = omega (arith, lowered_piece low floors limit lowered p, are p weight weighs)
+pub AreFloors-lowered : (low floors : Floors) (limit : ℕ) (pieces : List (Piece × ℕ)) → AreLowered low floors limit
+    → AreFloors floors pieces → AreFloors low pieces
+AreFloors-lowered low floors limit pieces lowered are p weight weighs =
+    omega (arith, lowered_piece low floors limit lowered p, are p weight weighs)
 
 -- two sides of a rectangle are together at most its content and 1
 two_sides : (a b : ℕ) → (a + 1) + (b + 1) ≤ (a + 1) * (b + 1) + 1
@@ -107,14 +121,30 @@ sides_within a b d has_a has_b has_d =
 -- three products with numbers below a limit are together at most the sum's
 pub sum_within : (a b d x y z limit : ℕ) → x ≤ limit → y ≤ limit → z ≤ limit → a * x + b * y + d * z ≤ (a + b + d) * limit
 sum_within a b d x y z limit low_x low_y low_z =
-    omega (arith, mul-le a x a limit (omega arith) low_x, mul-le b y b limit (omega arith) low_y, mul-le d z d limit (omega arith) low_z)
+    omega (
+      arith,
+      mul-le a x a limit (omega arith) low_x,
+      mul-le b y b limit (omega arith) low_y,
+      mul-le d z d limit (omega arith) low_z,
+    )
 
 -- what is left to go is within the limit of bounds
-pub floor_distance-limit : (s : Size) (goal here : Place) (floors : Floors) (cols rows layers : ℕ) → IsInside s goal → floors.along_x ≤ max_weight → floors.along_y ≤ max_weight → floors.via ≤ max_weight → IsInside s here →
+pub floor_distance-limit : (s : Size) (goal here : Place) (floors : Floors) (cols rows layers : ℕ) → IsInside s goal
+    → floors.along_x ≤ max_weight → floors.along_y ≤ max_weight → floors.via ≤ max_weight → IsInside s here →
     cols ≡ abs_diff here.col goal.col → rows ≡ abs_diff here.row goal.row → layers ≡ abs_diff here.layer goal.layer →
     cols * floors.along_x + rows * floors.along_y + layers * floors.via ≤ 2 ^ 61
 floor_distance-limit s goal here floors cols rows layers at_goal low_x low_y low_via inside to_col to_row to_layer =
     let few : cols + rows + layers ≤ max_vertices =
-    omega (arith, inside.0, inside.1, inside.2, at_goal.0, at_goal.1, at_goal.2, sides_within s.cols s.rows s.layers s.within.has_col s.within.has_row s.within.has_layer, s.within.vertex_limit) in
+    omega (
+      arith,
+      inside.0,
+      inside.1,
+      inside.2,
+      at_goal.0,
+      at_goal.1,
+      at_goal.2,
+      sides_within s.cols s.rows s.layers s.within.has_col s.within.has_row s.within.has_layer,
+      s.within.vertex_limit,
+    ) in
     let sum = sum_within cols rows layers floors.along_x floors.along_y floors.via max_weight low_x low_y low_via in
     omega (arith, sum, mul-le (cols + rows + layers) max_weight max_vertices max_weight few (omega arith))

@@ -1,6 +1,7 @@
 -- Of the pieces of a set those that join what the ones before left apart: as much is joined by them, and they are less
 -- than the vertices, so they are light.
-use Rattle.std.proofs.Common.{◌≡◌, ◌≢◌, ℕ, suc, ◌+◌, ◌-◌, ◌^◌, ◌<◌, ◌≤◌, ◌==◌, ◌⊎◌, List, [], ◌∷◌, length, cond, refl, sym, ◌∙◌, ap, subst, inl, inr, ⊎_elim, arith}
+use Rattle.std.proofs.Common.{◌≡◌, ◌≢◌, ℕ, suc, ◌+◌, ◌-◌, ◌^◌, ◌<◌, ◌≤◌, ◌==◌, ◌⊎◌, List, [], ◌∷◌, length, cond, refl, sym, ◌∙◌}
+use Rattle.std.proofs.Common.{ap, subst, inl, inr, ⊎_elim, arith}
 use Rattle.std.specs.List.{Contains}
 use Rattle.std.proofs.lemmas.Bool.{cases_eq, cases_lt}
 use Rattle.std.proofs.lemmas.Bool.Decides.{nat_tests}
@@ -9,7 +10,8 @@ use Rattle.grid_base.specs.declared.size.Size.{Size}
 use Rattle.grid_base.specs.Numbers.{vertices, cols, rows, layers, IsVertex, IsPiece, Connects, start_of, end_of, end_place}
 use Rattle.grid_base.specs.Walks.{WalkBetween}
 use Rattle.grid_base.proofs.Pieces.{end_of-vertex}
-use Rattle.grid_base.proofs.Walks.{WalkBetween-refl, WalkBetween-sym, WalkBetween-trans, WalkBetween-piece, WalkBetween-superset, closed_under_walks, walk_vertices}
+use Rattle.grid_base.proofs.Walks.{WalkBetween-refl, WalkBetween-sym, WalkBetween-trans, WalkBetween-piece}
+use Rattle.grid_base.proofs.Walks.{WalkBetween-superset, closed_under_walks, walk_vertices}
 use Rattle.grid_base.proofs.Lists.{head_or_rest}
 use Rattle.grid_graph.specs.Weighed.{IsAllowed, NoPieceTwice, AreWithinLimit}
 use Rattle.shortest_paths.specs.Sets.{IsSetOf, weight}
@@ -41,11 +43,14 @@ met-ends : (near far : ℕ) → met near far near ≡ met near far far
 unfolding met closed
 met-ends near far = grind (arith, nat_tests)
 
-met-alike : (near far a b : ℕ) → near ≢ far → met near far a ≡ met near far b → (a ≡ b) ⊎ (((a ≡ near) × (far ≡ b)) ⊎ ((b ≡ near) × (far ≡ a)))
+met-alike : (near far a b : ℕ) → near ≢ far → met near far a ≡ met near far b
+    → (a ≡ b) ⊎ (((a ≡ near) × (far ≡ b)) ⊎ ((b ≡ near) × (far ≡ a)))
 unfolding met closed
 met-alike near far a b other same = ⊎_elim
-    (λ a_near. ⊎_elim (λ b_near. inl (a_near ∙ sym b_near)) (λ b_other. inr (inl (a_near, grind (arith, nat_tests)))) (cases_eq b near))
-    (λ a_other. ⊎_elim (λ b_near. inr (inr (b_near, grind (arith, nat_tests)))) (λ b_other. inl (grind (arith, nat_tests))) (cases_eq b near))
+    (λ a_near. ⊎_elim (λ b_near. inl (a_near ∙ sym b_near)) (λ b_other. inr (inl (a_near, grind (arith, nat_tests))))
+    (cases_eq b near))
+    (λ a_other. ⊎_elim (λ b_near. inr (inr (b_near, grind (arith, nat_tests)))) (λ b_other. inl (grind (arith, nat_tests)))
+    (cases_eq b near))
     (cases_eq a near)
 
 piece_or_none : (s : Size) (p : Piece) → IsPiece s p ⊎ (¬ IsPiece s p)
@@ -59,14 +64,16 @@ piece_or_none s p =
     (λ out. inr (λ is. absurd (omega (arith, out, is.0)))) (cases_lt (start_of p) (vertices s))
 
 -- what holds of the two ends of a piece in order
-by_ends : (s : Size) (p : Piece) (mark : ℕ → ℕ) → (IsPiece s p → mark (start_of p) ≡ mark (end_of s p)) → (a b : ℕ) → Connects s p a b → mark a ≡ mark b
+by_ends : (s : Size) (p : Piece) (mark : ℕ → ℕ) → (IsPiece s p → mark (start_of p) ≡ mark (end_of s p)) → (a b : ℕ)
+    → Connects s p a b → mark a ≡ mark b
 by_ends s p mark ends a b connects = ⊎_elim
     (λ goes. ap mark (sym goes.1) ∙ ends goes.0 ∙ ap mark goes.2)
     (λ goes. ap mark (sym goes.2) ∙ sym (ends goes.0) ∙ ap mark goes.1)
     connects
 
 -- a piece that joins nothing new is left out
-left_out : (s : Size) (x : Piece × ℕ) (set : List (Piece × ℕ)) (rest : IsForest s set) → (IsPiece s x.0 → rest.mark (start_of x.0) ≡ rest.mark (end_of s x.0)) → IsForest s (x ∷ set)
+left_out : (s : Size) (x : Piece × ℕ) (set : List (Piece × ℕ)) (rest : IsForest s set)
+    → (IsPiece s x.0 → rest.mark (start_of x.0) ≡ rest.mark (end_of s x.0)) → IsForest s (x ∷ set)
 left_out s x set rest ends = record {
   kept = rest.kept;
   mark = rest.mark;
@@ -83,7 +90,8 @@ left_out s x set rest ends = record {
 }
 
 -- a piece between two marks is kept
-taken_in : (s : Size) (x : Piece × ℕ) (set : List (Piece × ℕ)) (rest : IsForest s set) → IsPiece s x.0 → rest.mark (start_of x.0) ≢ rest.mark (end_of s x.0) → IsForest s (x ∷ set)
+taken_in : (s : Size) (x : Piece × ℕ) (set : List (Piece × ℕ)) (rest : IsForest s set) → IsPiece s x.0
+    → rest.mark (start_of x.0) ≢ rest.mark (end_of s x.0) → IsForest s (x ∷ set)
 taken_in s x set rest piece other =
     let p = x.0 in
     let near = rest.mark (start_of p) in
@@ -92,12 +100,18 @@ taken_in s x set rest piece other =
     let far_vertex = end_of-vertex s p piece in
     let at_near = rest.below (start_of p) piece.0 in
     let at_far = rest.below (end_of s p) far_vertex in
-    let greater : (q : Piece) → IsAllowed rest.kept q → IsAllowed kept q = λ q at. (at.0, (suc at.1.0, omega (arith, at.1.1), at.1.2)) in
+    let greater : (q : Piece) → IsAllowed rest.kept q → IsAllowed kept q =
+    λ q at. (at.0, (suc at.1.0, omega (arith, at.1.1), at.1.2)) in
     let more = WalkBetween-superset s (IsAllowed rest.kept) (IsAllowed kept) greater in
-    let over : WalkBetween s (IsAllowed kept) (start_of p) (end_of s p) = WalkBetween-piece s (IsAllowed kept) p (start_of p) (end_of s p) (x.1, (0, omega arith, refl)) (inl (piece, refl, refl)) in
-    let across : (a b : ℕ) → IsVertex s a → IsVertex s b → rest.mark a ≡ near → far ≡ rest.mark b → WalkBetween s (IsAllowed kept) a b =
-    λ a b at_a at_b is_near is_far. WalkBetween-trans s (IsAllowed kept) a (start_of p) b (more a (start_of p) (rest.alike a (start_of p) at_a piece.0 is_near))
-    (WalkBetween-trans s (IsAllowed kept) (start_of p) (end_of s p) b over (more (end_of s p) b (rest.alike (end_of s p) b far_vertex at_b is_far))) in
+    let over : WalkBetween s (IsAllowed kept) (start_of p) (end_of s p) =
+    WalkBetween-piece s (IsAllowed kept) p (start_of p) (end_of s p) (x.1, (0, omega arith, refl))
+    (inl (piece, refl, refl)) in
+    let across : (a b : ℕ) → IsVertex s a → IsVertex s b → rest.mark a ≡ near → far ≡ rest.mark b
+    → WalkBetween s (IsAllowed kept) a b =
+    λ a b at_a at_b is_near is_far. WalkBetween-trans s (IsAllowed kept) a (start_of p) b
+    (more a (start_of p) (rest.alike a (start_of p) at_a piece.0 is_near))
+    (WalkBetween-trans s (IsAllowed kept) (start_of p) (end_of s p) b over
+    (more (end_of s p) b (rest.alike (end_of s p) b far_vertex at_b is_far))) in
     record {
       kept = kept;
       mark = λ v. met near far (rest.mark v);
@@ -108,7 +122,8 @@ taken_in s x set rest piece other =
           (λ same. (0, omega arith, sym same))
           (λ in_rest. let old = rest.within y in_rest in (suc old.0, omega (arith, old.1), old.2))
           (head_or_rest x rest.kept y at);
-      once = once_more x rest.kept rest.once (λ at. other (rest.linked p (start_of p) (end_of s p) (at.0, rest.within (p, at.0) at.1) (inl (piece, refl, refl))));
+      once = once_more x rest.kept rest.once (λ at. other
+          (rest.linked p (start_of p) (end_of s p) (at.0, rest.within (p, at.0) at.1) (inl (piece, refl, refl))));
       alike = λ a b at_a at_b same. ⊎_elim
           (λ alike. more a b (rest.alike a b at_a at_b alike))
           (λ apart. ⊎_elim
@@ -117,7 +132,8 @@ taken_in s x set rest piece other =
           apart)
           (met-alike near far (rest.mark a) (rest.mark b) other same);
       linked = λ q a b at connects. ⊎_elim
-          (λ same. by_ends s p (λ v. met near far (rest.mark v)) (λ is. met-ends near far) a b (subst (λ r. Connects s r a b) (ap (λ (y : Piece × ℕ). y.0) same) connects))
+          (λ same. by_ends s p (λ v. met near far (rest.mark v)) (λ is. met-ends near far) a b
+          (subst (λ r. Connects s r a b) (ap (λ (y : Piece × ℕ). y.0) same) connects))
           (λ in_rest. ap (met near far) (rest.linked q a b (at.0, in_rest) connects))
           (head_or_rest x set (q, at.0) at.1);
     }
@@ -145,14 +161,17 @@ forest s (x ∷ set) =
     (cases_eq (rest.mark (start_of x.0)) (rest.mark (end_of s x.0)))
 
 -- a walk stays within one mark
-pub one_mark : (s : Size) (set : List (Piece × ℕ)) (f : IsForest s set) (a b : ℕ) → WalkBetween s (IsAllowed set) a b → f.mark a ≡ f.mark b
+pub one_mark : (s : Size) (set : List (Piece × ℕ)) (f : IsForest s set) (a b : ℕ) → WalkBetween s (IsAllowed set) a b
+    → f.mark a ≡ f.mark b
 one_mark s set f a b walk = closed_under_walks s (IsAllowed set) (λ w. f.mark a ≡ f.mark w)
     (λ u w so_far link. so_far ∙ f.linked link.piece u w link.in_set link.connects) a b refl walk
 
 -- vertices of one mark are joined
-pub mark_joins : (s : Size) (set : List (Piece × ℕ)) (f : IsForest s set) (a b : ℕ) → IsVertex s a → IsVertex s b → f.mark a ≡ f.mark b → WalkBetween s (IsAllowed set) a b
+pub mark_joins : (s : Size) (set : List (Piece × ℕ)) (f : IsForest s set) (a b : ℕ) → IsVertex s a → IsVertex s b
+    → f.mark a ≡ f.mark b → WalkBetween s (IsAllowed set) a b
 mark_joins s set f a b at_a at_b same =
-    WalkBetween-superset s (IsAllowed f.kept) (IsAllowed set) (λ q at. (at.0, f.within (q, at.0) at.1)) a b (f.alike a b at_a at_b same)
+    WalkBetween-superset s (IsAllowed f.kept) (IsAllowed set) (λ q at. (at.0, f.within (q, at.0) at.1)) a b
+    (f.alike a b at_a at_b same)
 
 -- a part of a set that joins as much, and weighs less than 2^61
 pub record IsLightPart (s : Size) (pieces set : List (Piece × ℕ)) : Type 0 where
@@ -162,13 +181,21 @@ pub record IsLightPart (s : Size) (pieces set : List (Piece × ℕ)) : Type 0 wh
   pub joins : (a b : ℕ) → WalkBetween s (IsAllowed set) a b → WalkBetween s (IsAllowed part) a b
   pub light : weight part ≤ 2 ^ 61 - 1
 
-pub light_part : (s : Size) (pieces set : List (Piece × ℕ)) (v : ℕ) → AreWithinLimit pieces → IsSetOf pieces set → IsVertex s v → IsLightPart s pieces set
+pub light_part : (s : Size) (pieces set : List (Piece × ℕ)) (v : ℕ) → AreWithinLimit pieces → IsSetOf pieces set → IsVertex s v
+    → IsLightPart s pieces set
 light_part s pieces set v small is vertex =
     let f = forest s set in
     record {
       part = f.kept;
       is_set = record { allowed = λ x at. is.allowed x (f.within x at); once = f.once };
       within = f.within;
-      joins = λ a b walk. let ends = walk_vertices s (IsAllowed set) a b walk in f.alike a b ends.0 ends.1 (one_mark s set f a b walk);
-      light = omega (arith, weighs_at_most f.kept (λ x at. small x.0 x.1 (is.allowed x (f.within x at))), f.count, f.below v vertex, s.within.vertex_limit);
+      joins = λ a b walk. let ends = walk_vertices s (IsAllowed set) a b walk in f.alike a b ends.0 ends.1
+          (one_mark s set f a b walk);
+      light = omega (
+        arith,
+        weighs_at_most f.kept (λ x at. small x.0 x.1 (is.allowed x (f.within x at))),
+        f.count,
+        f.below v vertex,
+        s.within.vertex_limit,
+      );
     }

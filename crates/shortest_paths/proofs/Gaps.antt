@@ -1,10 +1,12 @@
 -- What a heap holds where its gap moves or is filled.
-use Rattle.std.proofs.Common.{◌≢◌, ℕ, ◌<◌, List, get_or, set, sym, ◌∙◌, inl, inr, ⊎_elim, arith, get_or-set_same, get_or-set_other}
+use Rattle.std.proofs.Common.{◌≢◌, ℕ, ◌<◌, List, get_or, set, sym, ◌∙◌, inl, inr, ⊎_elim, arith, get_or-set_same}
+use Rattle.std.proofs.Common.{get_or-set_other}
 use Rattle.std.proofs.lemmas.Bool.{cases_eq}
 use Rattle.shortest_paths.specs.Heaps.{HasGap, HoldsBeside, FillsGap}
 
 -- what stands beside the gap still does where the entry at `from` moves into it
-pub pulled_keeps : (ks vs ps : List ℕ) (len gap from v : ℕ) → HasGap ks vs ps len gap v → from < len → from ≢ gap → (u k : ℕ) → HoldsBeside ks vs len gap u k →
+pub pulled_keeps : (ks vs ps : List ℕ) (len gap from v : ℕ) → HasGap ks vs ps len gap v → from < len → from ≢ gap → (u k : ℕ)
+    → HoldsBeside ks vs len gap u k →
     HoldsBeside (set ks gap (get_or ks from 0)) (set vs gap (get_or vs from 0)) len from u k
 pulled_keeps ks vs ps len gap from v is inside other u k held = ⊎_elim
     (λ here. record {
@@ -44,7 +46,8 @@ pulled_only ks vs ps len gap from v is inside other u k held = ⊎_elim
     (cases_eq held.place gap)
 
 -- an entry was written at the gap
-pub filled : (ks vs ps : List ℕ) (len gap v key : ℕ) → HasGap ks vs ps len gap v → FillsGap ks vs (set ks gap key) (set vs gap v) len gap v key
+pub filled : (ks vs ps : List ℕ) (len gap v key : ℕ) → HasGap ks vs ps len gap v
+    → FillsGap ks vs (set ks gap key) (set vs gap v) len gap v key
 filled ks vs ps len gap v key is = record {
   placed = record {
     place = gap;

@@ -1,5 +1,6 @@
 -- Masks bit by bit.
-use Rattle.std.proofs.Common.{◌≡◌, ◌≢◌, ℕ, zero, suc, ◌+◌, ◌-◌, ◌*◌, ◌/◌, ◌%◌, ◌^◌, ◌<◌, ◌≤◌, ◌⊎◌, refl, sym, ◌∙◌, ap, inl, inr, ⊎_elim, arith}
+use Rattle.std.proofs.Common.{◌≡◌, ◌≢◌, ℕ, zero, suc, ◌+◌, ◌-◌, ◌*◌, ◌/◌, ◌%◌, ◌^◌, ◌<◌, ◌≤◌, ◌⊎◌, refl, sym, ◌∙◌, ap, inl, inr}
+use Rattle.std.proofs.Common.{⊎_elim, arith}
 use Rattle.std.proofs.Math.Nat.{pow-succ', div-div-eq-div-mul}
 use Rattle.std.proofs.lemmas.Nat.{pow_pos}
 use Rattle.std.proofs.lemmas.Bool.{cases_eq, cases_lt}
@@ -25,7 +26,8 @@ below-one m small = omega arith
 -- no bit stands past the power that a mask is below
 pub bit-high : (k m i : ℕ) → m < 2 ^ k → k ≤ i → bit m i ≡ 0
 bit-high zero m zero small high = let none = below-one m small in omega arith
-bit-high zero m (suc i) small high = bit-suc m i ∙ bit-high zero (m / 2) i (let none = below-one m small in omega arith) (omega arith)
+bit-high zero m (suc i) small high = bit-suc m i
+    ∙ bit-high zero (m / 2) i (let none = below-one m small in omega arith) (omega arith)
 bit-high (suc k) m zero small high = absurd (omega arith)
 bit-high (suc k) m (suc i) small high = bit-suc m i ∙ bit-high k (m / 2) i (half-below k m small) (omega arith)
 
@@ -42,7 +44,8 @@ halves-shared one other mask shared i = omega (arith, shared (suc i), bit-suc on
 shared-sum : (k one other mask : ℕ) → one < 2 ^ k → other < 2 ^ k → mask < 2 ^ k → AreShared one other mask → one + other ≡ mask
 shared-sum zero one other mask a b m shared = omega (arith, below-one one a, below-one other b, below-one mask m)
 shared-sum (suc k) one other mask a b m shared =
-    let halves = shared-sum k (one / 2) (other / 2) (mask / 2) (half-below k one a) (half-below k other b) (half-below k mask m) (halves-shared one other mask shared) in
+    let halves = shared-sum k (one / 2) (other / 2) (mask / 2) (half-below k one a) (half-below k other b) (half-below k mask m)
+    (halves-shared one other mask shared) in
     let last = shared 0 in
     omega (arith, halves, last)
 
@@ -94,7 +97,13 @@ bit_behind k mask half = record {
   alone = ⊎_elim
       (λ even. ⊎_elim
       (λ is. inl (omega (arith, is, even, pow-succ' 2 half.place)))
-      (λ beside. inr (record { other = suc beside.other; inside = omega (arith, beside.inside); has = bit-suc mask beside.other ∙ beside.has; differs = λ same. beside.differs (omega arith) }))
+      (λ beside. inr (record {
+        other = suc beside.other;
+        inside = omega (arith, beside.inside);
+        has = bit-suc mask beside.other
+            ∙ beside.has;
+        differs = λ same. beside.differs (omega arith);
+      }))
       half.alone)
       (λ odd. inr (record { other = 0; inside = omega arith; has = omega arith; differs = λ same. absurd (omega arith) }))
       (cases_eq (mask % 2) 0);
@@ -123,14 +132,17 @@ bit-before x a i small = let half : (2 * x + a) / 2 ≡ x = omega arith in bit-s
 
 shared_last : (x y a b mask : ℕ) → a + b ≡ mask % 2 → AreShared x y (mask / 2) → AreShared (2 * x + a) (2 * y + b) mask
 shared_last x y a b mask last shared zero = omega (arith, last, bit-last x a (omega arith), bit-last y b (omega arith))
-shared_last x y a b mask last shared (suc i) = omega (arith, shared i, bit-suc mask i, bit-before x a i (omega arith), bit-before y b i (omega arith))
+shared_last x y a b mask last shared (suc i) =
+    omega (arith, shared i, bit-suc mask i, bit-before x a i (omega arith), bit-before y b i (omega arith))
 
 -- where something holds at each bit, and at one more that stands last
-each_bit : (P : ℕ → Type 0) (x a : ℕ) → a < 2 → ((i : ℕ) → bit x i ≡ 1 → P (suc i)) → (a ≡ 1 → P 0) → (i : ℕ) → bit (2 * x + a) i ≡ 1 → P i
+each_bit : (P : ℕ → Type 0) (x a : ℕ) → a < 2 → ((i : ℕ) → bit x i ≡ 1 → P (suc i)) → (a ≡ 1 → P 0) → (i : ℕ)
+    → bit (2 * x + a) i ≡ 1 → P i
 each_bit P x a small before last zero has = last (sym (bit-last x a small) ∙ has)
 each_bit P x a small before last (suc i) has = before i (sym (bit-before x a i small) ∙ has)
 
-one_more : (P : ℕ → Type 0) (a b mask : ℕ) → a + b ≡ mask % 2 → (a ≡ 1 → P 0) → (b ≡ 1 → ¬ P 0) → IsDivided (λ i. P (suc i)) (mask / 2) → IsDivided P mask
+one_more : (P : ℕ → Type 0) (a b mask : ℕ) → a + b ≡ mask % 2 → (a ≡ 1 → P 0) → (b ≡ 1 → ¬ P 0)
+    → IsDivided (λ i. P (suc i)) (mask / 2) → IsDivided P mask
 one_more P a b mask last here there half = record {
   one = 2 * half.one + a;
   other = 2 * half.other + b;
@@ -163,10 +175,17 @@ bit_rest zero m i small low = absurd (omega arith)
 bit_rest (suc k) m zero small low = omega (arith, pow-succ' 2 k)
 bit_rest (suc k) m (suc i) small low =
     let half : (2 ^ suc k - 1 - m) / 2 ≡ 2 ^ k - 1 - m / 2 = omega (arith, pow-succ' 2 k, small) in
-    omega (arith, bit-suc (2 ^ suc k - 1 - m) i, ap (λ n. bit n i) half, bit-suc m i, bit_rest k (m / 2) i (half-below k m small) (omega arith))
+    omega (
+      arith,
+      bit-suc (2 ^ suc k - 1 - m) i,
+      ap (λ n. bit n i) half,
+      bit-suc m i,
+      bit_rest k (m / 2) i (half-below k m small) (omega arith),
+    )
 
 -- what a part leaves is what the whole leaves and the other part
-pub parts_rest : (k one other mask : ℕ) → AreParts one other mask → mask < 2 ^ k - 1 → AreParts (2 ^ k - 1 - mask) other (2 ^ k - 1 - one)
+pub parts_rest : (k one other mask : ℕ) → AreParts one other mask → mask < 2 ^ k - 1
+    → AreParts (2 ^ k - 1 - mask) other (2 ^ k - 1 - one)
 parts_rest k one other mask parts small =
     let sum = parts_sum one other mask parts in
     record {
@@ -174,18 +193,29 @@ parts_rest k one other mask parts small =
       others = parts.others;
       shared = λ i. ⊎_elim
           (λ low. omega (arith, bit_rest k mask i (omega arith) low, bit_rest k one i (omega (arith, sum)) low, parts.shared i))
-          (λ high. omega (arith, bit-high k (2 ^ k - 1 - one) i (omega arith) high, bit-high k (2 ^ k - 1 - mask) i (omega arith) high, bit-high k other i (omega (arith, sum)) high))
+          (λ high. omega (
+            arith,
+            bit-high k (2 ^ k - 1 - one) i (omega arith) high,
+            bit-high k (2 ^ k - 1 - mask) i (omega arith) high,
+            bit-high k other i (omega (arith, sum)) high,
+          ))
           (cases_lt i k);
     }
 
 pub parts_turned : (one other mask : ℕ) → AreParts one other mask → AreParts other one mask
-parts_turned one other mask parts = record { some = parts.others; others = parts.some; shared = λ i. omega (arith, parts.shared i) }
+parts_turned one other mask parts = record {
+  some = parts.others;
+  others = parts.some;
+  shared = λ i. omega (arith, parts.shared i);
+}
 
 bit_some : (m i : ℕ) → bit m i ≡ 1 → 0 < m
-bit_some m i has = ⊎_elim (λ none. absurd (omega (arith, has, ap (λ n. bit n i) none, bit-none i))) (λ more. omega arith) (cases_eq m 0)
+bit_some m i has = ⊎_elim (λ none. absurd (omega (arith, has, ap (λ n. bit n i) none, bit-none i))) (λ more. omega arith)
+    (cases_eq m 0)
 
 -- a mask with two bits is in two parts
-pub two_parts : (k mask place : ℕ) → mask < 2 ^ k → bit mask place ≡ 1 → HasOther k mask place → (one : ℕ) × (other : ℕ) × AreParts one other mask
+pub two_parts : (k mask place : ℕ) → mask < 2 ^ k → bit mask place ≡ 1 → HasOther k mask place
+    → (one : ℕ) × (other : ℕ) × AreParts one other mask
 two_parts k mask place small has beside =
     let d = divided (λ i. i ≡ place) (λ i. cases_eq i place) k mask small in
     let here : bit d.other place ≢ 1 = λ is. d.in_other place is refl in
@@ -194,7 +224,8 @@ two_parts k mask place small has beside =
       d.other,
       record {
         some = bit_some d.one place (omega (arith, here, has, d.shared place, bit-small d.one place, bit-small d.other place));
-        others = bit_some d.other beside.other (omega (arith, there, beside.has, d.shared beside.other, bit-small d.one beside.other, bit-small d.other beside.other));
+        others = bit_some d.other beside.other (omega
+            (arith, there, beside.has, d.shared beside.other, bit-small d.one beside.other, bit-small d.other beside.other));
         shared = d.shared;
       },
     )

@@ -15,16 +15,43 @@ half_bits mask one has i = omega (arith, has (suc i), bit_at-suc one i, bit_at-s
 no_less : (n mask one : ℕ) → one ≤ n → HasBitsOf mask one → one ≤ mask
 no_less zero mask one small has = omega arith
 no_less (suc n) mask one small has =
-    omega (arith, no_less n (mask / 2) (one / 2) (omega arith) (half_bits mask one has), has 0, bit_at_lowest one, bit_at_lowest mask)
+    omega (
+      arith,
+      no_less n (mask / 2) (one / 2) (omega arith) (half_bits mask one has),
+      has 0,
+      bit_at_lowest one,
+      bit_at_lowest mask,
+    )
 
 -- and the bits of the rest are the others
 rest_bits : (i mask one : ℕ) → HasBitsOf mask one → bit mask i ≡ bit one i + bit (mask - one) i
 rest_bits zero mask one has =
-    omega (arith, has 0, bit_at_lowest one, bit_at_lowest mask, bit_at_lowest (mask - one), no_less one mask one (omega arith) has, no_less (one / 2) (mask / 2) (one / 2) (omega arith) (half_bits mask one has))
+    omega (
+      arith,
+      has 0,
+      bit_at_lowest one,
+      bit_at_lowest mask,
+      bit_at_lowest (mask - one),
+      no_less one mask one (omega arith) has,
+      no_less (one / 2) (mask / 2) (one / 2) (omega arith) (half_bits mask one has),
+    )
 rest_bits (suc i) mask one has =
     let halves : (mask - one) / 2 ≡ mask / 2 - one / 2 =
-    omega (arith, has 0, bit_at_lowest one, bit_at_lowest mask, no_less one mask one (omega arith) has, no_less (one / 2) (mask / 2) (one / 2) (omega arith) (half_bits mask one has)) in
-    omega (arith, rest_bits i (mask / 2) (one / 2) (half_bits mask one has), bit_at-suc mask i, bit_at-suc one i, bit_at-suc (mask - one) i ∙ ap (λ n. bit n i) halves)
+    omega (
+      arith,
+      has 0,
+      bit_at_lowest one,
+      bit_at_lowest mask,
+      no_less one mask one (omega arith) has,
+      no_less (one / 2) (mask / 2) (one / 2) (omega arith) (half_bits mask one has),
+    ) in
+    omega (
+      arith,
+      rest_bits i (mask / 2) (one / 2) (half_bits mask one has),
+      bit_at-suc mask i,
+      bit_at-suc one i,
+      bit_at-suc (mask - one) i ∙ ap (λ n. bit n i) halves,
+    )
 
 -- what the test of bits says
 pub parts_from_and : (one mask : ℕ) → 0 < one → one < mask → bit_and one mask ≡ one → AreParts one (mask - one) mask
@@ -35,8 +62,16 @@ parts_from_and one mask some less is =
 same_bits : (n a b : ℕ) → a ≤ n → b ≤ n → ((i : ℕ) → bit a i ≡ bit b i) → a ≡ b
 same_bits zero a b low_a low_b same = omega arith
 same_bits (suc n) a b low_a low_b same =
-    omega (arith, same_bits n (a / 2) (b / 2) (omega arith) (omega arith) (λ i. sym (bit_at-suc a i) ∙ same (suc i) ∙ bit_at-suc b i), same 0, bit_at_lowest a, bit_at_lowest b)
+    omega (
+      arith,
+      same_bits n (a / 2) (b / 2) (omega arith) (omega arith)
+          (λ i. sym (bit_at-suc a i) ∙ same (suc i) ∙ bit_at-suc b i),
+      same 0,
+      bit_at_lowest a,
+      bit_at_lowest b,
+    )
 
 pub and_from_parts : (one other mask : ℕ) → AreParts one other mask → bit_and one mask ≡ one
 and_from_parts one other mask parts =
-    same_bits (bit_and one mask + one) (bit_and one mask) one (omega arith) (omega arith) (λ i. omega (arith, bit_at_and one mask i, parts.shared i))
+    same_bits (bit_and one mask + one) (bit_and one mask) one (omega arith) (omega arith)
+    (λ i. omega (arith, bit_at_and one mask i, parts.shared i))

@@ -22,11 +22,13 @@ at_most (suc n) (suc m) f below differ =
     let other : (j : ℕ) → j < m → f j ≢ f m = λ j high same. omega (arith, differ j m (omega arith) (omega arith) same) in
     let rest = at_most n m (λ j. closed (f m) (f j))
     (λ j high. closed_below n (f m) (f j) (below m (omega arith)) (below j (omega arith)) (other j high))
-    (λ i j low high same. differ i j (omega arith) (omega arith) (closed_differs (f m) (f i) (f j) (other i low) (other j high) same)) in
+    (λ i j low high same. differ i j (omega arith) (omega arith)
+    (closed_differs (f m) (f i) (f j) (other i low) (other j high) same)) in
     omega (arith, rest)
 
 -- m different numbers below n, all other than one that is below n too, are less than n
-pub less_than : (n m : ℕ) (f : ℕ → ℕ) (v : ℕ) → v < n → ((j : ℕ) → j < m → f j < n) → ((i j : ℕ) → i < m → j < m → f i ≡ f j → i ≡ j) → ((j : ℕ) → j < m → f j ≢ v) → m < n
+pub less_than : (n m : ℕ) (f : ℕ → ℕ) (v : ℕ) → v < n → ((j : ℕ) → j < m → f j < n)
+    → ((i j : ℕ) → i < m → j < m → f i ≡ f j → i ≡ j) → ((j : ℕ) → j < m → f j ≢ v) → m < n
 less_than zero m f v inside below differ other = absurd (omega arith)
 less_than (suc n) m f v inside below differ other =
     let rest = at_most n m (λ j. closed v (f j))

@@ -1,5 +1,6 @@
 -- Sets of allowed pieces: one piece more, how much they weigh at most, and what the least of them is.
-use Rattle.std.proofs.Common.{◌≡◌, ◌≢◌, ℕ, zero, suc, ◌+◌, ◌*◌, ◌/◌, ◌^◌, ◌<◌, ◌≤◌, ◌⊎◌, List, [], ◌∷◌, length, map, get_or, option_map, refl, sym, ◌∙◌, ap, subst, inl, inr, ⊎_elim, arith}
+use Rattle.std.proofs.Common.{◌≡◌, ◌≢◌, ℕ, zero, suc, ◌+◌, ◌*◌, ◌/◌, ◌^◌, ◌<◌, ◌≤◌, ◌⊎◌, List, [], ◌∷◌, length, map, get_or}
+use Rattle.std.proofs.Common.{option_map, refl, sym, ◌∙◌, ap, subst, inl, inr, ⊎_elim, arith}
 use Rattle.std.specs.List.{Contains}
 use Rattle.std.proofs.lemmas.Bool.{cases_eq}
 use Rattle.std.proofs.lemmas.List.Sums.{sum_by-cons}
@@ -19,8 +20,10 @@ use Rattle.shortest_paths.specs.Sets.{IsSetOf, IsLeastWeight, IsEither, weight}
 use Rattle.shortest_paths.proofs.Pigeons.{at_most}
 
 pub piece_cases : (p q : Piece) → (p ≡ q) ⊎ (p ≢ q)
-piece_cases (Edge e) (Edge f) = ⊎_elim (λ same. inl (ap (λ n. Edge (record { 0 = n })) same)) (λ other. inr (λ same. other (cc same))) (cases_eq e.0 f.0)
-piece_cases (Via e) (Via f) = ⊎_elim (λ same. inl (ap (λ n. Via (record { 0 = n })) same)) (λ other. inr (λ same. other (cc same))) (cases_eq e.0 f.0)
+piece_cases (Edge e) (Edge f) = ⊎_elim (λ same. inl (ap (λ n. Edge (record { 0 = n })) same))
+    (λ other. inr (λ same. other (cc same))) (cases_eq e.0 f.0)
+piece_cases (Via e) (Via f) = ⊎_elim (λ same. inl (ap (λ n. Via (record { 0 = n })) same))
+    (λ other. inr (λ same. other (cc same))) (cases_eq e.0 f.0)
 piece_cases (Edge e) (Via f) = inr (λ same. cc)
 piece_cases (Via e) (Edge f) = inr (λ same. cc)
 
@@ -31,19 +34,23 @@ member_cases (x ∷ set) p = ⊎_elim
     (λ here. inl (x.1, (0, omega arith, ap (λ (q : Piece). (q, x.1)) here)))
     (λ other. ⊎_elim
     (λ at. inl (at.0, (suc at.1.0, omega (arith, at.1.1), at.1.2)))
-    (λ none. inr (λ at. ⊎_elim (λ same. other (sym (ap (λ (y : Piece × ℕ). y.0) same))) (λ rest. none (at.0, rest)) (head_or_rest x set (p, at.0) at.1)))
+    (λ none. inr (λ at. ⊎_elim (λ same. other (sym (ap (λ (y : Piece × ℕ). y.0) same))) (λ rest. none (at.0, rest))
+    (head_or_rest x set (p, at.0) at.1)))
     (member_cases set p))
     (piece_cases x.0 p)
 
 allowed_at : (set : List (Piece × ℕ)) (j : ℕ) (p : Piece) → At (map (λ x. x.0) set) j p → IsAllowed set p
 allowed_at [] j p at = cc
 allowed_at (x ∷ set) zero p at = (x.1, (0, omega arith, ap (λ (q : Piece). (q, x.1)) (same_Some _ _ at)))
-allowed_at (x ∷ set) (suc j) p at = let rest = allowed_at set j p at in (rest.0, (suc rest.1.0, omega (arith, rest.1.1), rest.1.2))
+allowed_at (x ∷ set) (suc j) p at = let rest =
+    allowed_at set j p at in (rest.0, (suc rest.1.0, omega (arith, rest.1.1), rest.1.2))
 
 pub once_more : (x : Piece × ℕ) (set : List (Piece × ℕ)) → NoPieceTwice set → ¬ IsAllowed set x.0 → NoPieceTwice (x ∷ set)
 once_more x set once new zero zero q first second = refl
-once_more x set once new zero (suc j) q first second = absurd (new (subst (IsAllowed set) (sym (same_Some _ _ first)) (allowed_at set j q second)))
-once_more x set once new (suc i) zero q first second = absurd (new (subst (IsAllowed set) (sym (same_Some _ _ second)) (allowed_at set i q first)))
+once_more x set once new zero (suc j) q first second =
+    absurd (new (subst (IsAllowed set) (sym (same_Some _ _ first)) (allowed_at set j q second)))
+once_more x set once new (suc i) zero q first second =
+    absurd (new (subst (IsAllowed set) (sym (same_Some _ _ second)) (allowed_at set i q first)))
 once_more x set once new (suc i) (suc j) q first second = ap suc (once i j q first second)
 
 -- a set that has all pieces of another, and one more
@@ -54,13 +61,15 @@ pub record IsExtended (pieces set : List (Piece × ℕ)) (p : Piece) (k : ℕ) :
   pub has : IsAllowed new p
   pub light : weight new ≤ weight set + k
 
-pub extended : (pieces set : List (Piece × ℕ)) (p : Piece) (k : ℕ) → IsSetOf pieces set → Weighs pieces p k → IsExtended pieces set p k
+pub extended : (pieces set : List (Piece × ℕ)) (p : Piece) (k : ℕ) → IsSetOf pieces set → Weighs pieces p k
+    → IsExtended pieces set p k
 extended pieces set p k is at = ⊎_elim
     (λ old. record { new = set; is_set = is; kept = λ q in_set. in_set; has = old; light = omega arith })
     (λ other. record {
       new = (p, k) ∷ set;
       is_set = record {
-        allowed = λ y in_new. ⊎_elim (λ here. subst (Contains pieces) (sym here) at) (λ rest. is.allowed y rest) (head_or_rest (p, k) set y in_new);
+        allowed = λ y in_new. ⊎_elim (λ here. subst (Contains pieces) (sym here) at) (λ rest. is.allowed y rest)
+            (head_or_rest (p, k) set y in_new);
         once = once_more (p, k) set is.once other;
       };
       kept = λ q in_set. (in_set.0, (suc in_set.1.0, omega (arith, in_set.1.1), in_set.1.2));
@@ -82,10 +91,12 @@ unfolding piece_number
 number_below s (Edge e) is = let n = vertices s in let half : e.0 / 2 < n = is.0 in omega arith
 number_below s (Via v) is = let n = vertices s in let low : v.0 < n = is.0 in omega arith
 
-numbers_differ : (s : Size) (p q : Piece) → IsPiece s p → IsPiece s q → piece_number (vertices s) p ≡ piece_number (vertices s) q → p ≡ q
+numbers_differ : (s : Size) (p q : Piece) → IsPiece s p → IsPiece s q
+    → piece_number (vertices s) p ≡ piece_number (vertices s) q → p ≡ q
 unfolding piece_number
 numbers_differ s (Edge e) (Edge f) p_is q_is same = ap (λ n. Edge (record { 0 = n })) same
-numbers_differ s (Via v) (Via w) p_is q_is same = let n = vertices s in let back : v.0 ≡ w.0 = omega arith in ap (λ n. Via (record { 0 = n })) back
+numbers_differ s (Via v) (Via w) p_is q_is same = let n = vertices s in let back : v.0 ≡ w.0 =
+    omega arith in ap (λ n. Via (record { 0 = n })) back
 numbers_differ s (Edge e) (Via w) p_is q_is same = let n = vertices s in let half : e.0 / 2 < n = p_is.0 in absurd (omega arith)
 numbers_differ s (Via v) (Edge f) p_is q_is same = let n = vertices s in let half : f.0 / 2 < n = q_is.0 in absurd (omega arith)
 
@@ -95,44 +106,63 @@ nothing = (Via (record { 0 = 0 }), 0)
 piece_at : List (Piece × ℕ) → ℕ → Piece
 piece_at set j = (get_or set j nothing).0
 
-piece_at-is : (s : Size) (pieces set : List (Piece × ℕ)) (j : ℕ) → WeighsOnlyPieces s pieces → IsSetOf pieces set → j < length set → IsPiece s (piece_at set j)
+piece_at-is : (s : Size) (pieces set : List (Piece × ℕ)) (j : ℕ) → WeighsOnlyPieces s pieces → IsSetOf pieces set
+    → j < length set → IsPiece s (piece_at set j)
 unfolding piece_at
 piece_at-is s pieces set j are is high =
     let x = get_or set j nothing in are x.0 (x.1, is.allowed x (Contains-get_or set j nothing high))
 
 piece_at-at : (set : List (Piece × ℕ)) (j : ℕ) → j < length set → At (map (λ x. x.0) set) j (piece_at set j)
 unfolding piece_at
-piece_at-at set j high = slice_get-map (λ x. x.0) set j ∙ ap (option_map (λ (x : Piece × ℕ). x.0)) (slice_get-get_or set j nothing high)
+piece_at-at set j high = slice_get-map (λ x. x.0) set j
+    ∙ ap (option_map (λ (x : Piece × ℕ). x.0)) (slice_get-get_or set j nothing high)
 
 -- a set has at most three pieces for each vertex
-set_count : (s : Size) (pieces set : List (Piece × ℕ)) → WeighsOnlyPieces s pieces → IsSetOf pieces set → length set ≤ 3 * vertices s
+set_count : (s : Size) (pieces set : List (Piece × ℕ)) → WeighsOnlyPieces s pieces → IsSetOf pieces set
+    → length set ≤ 3 * vertices s
 set_count s pieces set are is = at_most (3 * vertices s) (length set) (λ j. piece_number (vertices s) (piece_at set j))
     (λ j high. number_below s (piece_at set j) (piece_at-is s pieces set j are is high))
     (λ i j low high same.
-    let one = numbers_differ s (piece_at set i) (piece_at set j) (piece_at-is s pieces set i are is low) (piece_at-is s pieces set j are is high) same in
+    let one = numbers_differ s (piece_at set i) (piece_at set j) (piece_at-is s pieces set i are is low)
+    (piece_at-is s pieces set j are is high) same in
     is.once i j (piece_at set j) (subst (At (map (λ x. x.0) set) i) one (piece_at-at set i low)) (piece_at-at set j high))
 
-pub weighs_at_most : (set : List (Piece × ℕ)) → ((x : Piece × ℕ) → Contains set x → x.1 ≤ 2 ^ 38) → weight set ≤ length set * 2 ^ 38
+pub weighs_at_most : (set : List (Piece × ℕ)) → ((x : Piece × ℕ) → Contains set x → x.1 ≤ 2 ^ 38)
+    → weight set ≤ length set * 2 ^ 38
 weighs_at_most [] small = omega arith
 weighs_at_most (x ∷ set) small =
-    omega (arith, sum_by-cons (λ (y : Piece × ℕ). y.1) x set, small x (0, omega arith, refl), weighs_at_most set (λ y at. small y (suc at.0, omega (arith, at.1), at.2)))
+    omega (
+      arith,
+      sum_by-cons (λ (y : Piece × ℕ). y.1) x set,
+      small x (0, omega arith, refl),
+      weighs_at_most set (λ y at. small y (suc at.0, omega (arith, at.1), at.2)),
+    )
 
 -- all pieces of a grid together have a weight below 2^63
-pub weight-most : (s : Size) (pieces set : List (Piece × ℕ)) → WeighsOnlyPieces s pieces → AreWithinLimit pieces → IsSetOf pieces set → weight set ≤ 3 * 2 ^ 61
+pub weight-most : (s : Size) (pieces set : List (Piece × ℕ)) → WeighsOnlyPieces s pieces → AreWithinLimit pieces
+    → IsSetOf pieces set → weight set ≤ 3 * 2 ^ 61
 weight-most s pieces set are small is =
-    omega (arith, weighs_at_most set (λ x at. small x.0 x.1 (is.allowed x at)), set_count s pieces set are is, s.within.vertex_limit)
+    omega (
+      arith,
+      weighs_at_most set (λ x at. small x.0 x.1 (is.allowed x at)),
+      set_count s pieces set are is,
+      s.within.vertex_limit,
+    )
 
 -- a walk joins its two ends
 pub joins_ends : (s : Size) (F : Piece → Type 0) (a b : ℕ) → WalkBetween s F a b → Joins s F (IsEither a b)
 joins_ends s F a b walk = Joins-from_one s F (IsEither a b) a
-    (λ v is. ⊎_elim (λ first. subst (WalkBetween s F a) (sym first) (WalkBetween-refl s F a (walk_vertices s F a b walk).0)) (λ second. subst (WalkBetween s F a) (sym second) walk) is)
+    (λ v is. ⊎_elim (λ first. subst (WalkBetween s F a) (sym first) (WalkBetween-refl s F a (walk_vertices s F a b walk).0))
+    (λ second. subst (WalkBetween s F a) (sym second) walk) is)
 
 pub ends_joined : (s : Size) (F : Piece → Type 0) (a b : ℕ) → Joins s F (IsEither a b) → WalkBetween s F a b
 ends_joined s F a b joins = joins a b (inl refl) (inr refl)
 
 -- a set was found, and none is lighter
-pub least_found : (s : Size) (pieces set : List (Piece × ℕ)) (a b d : ℕ) → IsSetOf pieces set → WalkBetween s (IsAllowed set) a b → weight set ≤ d →
-    ((other : List (Piece × ℕ)) → IsSetOf pieces other → WalkBetween s (IsAllowed other) a b → d ≤ weight other) → IsLeastWeight s pieces (IsEither a b) d
+pub least_found : (s : Size) (pieces set : List (Piece × ℕ)) (a b d : ℕ) → IsSetOf pieces set
+    → WalkBetween s (IsAllowed set) a b → weight set ≤ d →
+    ((other : List (Piece × ℕ)) → IsSetOf pieces other → WalkBetween s (IsAllowed other) a b → d ≤ weight other)
+    → IsLeastWeight s pieces (IsEither a b) d
 least_found s pieces set a b d is walk light least = record {
   set = set;
   is_set = is;

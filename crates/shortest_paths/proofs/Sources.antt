@@ -19,10 +19,13 @@ use Rattle.shortest_paths.specs.Starts.{IsStarted}
 use Rattle.shortest_paths.specs.Stamped.{far}
 
 -- the spot of a listed source
-pub source_spot : (s t now : Size) (sources : List Vertex) (i : ℕ) (d : Vertex) (at : Spot) → All (λ (v : Vertex). IsVertex t v.0) sources → s ≡ t → now ≡ s → i < length sources → at ≡ spot_at now (get_or sources i d).0 → IsSpot s at
+pub source_spot : (s t now : Size) (sources : List Vertex) (i : ℕ) (d : Vertex) (at : Spot)
+    → All (λ (v : Vertex). IsVertex t v.0) sources → s ≡ t → now ≡ s → i < length sources
+    → at ≡ spot_at now (get_or sources i d).0 → IsSpot s at
 source_spot s t now sources i d at vertices size same low is =
     let v = get_or sources i d in
-    let vertex : IsVertex s v.0 = subst (λ (x : Size). IsVertex x v.0) (sym size) (All-get_or (λ (w : Vertex). IsVertex t w.0) sources i d low vertices) in
+    let vertex : IsVertex s v.0 = subst (λ (x : Size). IsVertex x v.0) (sym size)
+    (All-get_or (λ (w : Vertex). IsVertex t w.0) sources i d low vertices) in
     subst (IsSpot s) (sym (is ∙ ap (λ (x : Size). spot_at x v.0) same)) (spot_at-is s v.0 vertex)
 
 -- nothing has a number
@@ -34,7 +37,8 @@ none_started sources r none = record {
 }
 
 -- one more source was offered 0
-pub started_more : (sources : List Vertex) (old new : Row) (to : ℕ) → InVertices sources to → TakesOffer old new to 0 → IsStarted sources old → IsStarted sources new
+pub started_more : (sources : List Vertex) (old new : Row) (to : ℕ) → InVertices sources to → TakesOffer old new to 0
+    → IsStarted sources old → IsStarted sources new
 started_more sources old new to member taken started = record {
   waits = λ v low. ⊎_elim
       (λ same. taken.kept v (started.waits v (omega (arith, same, low))))
@@ -51,14 +55,17 @@ started_more sources old new to member taken started = record {
 }
 
 -- where all that has a number waits, all that doesn't wait is spread
-pub sources_settled : (s : Size) (pieces : List (Piece × ℕ)) (rest : ℕ → ℕ) (limit : ℕ) (sources : List Vertex) (r : Row) → IsStarted sources r → IsSettled s pieces rest limit r
+pub sources_settled : (s : Size) (pieces : List (Piece × ℕ)) (rest : ℕ → ℕ) (limit : ℕ) (sources : List Vertex) (r : Row)
+    → IsStarted sources r → IsSettled s pieces rest limit r
 sources_settled s pieces rest limit sources r started v still p k u weighs connects = ⊎_elim
     (λ numbered. absurd (still (started.waits v numbered)))
     (λ none. inl (omega (arith, none, r.parts.limits (index_in r.found u))))
     (cases_lt (number_in r v) far)
 
 -- what fell along paths is a path's weight from a source, or more
-pub fallen_from_any : (s : Size) (pieces : List (Piece × ℕ)) (sources : List Vertex) (old new : Row) (v : ℕ) → IsStarted sources old → FallsFrom s pieces old new → number_in new v < far → IsFromAny s pieces sources v (number_in new v)
+pub fallen_from_any : (s : Size) (pieces : List (Piece × ℕ)) (sources : List Vertex) (old new : Row) (v : ℕ)
+    → IsStarted sources old → FallsFrom s pieces old new → number_in new v < far
+    → IsFromAny s pieces sources v (number_in new v)
 fallen_from_any s pieces sources old new v started fell low =
     let from = fell.from v low in
     record {

@@ -1,6 +1,7 @@
 -- Least weights of a grid whose vias weigh nothing are those between its tiles: below each set of allowed pieces there is a
 -- set of tile edges that joins as much and weighs no more, and the other way round.
-use Rattle.std.proofs.Common.{◌≡◌, ℕ, zero, suc, ◌+◌, ◌≤◌, ◌<◌, ◌⊎◌, List, [], ◌∷◌, All, refl, sym, ap, subst, ◌∙◌, inl, inr, ⊎_elim, arith}
+use Rattle.std.proofs.Common.{◌≡◌, ℕ, zero, suc, ◌+◌, ◌≤◌, ◌<◌, ◌⊎◌, List, [], ◌∷◌, All, refl, sym, ap, subst, ◌∙◌, inl, inr}
+use Rattle.std.proofs.Common.{⊎_elim, arith}
 use Rattle.std.specs.List.{Contains}
 use Rattle.std.proofs.lemmas.Bool.{cases_eq, cases_lt}
 use Rattle.std.proofs.lemmas.List.Elements.{All-contains}
@@ -27,14 +28,16 @@ use Rattle.shortest_paths.proofs.Sets.{extended, no_pieces}
 
 -- ---- the pieces between tiles
 
-pub tile_pieces : (flat s : Size) (pieces across : List (Piece × ℕ)) → HaveSameTiles flat s → WeighsOnlyPieces s pieces → AreLeastBetweenTiles s pieces across → WeighsOnlyPieces flat across
+pub tile_pieces : (flat s : Size) (pieces across : List (Piece × ℕ)) → HaveSameTiles flat s → WeighsOnlyPieces s pieces
+    → AreLeastBetweenTiles s pieces across → WeighsOnlyPieces flat across
 tile_pieces flat s pieces across is only least p allowed =
     let found = least.attained p allowed.0 allowed.1 in
     let e = found.0 in
     let piece : IsPiece s (Edge e) = only (Edge e) (allowed.0, found.1) in
     subst (IsPiece flat) (sym found.2) (edge_goes flat s e.0 (start_of (Edge e)) (end_of s (Edge e)) is (piece, refl, refl)).0.0
 
-pub tile_weights : (s : Size) (pieces across : List (Piece × ℕ)) → AreWithinLimit pieces → AreLeastBetweenTiles s pieces across → AreWithinLimit across
+pub tile_weights : (s : Size) (pieces across : List (Piece × ℕ)) → AreWithinLimit pieces → AreLeastBetweenTiles s pieces across
+    → AreWithinLimit across
 tile_weights s pieces across small least p k weighs = let found = least.attained p k weighs in small (Edge found.0) k found.1
 
 -- ---- sets
@@ -46,7 +49,8 @@ pub record IsSetBelow (s : Size) (across set : List (Piece × ℕ)) : Type 0 whe
   pub has : (e : EdgeNumber) → IsAllowed set (Edge e) → IsAllowed below (tile_edge s e)
   pub light : weight below ≤ weight set
 
-pub set_below : (s : Size) (pieces across set : List (Piece × ℕ)) → AreLeastBetweenTiles s pieces across → ((x : Piece × ℕ) → Contains set x → Contains pieces x) → IsSetBelow s across set
+pub set_below : (s : Size) (pieces across set : List (Piece × ℕ)) → AreLeastBetweenTiles s pieces across
+    → ((x : Piece × ℕ) → Contains set x → Contains pieces x) → IsSetBelow s across set
 set_below s pieces across [] least allowed = record {
   below = [];
   is_set = no_pieces across;
@@ -140,7 +144,8 @@ pub record IsSetAbove (s : Size) (pieces set : List (Piece × ℕ)) : Type 0 whe
   pub has : (p : Piece) → IsAllowed set p → (e : EdgeNumber) × IsAllowed above (Edge e) × (p ≡ tile_edge s e)
   pub light : weight above ≤ weight set
 
-pub set_above : (s : Size) (pieces across set : List (Piece × ℕ)) → HasFreeVias s pieces → AreLeastBetweenTiles s pieces across → ((x : Piece × ℕ) → Contains set x → Contains across x) → IsSetAbove s pieces set
+pub set_above : (s : Size) (pieces across set : List (Piece × ℕ)) → HasFreeVias s pieces → AreLeastBetweenTiles s pieces across
+    → ((x : Piece × ℕ) → Contains set x → Contains across x) → IsSetAbove s pieces set
 set_above s pieces across [] free least allowed =
     let all = vias_below s pieces free (vertices s) in
     record {
@@ -168,14 +173,18 @@ set_above s pieces across (x ∷ set) free least allowed =
 -- ---- what they join
 
 -- a set joins below what a set joins
-pub joined_below : (flat s : Size) (across set : List (Piece × ℕ)) (found : IsSetBelow s across set) → HaveSameTiles flat s → (a b : ℕ) → WalkBetween s (IsAllowed set) a b → WalkBetween flat (IsAllowed found.below) (tile_of s a) (tile_of s b)
-joined_below flat s across set found is a b walk = walk_below flat s (IsAllowed set) (IsAllowed found.below) is found.has a b walk
+pub joined_below : (flat s : Size) (across set : List (Piece × ℕ)) (found : IsSetBelow s across set) → HaveSameTiles flat s
+    → (a b : ℕ) → WalkBetween s (IsAllowed set) a b → WalkBetween flat (IsAllowed found.below) (tile_of s a) (tile_of s b)
+joined_below flat s across set found is a b walk =
+    walk_below flat s (IsAllowed set) (IsAllowed found.below) is found.has a b walk
 
 -- and above all vertices of the tiles that a set between tiles joins
-pub joined_above : (flat s : Size) (pieces set : List (Piece × ℕ)) (found : IsSetAbove s pieces set) → HaveSameTiles flat s → WeighsOnlyPieces s pieces → (a b : ℕ) → IsVertex s a → IsVertex s b →
+pub joined_above : (flat s : Size) (pieces set : List (Piece × ℕ)) (found : IsSetAbove s pieces set) → HaveSameTiles flat s
+    → WeighsOnlyPieces s pieces → (a b : ℕ) → IsVertex s a → IsVertex s b →
     WalkBetween flat (IsAllowed set) (tile_of s a) (tile_of s b) → WalkBetween s (IsAllowed found.above) a b
 joined_above flat s pieces set found is only a b at_a at_b walk =
-    walk_above flat s (IsAllowed found.above) (IsAllowed set) is (λ p at. only p (at.0, found.is_set.allowed (p, at.0) at.1)) found.vias found.has a b at_a at_b walk
+    walk_above flat s (IsAllowed found.above) (IsAllowed set) is
+    (λ p at. only p (at.0, found.is_set.allowed (p, at.0) at.1)) found.vias found.has a b at_a at_b walk
 
 -- U holds the tiles of the vertices of T
 pub record AreTilesOf (s : Size) (T U : ℕ → Type 0) : Type 0 where
@@ -183,7 +192,8 @@ pub record AreTilesOf (s : Size) (T U : ℕ → Type 0) : Type 0 where
   pub tile : (v : ℕ) → T v → U (tile_of s v)
   pub from : (t : ℕ) → U t → (v : ℕ) × T v × (tile_of s v ≡ t)
 
-pub tiles_of_vertices : (s : Size) (terminals : List Vertex) → All (λ (v : Vertex). IsVertex s v.0) terminals → AreTilesOf s (InVertices terminals) (InVertices (tiles_of s terminals))
+pub tiles_of_vertices : (s : Size) (terminals : List Vertex) → All (λ (v : Vertex). IsVertex s v.0) terminals
+    → AreTilesOf s (InVertices terminals) (InVertices (tiles_of s terminals))
 tiles_of_vertices s terminals all = record {
   inside = λ v at. All-contains (λ (t : Vertex). IsVertex s t.0) terminals (record { 0 = v }) all at;
   tile = λ v at. Contains-map (λ (t : Vertex). record { 0 = tile_of s t.0 }) terminals (record { 0 = v }) at;
@@ -192,7 +202,8 @@ tiles_of_vertices s terminals all = record {
       (made.0.0, made.1, ap (λ (v : Vertex). v.0) made.2);
 }
 
-pub tiles_of_two : (s : Size) (a b : ℕ) → IsVertex s a → IsVertex s b → AreTilesOf s (IsEither a b) (IsEither (tile_of s a) (tile_of s b))
+pub tiles_of_two : (s : Size) (a b : ℕ) → IsVertex s a → IsVertex s b
+    → AreTilesOf s (IsEither a b) (IsEither (tile_of s a) (tile_of s b))
 tiles_of_two s a b at_a at_b = record {
   inside = λ v is. ⊎_elim (λ one. subst (IsVertex s) (sym one) at_a) (λ other. subst (IsVertex s) (sym other) at_b) is;
   tile = λ v is. ⊎_elim (λ one. inl (ap (tile_of s) one)) (λ other. inr (ap (tile_of s) other)) is;
@@ -200,16 +211,19 @@ tiles_of_two s a b at_a at_b = record {
 }
 
 -- what walks between vertices is between their tiles
-pub joins_tiles : (flat s : Size) (F G : Piece → Type 0) (T U : ℕ → Type 0) → AreTilesOf s T U → ((a b : ℕ) → WalkBetween s F a b → WalkBetween flat G (tile_of s a) (tile_of s b)) → Joins s F T → Joins flat G U
+pub joins_tiles : (flat s : Size) (F G : Piece → Type 0) (T U : ℕ → Type 0) → AreTilesOf s T U
+    → ((a b : ℕ) → WalkBetween s F a b → WalkBetween flat G (tile_of s a) (tile_of s b)) → Joins s F T → Joins flat G U
 joins_tiles flat s F G T U are leads joins t u at_t at_u =
     let a = are.from t at_t in
     let b = are.from u at_u in
-    subst (λ m. WalkBetween flat G m u) a.2 (subst (WalkBetween flat G (tile_of s a.0)) b.2 (leads a.0 b.0 (joins a.0 b.0 a.1 b.1)))
+    subst (λ m. WalkBetween flat G m u) a.2 (subst (WalkBetween flat G (tile_of s a.0)) b.2
+    (leads a.0 b.0 (joins a.0 b.0 a.1 b.1)))
 
 -- ---- least weights
 
 -- terminals are joined where their tiles are
-pub joined_by_tiles : (flat s : Size) (pieces across : List (Piece × ℕ)) (T U : ℕ → Type 0) → HaveSameTiles flat s → WeighsOnlyPieces s pieces → HasFreeVias s pieces → AreLeastBetweenTiles s pieces across → AreTilesOf s T U →
+pub joined_by_tiles : (flat s : Size) (pieces across : List (Piece × ℕ)) (T U : ℕ → Type 0) → HaveSameTiles flat s
+    → WeighsOnlyPieces s pieces → HasFreeVias s pieces → AreLeastBetweenTiles s pieces across → AreTilesOf s T U →
     Joins flat (IsAllowed across) U → Joins s (IsAllowed pieces) T
 joined_by_tiles flat s pieces across T U is only free least are joins a b at_a at_b =
     walk_above flat s (IsAllowed pieces) (IsAllowed across) is only (λ v piece. (0, free v piece))
@@ -217,22 +231,33 @@ joined_by_tiles flat s pieces across T U is only free least are joins a b at_a a
     a b (are.inside a at_a) (are.inside b at_b) (joins (tile_of s a) (tile_of s b) (are.tile a at_a) (are.tile b at_b))
 
 -- and the other way round
-pub tiles_joined : (flat s : Size) (pieces across : List (Piece × ℕ)) (T U : ℕ → Type 0) → HaveSameTiles flat s → AreLeastBetweenTiles s pieces across → AreTilesOf s T U → Joins s (IsAllowed pieces) T → Joins flat (IsAllowed across) U
+pub tiles_joined : (flat s : Size) (pieces across : List (Piece × ℕ)) (T U : ℕ → Type 0) → HaveSameTiles flat s
+    → AreLeastBetweenTiles s pieces across → AreTilesOf s T U → Joins s (IsAllowed pieces) T → Joins flat (IsAllowed across) U
 tiles_joined flat s pieces across T U is least are joins =
     joins_tiles flat s (IsAllowed pieces) (IsAllowed across) T U are
-    (walk_below flat s (IsAllowed pieces) (IsAllowed across) is (λ e at. let found = least.below e at.0 at.1 in (found.0, found.1)))
+    (walk_below flat s (IsAllowed pieces) (IsAllowed across) is
+    (λ e at. let found = least.below e at.0 at.1 in (found.0, found.1)))
     joins
 
 -- the least weight of tiles is that of the vertices
-pub least_by_tiles : (flat s : Size) (pieces across : List (Piece × ℕ)) (T U : ℕ → Type 0) (n : ℕ) → HaveSameTiles flat s → WeighsOnlyPieces s pieces → HasFreeVias s pieces → AreLeastBetweenTiles s pieces across → AreTilesOf s T U →
+pub least_by_tiles : (flat s : Size) (pieces across : List (Piece × ℕ)) (T U : ℕ → Type 0) (n : ℕ) → HaveSameTiles flat s
+    → WeighsOnlyPieces s pieces → HasFreeVias s pieces → AreLeastBetweenTiles s pieces across → AreTilesOf s T U →
     IsLeastWeight flat across U n → IsLeastWeight s pieces T n
 least_by_tiles flat s pieces across T U n is only free least are lightest =
     let up = set_above s pieces across lightest.set free least lightest.is_set.allowed in
-    let low : (other : List (Piece × ℕ)) → IsSetOf pieces other → Joins s (IsAllowed other) T → n ≤ weight other = λ other is_set joins.
+    let low : (other : List (Piece × ℕ)) → IsSetOf pieces other → Joins s (IsAllowed other) T → n ≤ weight other =
+    λ other is_set joins.
     let down = set_below s pieces across other least is_set.allowed in
-    omega (arith, down.light, lightest.lightest down.below down.is_set (joins_tiles flat s (IsAllowed other) (IsAllowed down.below) T U are (joined_below flat s across other down is) joins)) in
+    omega (
+      arith,
+      down.light,
+      lightest.lightest down.below down.is_set
+          (joins_tiles flat s (IsAllowed other) (IsAllowed down.below) T U are
+          (joined_below flat s across other down is) joins),
+    ) in
     let joins : Joins s (IsAllowed up.above) T = λ a b at_a at_b.
-    joined_above flat s pieces lightest.set up is only a b (are.inside a at_a) (are.inside b at_b) (lightest.joins (tile_of s a) (tile_of s b) (are.tile a at_a) (are.tile b at_b)) in
+    joined_above flat s pieces lightest.set up is only a b (are.inside a at_a) (are.inside b at_b)
+    (lightest.joins (tile_of s a) (tile_of s b) (are.tile a at_a) (are.tile b at_b)) in
     record {
       set = up.above;
       is_set = up.is_set;
@@ -242,19 +267,24 @@ least_by_tiles flat s pieces across T U n is only free least are lightest =
     }
 
 -- and the other way round
-pub tiles_least : (flat s : Size) (pieces across : List (Piece × ℕ)) (T U : ℕ → Type 0) (n : ℕ) → HaveSameTiles flat s → WeighsOnlyPieces s pieces → HasFreeVias s pieces → AreLeastBetweenTiles s pieces across → AreTilesOf s T U →
+pub tiles_least : (flat s : Size) (pieces across : List (Piece × ℕ)) (T U : ℕ → Type 0) (n : ℕ) → HaveSameTiles flat s
+    → WeighsOnlyPieces s pieces → HasFreeVias s pieces → AreLeastBetweenTiles s pieces across → AreTilesOf s T U →
     IsLeastWeight s pieces T n → IsLeastWeight flat across U n
 tiles_least flat s pieces across T U n is only free least are lightest =
     let down = set_below s pieces across lightest.set least lightest.is_set.allowed in
-    let low : (other : List (Piece × ℕ)) → IsSetOf across other → Joins flat (IsAllowed other) U → n ≤ weight other = λ other is_set joins.
+    let low : (other : List (Piece × ℕ)) → IsSetOf across other → Joins flat (IsAllowed other) U → n ≤ weight other =
+    λ other is_set joins.
     let up = set_above s pieces across other free least is_set.allowed in
     omega (
       arith,
       up.light,
       lightest.lightest up.above up.is_set (λ a b at_a at_b.
-          joined_above flat s pieces other up is only a b (are.inside a at_a) (are.inside b at_b) (joins (tile_of s a) (tile_of s b) (are.tile a at_a) (are.tile b at_b))),
+          joined_above flat s pieces other up is only a b (are.inside a at_a) (are.inside b at_b)
+          (joins (tile_of s a) (tile_of s b) (are.tile a at_a) (are.tile b at_b))),
     ) in
-    let joins : Joins flat (IsAllowed down.below) U = joins_tiles flat s (IsAllowed lightest.set) (IsAllowed down.below) T U are (joined_below flat s across lightest.set down is) lightest.joins in
+    let joins : Joins flat (IsAllowed down.below) U =
+    joins_tiles flat s (IsAllowed lightest.set) (IsAllowed down.below) T U are
+    (joined_below flat s across lightest.set down is) lightest.joins in
     record {
       set = down.below;
       is_set = down.is_set;
@@ -264,8 +294,10 @@ tiles_least flat s pieces across T U n is only free least are lightest =
     }
 
 -- no set between two vertices is lighter than all sets between their tiles
-pub within_by_tiles : (flat s : Size) (pieces across : List (Piece × ℕ)) (a b n : ℕ) → HaveSameTiles flat s → AreLeastBetweenTiles s pieces across →
-    ((set : List (Piece × ℕ)) → IsSetOf across set → WalkBetween flat (IsAllowed set) (tile_of s a) (tile_of s b) → n ≤ weight set) →
+pub within_by_tiles : (flat s : Size) (pieces across : List (Piece × ℕ)) (a b n : ℕ) → HaveSameTiles flat s
+    → AreLeastBetweenTiles s pieces across →
+    ((set : List (Piece × ℕ)) → IsSetOf across set → WalkBetween flat (IsAllowed set) (tile_of s a) (tile_of s b)
+    → n ≤ weight set) →
     (set : List (Piece × ℕ)) → IsSetOf pieces set → WalkBetween s (IsAllowed set) a b → n ≤ weight set
 within_by_tiles flat s pieces across a b n is least low set is_set walk =
     let down = set_below s pieces across set least is_set.allowed in

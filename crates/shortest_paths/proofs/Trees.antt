@@ -21,23 +21,28 @@ use Rattle.shortest_paths.proofs.Masks.{bit-single, bit-small}
 use Rattle.shortest_paths.proofs.Sets.{extended, no_pieces}
 
 -- a terminal alone is joined without a piece
-pub has_alone : (s : Size) (pieces : List (Piece × ℕ)) (terminals : List Vertex) (place : ℕ) (v : Vertex) → At terminals place v → IsVertex s v.0 → HasTree s pieces terminals (single place) v.0 0
+pub has_alone : (s : Size) (pieces : List (Piece × ℕ)) (terminals : List Vertex) (place : ℕ) (v : Vertex) → At terminals place v
+    → IsVertex s v.0 → HasTree s pieces terminals (single place) v.0 0
 has_alone s pieces terminals place v at vertex = record {
   set = [];
   is_set = no_pieces pieces;
   joins = Joins-alone s (IsAllowed []) (WithVertex terminals (single place) v.0) v.0 vertex
       (λ w is. ⊎_elim (λ same. same) (λ in_mask.
       let here : in_mask.place ≡ place = bit-single place in_mask.place in_mask.has in
-      ap (λ (x : Vertex). x.0) (same_Some (record { 0 = w }) v (sym in_mask.terminal ∙ subst (λ i. At terminals i v) (sym here) at))) is);
+      ap (λ (x : Vertex). x.0) (same_Some (record { 0 = w }) v
+      (sym in_mask.terminal ∙ subst (λ i. At terminals i v) (sym here) at))) is);
   light = omega arith;
 }
 
 -- the greater the limit, the more sets are within it
-pub has_more : (s : Size) (pieces : List (Piece × ℕ)) (terminals : List Vertex) (mask v x y : ℕ) → HasTree s pieces terminals mask v x → x ≤ y → HasTree s pieces terminals mask v y
-has_more s pieces terminals mask v x y tree more = record { set = tree.set; is_set = tree.is_set; joins = tree.joins; light = omega (arith, tree.light) }
+pub has_more : (s : Size) (pieces : List (Piece × ℕ)) (terminals : List Vertex) (mask v x y : ℕ)
+    → HasTree s pieces terminals mask v x → x ≤ y → HasTree s pieces terminals mask v y
+has_more s pieces terminals mask v x y tree more =
+    record { set = tree.set; is_set = tree.is_set; joins = tree.joins; light = omega (arith, tree.light) }
 
 -- one piece leads on to a neighbour
-pub has_step : (s : Size) (pieces : List (Piece × ℕ)) (terminals : List Vertex) (mask v u x k : ℕ) (p : Piece) → HasTree s pieces terminals mask v x → Weighs pieces p k → Connects s p v u → HasTree s pieces terminals mask u (x + k)
+pub has_step : (s : Size) (pieces : List (Piece × ℕ)) (terminals : List Vertex) (mask v u x k : ℕ) (p : Piece)
+    → HasTree s pieces terminals mask v x → Weighs pieces p k → Connects s p v u → HasTree s pieces terminals mask u (x + k)
 has_step s pieces terminals mask v u x k p tree weighs connects =
     let more = extended pieces tree.set p k tree.is_set weighs in
     record {
@@ -45,8 +50,10 @@ has_step s pieces terminals mask v u x k p tree weighs connects =
       is_set = more.is_set;
       joins = Joins-from_one s (IsAllowed more.new) (WithVertex terminals mask u) v
           (λ w is. ⊎_elim
-          (λ same. subst (WalkBetween s (IsAllowed more.new) v) (sym same) (WalkBetween-piece s (IsAllowed more.new) p v u more.has connects))
-          (λ in_mask. WalkBetween-superset s (IsAllowed tree.set) (IsAllowed more.new) more.kept v w (tree.joins v w (inl refl) (inr in_mask)))
+          (λ same. subst (WalkBetween s (IsAllowed more.new) v) (sym same)
+          (WalkBetween-piece s (IsAllowed more.new) p v u more.has connects))
+          (λ in_mask. WalkBetween-superset s (IsAllowed tree.set) (IsAllowed more.new) more.kept v w
+          (tree.joins v w (inl refl) (inr in_mask)))
           is);
       light = omega (arith, more.light, tree.light);
     }
@@ -59,8 +66,15 @@ pub record IsUnion (pieces one other : List (Piece × ℕ)) : Type 0 where
   pub second : (q : Piece) → IsAllowed other q → IsAllowed new q
   pub light : weight new ≤ weight one + weight other
 
-pub united : (pieces one other : List (Piece × ℕ)) → ((x : Piece × ℕ) → Contains one x → Contains pieces x) → IsSetOf pieces other → IsUnion pieces one other
-united pieces [] other allowed is = record { new = other; is_set = is; first = λ q at. absurd (omega (arith, at.1.1)); second = λ q at. at; light = omega arith }
+pub united : (pieces one other : List (Piece × ℕ)) → ((x : Piece × ℕ) → Contains one x → Contains pieces x)
+    → IsSetOf pieces other → IsUnion pieces one other
+united pieces [] other allowed is = record {
+  new = other;
+  is_set = is;
+  first = λ q at. absurd (omega (arith, at.1.1));
+  second = λ q at. at;
+  light = omega arith;
+}
 united pieces (x ∷ one) other allowed is =
     let rest = united pieces one other (λ y at. allowed y (suc at.0, omega (arith, at.1), at.2)) is in
     let more = extended pieces rest.new x.0 x.1 rest.is_set (allowed x (0, omega arith, refl)) in
@@ -76,14 +90,21 @@ united pieces (x ∷ one) other allowed is =
     }
 
 -- a terminal of a mask is one of a part
-pub in_part : (terminals : List Vertex) (one other mask w : ℕ) → AreParts one other mask → IsInMask terminals mask w → IsInMask terminals one w ⊎ IsInMask terminals other w
+pub in_part : (terminals : List Vertex) (one other mask w : ℕ) → AreParts one other mask → IsInMask terminals mask w
+    → IsInMask terminals one w ⊎ IsInMask terminals other w
 in_part terminals one other mask w parts is = ⊎_elim
     (λ has. inl (record { place = is.place; terminal = is.terminal; has = has }))
-    (λ not. inr (record { place = is.place; terminal = is.terminal; has = omega (arith, parts.shared is.place, is.has, bit-small one is.place, bit-small other is.place) }))
+    (λ not. inr (record {
+      place = is.place;
+      terminal = is.terminal;
+      has = omega (arith, parts.shared is.place, is.has, bit-small one is.place, bit-small other is.place);
+    }))
     (cases_eq (bit one is.place) 1)
 
 -- two parts of a mask that meet in a vertex
-pub has_union : (s : Size) (pieces : List (Piece × ℕ)) (terminals : List Vertex) (one other mask v x y : ℕ) → AreParts one other mask → HasTree s pieces terminals one v x → HasTree s pieces terminals other v y → HasTree s pieces terminals mask v (x + y)
+pub has_union : (s : Size) (pieces : List (Piece × ℕ)) (terminals : List Vertex) (one other mask v x y : ℕ)
+    → AreParts one other mask → HasTree s pieces terminals one v x → HasTree s pieces terminals other v y
+    → HasTree s pieces terminals mask v (x + y)
 has_union s pieces terminals one other mask v x y parts first second =
     let both = united pieces first.set second.set first.is_set.allowed second.is_set in
     record {
@@ -91,10 +112,13 @@ has_union s pieces terminals one other mask v x y parts first second =
       is_set = both.is_set;
       joins = Joins-from_one s (IsAllowed both.new) (WithVertex terminals mask v) v
           (λ w is. ⊎_elim
-          (λ same. WalkBetween-superset s (IsAllowed first.set) (IsAllowed both.new) both.first v w (first.joins v w (inl refl) (inl same)))
+          (λ same. WalkBetween-superset s (IsAllowed first.set) (IsAllowed both.new) both.first v w
+          (first.joins v w (inl refl) (inl same)))
           (λ in_mask. ⊎_elim
-          (λ in_one. WalkBetween-superset s (IsAllowed first.set) (IsAllowed both.new) both.first v w (first.joins v w (inl refl) (inr in_one)))
-          (λ in_other. WalkBetween-superset s (IsAllowed second.set) (IsAllowed both.new) both.second v w (second.joins v w (inl refl) (inr in_other)))
+          (λ in_one. WalkBetween-superset s (IsAllowed first.set) (IsAllowed both.new) both.first v w
+          (first.joins v w (inl refl) (inr in_one)))
+          (λ in_other. WalkBetween-superset s (IsAllowed second.set) (IsAllowed both.new) both.second v w
+          (second.joins v w (inl refl) (inr in_other)))
           (in_part terminals one other mask w parts in_mask))
           is);
       light = omega (arith, both.light, first.light, second.light);

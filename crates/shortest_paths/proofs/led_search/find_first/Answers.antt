@@ -13,8 +13,11 @@ use Rattle.shortest_paths.proofs.led_search.find_first.Goals as goal
 
 pub find-requires : goal.find-requires
 find-requires c = record {
-  spot = listed_spot (size_in c.loop-vertex.row) (size_in c.args.row.now) c.args.vertices.now c.loop-vertex.vertex-index (record { 0 = 0 }) c.of-at.result c.requires.vertices
-      (sym c.loop-vertex.invariant.size) c.loop-vertex-test.true (c.of-at.ensures ∙ ap (λ (x : Size). spot_at x (get_or c.args.vertices.now c.loop-vertex.vertex-index (record { 0 = 0 })).0) c.size.ensures);
+  spot = listed_spot (size_in c.loop-vertex.row) (size_in c.args.row.now) c.args.vertices.now c.loop-vertex.vertex-index
+      (record { 0 = 0 }) c.of-at.result c.requires.vertices
+      (sym c.loop-vertex.invariant.size) c.loop-vertex-test.true
+      (c.of-at.ensures ∙ ap (λ (x : Size). spot_at x
+      (get_or c.args.vertices.now c.loop-vertex.vertex-index (record { 0 = 0 })).0) c.size.ensures);
 }
 
 pub loop-vertex-preserved : goal.loop-vertex-preserved
@@ -33,11 +36,13 @@ loop-vertex-preserved c =
       numbers = λ u. after.numbers u ∙ before.numbers u;
       waits = λ u key held. before.waits u key (after.waits u key held);
       in_list = λ u low. ⊎_elim
-          (λ here. subst (InVertices vertices) (sym (here ∙ at)) (Contains-get_or vertices i (record { 0 = 0 }) c.loop-vertex-test.true))
+          (λ here. subst (InVertices vertices) (sym (here ∙ at))
+          (Contains-get_or vertices i (record { 0 = 0 }) c.loop-vertex-test.true))
           (λ found. before.in_list u found)
           (after.others u low);
       first = All-more P vertices i (record { 0 = 0 }) c.loop-vertex-test.true
-          (All-weaker (λ (w : Vertex). index_in old w.0 < old.len) P (λ w low. omega (arith, low, after.found.kept w.0 low, after.found.more)) (take i vertices) before.first)
+          (All-weaker (λ (w : Vertex). index_in old w.0 < old.len) P
+          (λ w low. omega (arith, low, after.found.kept w.0 low, after.found.more)) (take i vertices) before.first)
           (subst (λ u. index_in new u < new.len) at after.here);
     }
 
@@ -50,5 +55,9 @@ returns-clause-first c =
     record {
       room = omega (arith, c.len.ensures);
       in_list = λ v low. c.loop-vertex.invariant.in_list v (omega (arith, low, c.len.ensures));
-      first = λ v is. omega (arith, c.len.ensures, All-contains (λ (w : Vertex). index_in found w.0 < found.len) vertices (record { 0 = v }) first is);
+      first = λ v is. omega (
+        arith,
+        c.len.ensures,
+        All-contains (λ (w : Vertex). index_in found w.0 < found.len) vertices (record { 0 = v }) first is,
+      );
     }

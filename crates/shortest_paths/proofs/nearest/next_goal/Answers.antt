@@ -21,7 +21,8 @@ returns-then-is_goal-clause-fell g c =
     let pieces = g.W.Weights.pieces c.args.weights.now in
     let old = c.loop-bound.row in
     let mid = c.take-at.new.self in
-    FallsFrom-trans s pieces c.args.row.now old mid c.loop-bound.invariant.fell (FallsFrom-same s pieces old mid (same_found old mid c.take-at.ensures.found) c.take-at.ensures.numbers)
+    FallsFrom-trans s pieces c.args.row.now old mid c.loop-bound.invariant.fell
+    (FallsFrom-same s pieces old mid (same_found old mid c.take-at.ensures.found) c.take-at.ensures.numbers)
 
 pub returns-then-is_goal-clause-number : goal.returns-then-is_goal-clause-number
 returns-then-is_goal-clause-number g c =
@@ -40,9 +41,12 @@ returns-then-is_goal-clause-nearest g c =
     let source = c.args.source.0 in
     let at = c.take-at.result.vertex.0 in
     let start : number_in old source ≡ 0 = omega (arith, c.requires.source, before.fell.falls source) in
-    let is = taken_nearest s pieces (2 ^ 62) old count source at before.search before.settled before.waits start c.take-at.ensures.least (omega arith) in
-    nearer_of s pieces source (IsFoundGoal old count source) (IsFoundGoal mid count source) (number_in old at) (number_in mid at)
-    (λ v goal. goal_before old mid count source v (same_found old mid c.take-at.ensures.found) (omega (arith, c.requires.count, before.fell.found.more)) goal)
+    let is = taken_nearest s pieces (2 ^ 62) old count source at before.search before.settled before.waits start
+    c.take-at.ensures.least (omega arith) in
+    nearer_of s pieces source (IsFoundGoal old count source) (IsFoundGoal mid count source) (number_in old at)
+    (number_in mid at)
+    (λ v goal. goal_before old mid count source v (same_found old mid c.take-at.ensures.found)
+    (omega (arith, c.requires.count, before.fell.found.more)) goal)
     (omega (arith, c.take-at.ensures.numbers at)) is
 
 pub spread-requires-clause-search : goal.spread-requires-clause-search
@@ -74,10 +78,12 @@ loop-bound-preserved g c =
     let count = c.args.count in
     let source = c.args.source.0 in
     let at = c.take-at.result.vertex.0 in
-    let fell : FallsFrom s pieces old new = FallsFrom-trans s pieces old mid new (FallsFrom-same s pieces old mid (same_found old mid taken.found) taken.numbers) after.goes_on.fell in
+    let fell : FallsFrom s pieces old new = FallsFrom-trans s pieces old mid new
+    (FallsFrom-same s pieces old mid (same_found old mid taken.found) taken.numbers) after.goes_on.fell in
     record {
       search = after.search;
-      settled = settled_on s pieces (λ _. 0) (2 ^ 62) (number_in old) (number_in new) (Waits old) (Waits mid) (Waits new) at before.settled
+      settled = settled_on s pieces (λ _. 0) (2 ^ 62) (number_in old) (number_in new) (Waits old) (Waits mid)
+          (Waits new) at before.settled
           (λ v other waits. (waits.0, taken.kept v waits.0 other waits.1))
           (λ v. omega (arith, after.goes_on.fell.falls v, taken.numbers v))
           (λ v. ⊎_elim (λ same. inl (same ∙ taken.numbers v)) (λ waits. inr waits) (after.goes_on.changed v))
@@ -85,10 +91,13 @@ loop-bound-preserved g c =
       fell = FallsFrom-trans s pieces c.args.row.now old new before.fell fell;
       waits = λ v goal has. ⊎_elim
           (λ same.
-          let was = goal_before old new count source v fell.found (omega (arith, c.requires.count, before.fell.found.more)) goal in
+          let was = goal_before old new count source v fell.found
+          (omega (arith, c.requires.count, before.fell.found.more)) goal in
           let waits = before.waits v was (omega (arith, has, same, taken.numbers v)) in
-          let on_mid : IsFoundGoal mid count source v = (subst (λ (f : Found). index_in f v < count) (sym taken.found) was.0, was.1) in
-          let other : v ≢ at = λ here. let yes : IsTrue false = subst IsTrue c.if-is_goal.false (c.is_goal.ensures.1 (subst (IsFoundGoal mid count source) here on_mid)) in cc in
+          let on_mid : IsFoundGoal mid count source v =
+          (subst (λ (f : Found). index_in f v < count) (sym taken.found) was.0, was.1) in
+          let other : v ≢ at = λ here. let yes : IsTrue false =
+          subst IsTrue c.if-is_goal.false (c.is_goal.ensures.1 (subst (IsFoundGoal mid count source) here on_mid)) in cc in
           after.goes_on.kept v (waits.0, taken.kept v waits.0 other waits.1))
           (λ waits. waits)
           (after.goes_on.changed v);
@@ -100,5 +109,6 @@ returns-clause-none g c none =
     let pieces = g.W.Weights.pieces c.args.weights.now in
     let before = c.loop-bound.invariant in
     let source = c.args.source.0 in
-    idle_nearest s pieces (2 ^ 62) c.loop-bound.row c.args.count source before.search before.settled before.waits (omega (arith, c.requires.source, before.fell.falls source))
+    idle_nearest s pieces (2 ^ 62) c.loop-bound.row c.args.count source before.search before.settled before.waits
+    (omega (arith, c.requires.source, before.fell.falls source))
     (c.is_waiting.ensures.none c.loop-bound-test.false) (omega arith)

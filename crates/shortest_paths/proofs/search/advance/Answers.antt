@@ -28,7 +28,8 @@ returns-clause-settled g c =
     let pieces = g.W.Weights.pieces c.args.weights.now in
     let after = c.spread.ensures in
     let taken = c.take-from.ensures in
-    settled_on s pieces (g.B.Bound.rest c.args.bound.now) c.args.limit (number_in c.args.row.now) (number_in c.spread.new.row) (Waits c.args.row.now) (Waits c.take-from.new.self) (Waits c.spread.new.row)
+    settled_on s pieces (g.B.Bound.rest c.args.bound.now) c.args.limit (number_in c.args.row.now) (number_in c.spread.new.row)
+    (Waits c.args.row.now) (Waits c.take-from.new.self) (Waits c.spread.new.row)
     c.take-from.result.vertex.0 c.requires.settled (λ v other waits. (waits.0, taken.kept v waits.0 other waits.1))
     (λ v. omega (arith, after.goes_on.fell.falls v, taken.numbers v))
     (λ v. ⊎_elim (λ same. inl (same ∙ taken.numbers v)) (λ waits. inr waits) (after.goes_on.changed v))
@@ -40,5 +41,7 @@ returns-clause-fell g c =
     let pieces = g.W.Weights.pieces c.args.weights.now in
     let old = c.args.row.now in
     let mid = c.take-from.new.self in
-    let found : FindsMore old.found mid.found = subst (λ (f : Found). FindsMore old.found f) (sym c.take-from.ensures.found) (FindsMore-refl old.found) in
-    FallsFrom-trans s pieces old mid c.spread.new.row (FallsFrom-same s pieces old mid found c.take-from.ensures.numbers) c.spread.ensures.goes_on.fell
+    let found : FindsMore old.found mid.found =
+    subst (λ (f : Found). FindsMore old.found f) (sym c.take-from.ensures.found) (FindsMore-refl old.found) in
+    FallsFrom-trans s pieces old mid c.spread.new.row
+    (FallsFrom-same s pieces old mid found c.take-from.ensures.numbers) c.spread.ensures.goes_on.fell

@@ -10,5 +10,7 @@ invariant-loop-goal g l = record {
   search : IsSearch (g.B.Bound.rest l.bound) l.limit l.row;
   settled : IsSettled (g.W.Weights.size l.weights) (g.W.Weights.pieces l.weights) (g.B.Bound.rest l.bound) l.limit l.row;
   fell : FallsFrom (g.W.Weights.size l.weights) (g.W.Weights.pieces l.weights) l.initial.row l.row;
-  low : (source : ℕ) → number_in l.initial.row source ≡ 0 → All (λ (v : Vertex). IsLow (g.W.Weights.size l.weights) (g.W.Weights.pieces l.weights) source (number_in l.row) v.0) (take l.goal-index l.goals);
+  low : (source : ℕ) → number_in l.initial.row source ≡ 0
+      → All (λ (v : Vertex). IsLow (g.W.Weights.size l.weights) (g.W.Weights.pieces l.weights) source (number_in l.row) v.0)
+      (take l.goal-index l.goals);
 }

@@ -10,7 +10,8 @@ use Rattle.shortest_paths.proofs.search.start_each.Goals as goal
 
 pub offer-requires-clause-to : goal.offer-requires-clause-to
 offer-requires-clause-to g c =
-    source_spot (size_in c.loop-source.row) (size_in c.args.row.now) c.size.result c.args.sources.now c.loop-source.source-index (record { 0 = 0 }) c.of-from.result c.requires.sources
+    source_spot (size_in c.loop-source.row) (size_in c.args.row.now) c.size.result c.args.sources.now c.loop-source.source-index
+    (record { 0 = 0 }) c.of-from.result c.requires.sources
     c.loop-source.invariant.size c.size.ensures c.loop-source-test.true c.of-from.ensures
 
 pub loop-source-init : goal.loop-source-init
@@ -36,14 +37,16 @@ loop-source-preserved g c =
     let after = c.offer.ensures in
     let to = c.of-from.result.vertex.0 in
     let at : to ≡ v.0 = ap (λ (x : Spot). x.vertex.0) c.of-from.ensures in
-    let member : InVertices sources to = subst (InVertices sources) (sym at) (Contains-get_or sources i (record { 0 = 0 }) c.loop-source-test.true) in
+    let member : InVertices sources to = subst (InVertices sources) (sym at)
+    (Contains-get_or sources i (record { 0 = 0 }) c.loop-source-test.true) in
     let P : Vertex → Type 0 = λ w. number_in new w.0 ≡ 0 in
     record {
       size = after.taken.found.size ∙ before.size;
       search = after.search;
       started = started_more sources old new to member after.taken before.started;
       zero = All-more P sources i (record { 0 = 0 }) c.loop-source-test.true
-          (All-weaker (λ (w : Vertex). number_in old w.0 ≡ 0) P (λ w zero. omega (arith, zero, after.taken.falls w.0)) (take i sources) before.zero)
+          (All-weaker (λ (w : Vertex). number_in old w.0 ≡ 0) P (λ w zero. omega (arith, zero, after.taken.falls w.0))
+          (take i sources) before.zero)
           (subst (λ u. number_in new u ≡ 0) at (omega (arith, after.free (omega (arith, c.requires.limit)))));
     }
 

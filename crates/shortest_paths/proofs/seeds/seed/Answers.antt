@@ -9,15 +9,19 @@ use Rattle.shortest_paths.proofs.Masks.{parts_sum}
 use Rattle.shortest_paths.proofs.Seeding.{seeded_none, sum_offered_on}
 use Rattle.shortest_paths.proofs.Spreading.{still_answered}
 use Rattle.shortest_paths.proofs.seeds.seed.Goals as goal
-use Rattle.shortest_paths.proofs.seeds.seed.Goals.{then-one-mask+then-is_part, else-one-mask, else-one-mask-via-then-one-mask+else-is_part, else-one-mask-via-else-one-mask}
+use Rattle.shortest_paths.proofs.seeds.seed.Goals.{then-one-mask+then-is_part, else-one-mask}
+use Rattle.shortest_paths.proofs.seeds.seed.Goals.{else-one-mask-via-then-one-mask+else-is_part}
+use Rattle.shortest_paths.proofs.seeds.seed.Goals.{else-one-mask-via-else-one-mask}
 
 pub seed_alone-requires-clause-search : goal.seed_alone-requires-clause-search
 seed_alone-requires-clause-search g c =
-    (seeded_none c.args.rows.now c.args.terminals.now c.args.mask (g.B.Bound.rest c.args.bound.now) c.args.limit c.args.row.now c.requires.kept c.requires.none c.requires.idle).search
+    (seeded_none c.args.rows.now c.args.terminals.now c.args.mask
+    (g.B.Bound.rest c.args.bound.now) c.args.limit c.args.row.now c.requires.kept c.requires.none c.requires.idle).search
 
 pub loop-one-init : goal.loop-one-init
 loop-one-init g c =
-    let begun = seeded_none c.args.rows.now c.args.terminals.now c.args.mask (g.B.Bound.rest c.args.bound.now) c.args.limit c.args.row.now c.requires.kept c.requires.none c.requires.idle in
+    let begun = seeded_none c.args.rows.now c.args.terminals.now c.args.mask
+    (g.B.Bound.rest c.args.bound.now) c.args.limit c.args.row.now c.requires.kept c.requires.none c.requires.idle in
     record {
       found = c.seed_alone.ensures.found;
       seeded = c.seed_alone.ensures.seeded c.args.rows.now begun;
@@ -41,19 +45,24 @@ loop-one-preserved g c =
           rw w.row-is (record {
             found = FindsMore-trans c.args.row.now.found old.found new.found before.found after.found;
             seeded = after.seeded c.args.terminals.now before.seeded;
-            alone = λ place v low at is. still_answered (number_in old) (number_in new) rest limit v.0 0 after.falls (before.alone place v low at is);
+            alone = λ place v low at is. still_answered (number_in old) (number_in new) rest limit v.0 0 after.falls
+                (before.alone place v low at is);
             splits = λ one other v low less parts. ⊎_elim
                 (λ last.
                 let same : other ≡ mask - first = omega (arith, last, parts_sum one other mask parts) in
-                subst (λ m. IsSumOffered (table_of rows new) m other rest limit (number_in new) v) (sym last) (subst (λ m. IsSumOffered (table_of rows new) first m rest limit (number_in new) v) (sym same) (after.offered v)))
-                (λ earlier. sum_offered_on rows old new one other rest limit v after.found before.seeded.kept after.falls (before.splits one other v (omega arith) less parts))
+                subst (λ m. IsSumOffered (table_of rows new) m other rest limit (number_in new) v) (sym last)
+                (subst (λ m. IsSumOffered (table_of rows new) first m rest limit (number_in new) v) (sym same)
+                (after.offered v)))
+                (λ earlier. sum_offered_on rows old new one other rest limit v after.found before.seeded.kept after.falls
+                (before.splits one other v (omega arith) less parts))
                 (cases_eq one first);
           })
       | else-one-mask w ↦
           let none : (other : ℕ) → first ≤ other → AreParts first other mask → ⊥ = λ other less parts.
           let same : other ≡ mask - first = omega (arith, parts_sum first other mask parts) in
           elim w.else-one-mask.branch [
-            | else-one-mask-via-then-one-mask+else-is_part x ↦ (let yes : IsTrue false = x.if-is_part.ensures.1 (subst (λ m. AreParts first m mask) same parts) in cc)
+            | else-one-mask-via-then-one-mask+else-is_part x
+                ↦ (let yes : IsTrue false = x.if-is_part.ensures.1 (subst (λ m. AreParts first m mask) same parts) in cc)
             | else-one-mask-via-else-one-mask x ↦ omega (arith, x.if-one-mask.false, less, same)
           ] in
           rw w.row-is (record {

@@ -27,7 +27,8 @@ offer-requires-clause-to g c =
     let s = size_in c.loop-place.row in
     let t = get_or c.args.terminals.now c.loop-place.place none in
     let inside : c.loop-place.place < length c.args.terminals.now = omega (arith, c.loop-place-test.true, c.requires.few) in
-    let vertex : IsVertex s t.0 = subst (λ (x : Size). IsVertex x t.0) (sym c.loop-place.invariant.found.size) (c.requires.terminals c.loop-place.place none inside) in
+    let vertex : IsVertex s t.0 = subst (λ (x : Size). IsVertex x t.0) (sym c.loop-place.invariant.found.size)
+    (c.requires.terminals c.loop-place.place none inside) in
     let is : c.of-at.result ≡ spot_at s t.0 = c.of-at.ensures ∙ ap (λ (x : Size). spot_at x t.0) c.size.ensures in
     subst (IsSpot s) (sym is) (spot_at-is s t.0 vertex)
 
@@ -51,17 +52,23 @@ loop-place-preserved g c =
           let new = w.offer.new.row in
           let to = w.of-at.result.vertex in
           let here : to ≡ t = ap (λ (x : Spot). x.vertex) w.of-at.ensures in
-          let vertex : IsVertex (size_in old) to.0 = subst (λ (x : Size). IsVertex x to.0) (sym before.found.size) (subst (λ (x : Vertex). IsVertex (size_in c.args.row.now) x.0) (sym here) (c.requires.terminals p none inside)) in
-          let alone : IsAlone terminals mask to.0 = (p, subst (At terminals p) (sym here) at, w.if-mask-place.true ∙ alone_mask) in
+          let vertex : IsVertex (size_in old) to.0 =
+          subst (λ (x : Size). IsVertex x to.0) (sym before.found.size)
+          (subst (λ (x : Vertex). IsVertex (size_in c.args.row.now) x.0) (sym here) (c.requires.terminals p none inside)) in
+          let alone : IsAlone terminals mask to.0 =
+          (p, subst (At terminals p) (sym here) at, w.if-mask-place.true ∙ alone_mask) in
           rw w.row-is (record {
             search = after.search;
             found = FindsMore-trans c.args.row.now.found old.found new.found before.found after.taken.found;
-            seeded = λ rows seeded. seeded_offer rows terminals mask rest limit old new to.0 0 after.taken after.search vertex (inl alone) (before.seeded rows seeded);
+            seeded = λ rows seeded. seeded_offer rows terminals mask rest limit old new to.0 0 after.taken after.search vertex
+                (inl alone) (before.seeded rows seeded);
             alone = λ place v low at_v is. ⊎_elim
                 (λ last.
-                let same : v ≡ to = same_Some v to (sym (subst (λ n. At terminals n v) last at_v) ∙ subst (At terminals p) (sym here) at) in
+                let same : v ≡ to = same_Some v to (sym (subst (λ n. At terminals n v) last at_v)
+                ∙ subst (At terminals p) (sym here) at) in
                 subst (λ (x : Vertex). IsAnswered (number_in new) rest limit x.0 0) (sym same) after.answered)
-                (λ earlier. still_answered (number_in old) (number_in new) rest limit v.0 0 after.taken.falls (before.alone place v (omega arith) at_v is))
+                (λ earlier. still_answered (number_in old) (number_in new) rest limit v.0 0 after.taken.falls
+                (before.alone place v (omega arith) at_v is))
                 (cases_eq place p);
           })
       | else-mask-place w ↦

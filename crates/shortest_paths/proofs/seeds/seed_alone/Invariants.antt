@@ -9,6 +9,7 @@ abbrev pub invariant-loop-place : goal.invariant-loop-place
 invariant-loop-place g l = record {
   search : IsSearch (g.B.Bound.rest l.bound) l.limit l.row;
   found : FindsMore l.initial.row.found l.row.found;
-  seeded : (rows : KeptRows) → IsSeeded rows l.terminals l.mask (g.B.Bound.rest l.bound) l.limit l.initial.row → IsSeeded rows l.terminals l.mask (g.B.Bound.rest l.bound) l.limit l.row;
+  seeded : (rows : KeptRows) → IsSeeded rows l.terminals l.mask (g.B.Bound.rest l.bound) l.limit l.initial.row
+      → IsSeeded rows l.terminals l.mask (g.B.Bound.rest l.bound) l.limit l.row;
   alone : AreOffered l.terminals l.mask (g.B.Bound.rest l.bound) l.limit (number_in l.row) l.place;
 }

@@ -11,6 +11,8 @@ invariant-loop-index g l = record {
   search : IsSearch (g.B.Bound.rest l.bound) l.limit l.row;
   found : FindsMore l.initial.row.found l.row.found;
   falls : (v : ℕ) → number_in l.row v ≤ number_in l.initial.row v;
-  seeded : (terminals : List Vertex) → IsSeeded l.rows terminals l.mask (g.B.Bound.rest l.bound) l.limit l.initial.row → IsSeeded l.rows terminals l.mask (g.B.Bound.rest l.bound) l.limit l.row;
-  offered : (v : ℕ) → index_in l.initial.row.found v < l.index → IsSumOffered (table_of l.rows l.row) l.one (l.mask - l.one) (g.B.Bound.rest l.bound) l.limit (number_in l.row) v;
+  seeded : (terminals : List Vertex) → IsSeeded l.rows terminals l.mask (g.B.Bound.rest l.bound) l.limit l.initial.row
+      → IsSeeded l.rows terminals l.mask (g.B.Bound.rest l.bound) l.limit l.row;
+  offered : (v : ℕ) → index_in l.initial.row.found v < l.index
+      → IsSumOffered (table_of l.rows l.row) l.one (l.mask - l.one) (g.B.Bound.rest l.bound) l.limit (number_in l.row) v;
 }

@@ -7,7 +7,8 @@ pub invariant_of-result : goal.invariant_of-result
 invariant_of-result g c =
     let pieces = g.W.Weights.pieces c.args.weights.now in
     let cut = c.lowered.ensures in
-    let low = AreFloors-lowered c.lowered.result c.args.floors max_weight pieces (record { x = cut.x; y = cut.y; via = cut.via }) c.requires.floors in
+    let low = AreFloors-lowered c.lowered.result c.args.floors max_weight pieces
+    (record { x = cut.x; y = cut.y; via = cut.via }) c.requires.floors in
     record {
       sized = c.requires.size;
       inside = c.place_of.ensures.inside;
