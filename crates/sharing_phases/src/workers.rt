@@ -54,9 +54,8 @@ pub(crate) fn route_parts<R: Threads + Sync, G: Gate>(
             requires { IsSync R.row × IsPhase (phase_of design.now grounds.now table.now earlier.now workers budget)
                 × ((first < middle) × (middle ≤ workers))
                 × ServesParts (phase_of design.now grounds.now table.now earlier.now workers budget) first middle share }
-            ensures { IfOk result (λ r. RoutesParts
-                (phase_of design.entry.now grounds.entry.now table.entry.now earlier.entry.now workers budget)
-                first middle share r.0 r.1.items) }
+            ensures { IfOk result (λ r. RoutesParts (phase_of design.entry.now grounds.entry.now table.entry.now
+                earlier.entry.now workers budget) first middle share r.0 r.1.items) }
         {
             route_parts(
                 rt, alloc, design, grounds, table, earlier, workers, budget, gate, share, first,
@@ -67,9 +66,8 @@ pub(crate) fn route_parts<R: Threads + Sync, G: Gate>(
             requires { IsSync R.row × IsPhase (phase_of design.now grounds.now table.now earlier.now workers budget)
                 × ((middle < last) × (last ≤ workers))
                 × ServesParts (phase_of design.now grounds.now table.now earlier.now workers budget) middle last given }
-            ensures { IfOk result (λ r. RoutesParts
-                (phase_of design.entry.now grounds.entry.now table.entry.now earlier.entry.now workers budget)
-                middle last given r.0 r.1.items) }
+            ensures { IfOk result (λ r. RoutesParts (phase_of design.entry.now grounds.entry.now table.entry.now
+                earlier.entry.now workers budget) middle last given r.0 r.1.items) }
         {
             route_parts(
                 rt, alloc, design, grounds, table, earlier, workers, budget, gate, given, middle,
