@@ -55,12 +55,10 @@ pub(crate) fn repair_parts<R: Threads + Sync, G: Gate>(
         rt,
         move || -> Result<(Share, Vec<Tree>), NoMemory>
             requires { IsSync R.row × IsRound (round_of design.now grounds.now table.now trees.now positions.now workers budget)
-                × ((first < middle) × (middle ≤ workers))
-                × ServesTurns (round_of design.now grounds.now table.now trees.now positions.now workers budget)
-                first middle share }
-            ensures { IfOk result (λ r. HadTurns
-                (round_of design.entry.now grounds.entry.now table.entry.now trees.entry.now positions.entry.now workers budget)
-                first middle share r.0 r.1.items) }
+                × ((first < middle) × (middle ≤ workers)) × ServesTurns (round_of design.now grounds.now table.now trees.now
+                positions.now workers budget) first middle share }
+            ensures { IfOk result (λ r. HadTurns (round_of design.entry.now grounds.entry.now table.entry.now trees.entry.now
+                positions.entry.now workers budget) first middle share r.0 r.1.items) }
         {
             repair_parts(
                 rt, alloc, design, grounds, table, trees, positions, workers, budget, gate, share,
@@ -69,12 +67,10 @@ pub(crate) fn repair_parts<R: Threads + Sync, G: Gate>(
         },
         move || -> Result<(Share, Vec<Tree>), NoMemory>
             requires { IsSync R.row × IsRound (round_of design.now grounds.now table.now trees.now positions.now workers budget)
-                × ((middle < last) × (last ≤ workers))
-                × ServesTurns (round_of design.now grounds.now table.now trees.now positions.now workers budget)
-                middle last given }
-            ensures { IfOk result (λ r. HadTurns
-                (round_of design.entry.now grounds.entry.now table.entry.now trees.entry.now positions.entry.now workers budget)
-                middle last given r.0 r.1.items) }
+                × ((middle < last) × (last ≤ workers)) × ServesTurns (round_of design.now grounds.now table.now trees.now
+                positions.now workers budget) middle last given }
+            ensures { IfOk result (λ r. HadTurns (round_of design.entry.now grounds.entry.now table.entry.now trees.entry.now
+                positions.entry.now workers budget) middle last given r.0 r.1.items) }
         {
             repair_parts(
                 rt, alloc, design, grounds, table, trees, positions, workers, budget, gate, given,
