@@ -5,8 +5,8 @@ ghost use Rattle.std.specs.Prelude.{◌≡◌, ◌≢◌, [], drop, IsErr, IsOkA
 ghost use Rattle.std.specs.Process.{exit_status};
 ghost use Rattle.std.specs.IoError.{error_kind};
 ghost use Rattle.std.specs.Vec.Iter.{into_iter_items};
-ghost use Rattle.router_cli.specs.declared.refusal.Refusal.TheVariants.{NoMemory};
-ghost use Rattle.router_cli.specs.Lines.{status_of};
+ghost use Rattle.judge_cli.specs.declared.refusal.Refusal.TheVariants.{NoMemory};
+ghost use Rattle.judge_cli.specs.Lines.{status_of};
 ghost use Rattle.router_cli.specs.Runs.{IsRun};
 
 use gr_desk::{Desk, RealDesk};

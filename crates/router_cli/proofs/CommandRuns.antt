@@ -13,21 +13,21 @@ use Rattle.command_words.specs.CommandLine.{route_form, measure_form, judge_form
 use Rattle.gr_desk.specs.declared.port.Port.TheVariants.{Report}
 use Rattle.gr_desk.specs.Runs.{Adds}
 use Rattle.gr_desk.specs.Told.{Told}
-use Rattle.router_cli.specs.declared.answer.Answer.{Answer}
-use Rattle.router_cli.specs.declared.refusal.Refusal.TheVariants.{NoCommand, NoMemory}
-use Rattle.router_cli.specs.AnsweredRun.{IsAnsweredRun}
-use Rattle.router_cli.specs.JudgeRun.{JudgeTask, IsJudgeAnswer, judge_sources, judge_task_of, judge_task_of_words}
-use Rattle.router_cli.specs.Lines.{lines_of, status_of}
+use Rattle.judge_cli.specs.declared.answer.Answer.{Answer}
+use Rattle.judge_cli.specs.declared.refusal.Refusal.TheVariants.{NoCommand, NoMemory}
+use Rattle.judge_cli.specs.AnsweredRun.{IsAnsweredRun}
+use Rattle.judge_cli.specs.JudgeRun.{JudgeTask, IsJudgeAnswer, judge_sources, judge_task_of, judge_task_of_words}
+use Rattle.judge_cli.specs.Lines.{lines_of, status_of}
 use Rattle.router_cli.specs.MakeRun.{make_task_of_words}
-use Rattle.router_cli.specs.MeasureRun.{MeasureTask, IsMeasureAnswer, measure_sources, measure_task_of, measure_task_of_words}
+use Rattle.judge_cli.specs.MeasureRun.{MeasureTask, IsMeasureAnswer, measure_sources, measure_task_of, measure_task_of_words}
 use Rattle.router_cli.specs.Runs.{IsRun}
-use Rattle.router_cli.specs.Sources.{Source, ports_of}
+use Rattle.judge_cli.specs.Sources.{Source, ports_of}
 use Rattle.router_cli.specs.Tasks.{task_of_words}
-use Rattle.router_cli.specs.Traces.{OutputFailed}
+use Rattle.judge_cli.specs.Traces.{OutputFailed}
 use Rattle.router_cli.specs.TrialRun.{trial_task_of_words}
-use Rattle.router_cli.proofs.AnsweredRuns.{AreInputs, run-not_said}
-use Rattle.router_cli.proofs.JudgedRuns.{report-not_measured, report-not_judged}
-use Rattle.router_cli.proofs.ReadFiles.{reads-nothing}
+use Rattle.judge_cli.proofs.AnsweredRuns.{AreInputs, run-not_said}
+use Rattle.judge_cli.proofs.JudgedRuns.{report-not_measured, report-not_judged}
+use Rattle.judge_cli.proofs.ReadFiles.{reads-nothing}
 use Rattle.router_cli.proofs.MadeRuns.{make-no_memory, trial-no_memory}
 use Rattle.router_cli.proofs.RouteRuns.{run-no_memory, run-no_command}
 

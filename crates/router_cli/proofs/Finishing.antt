@@ -4,18 +4,18 @@ use Rattle.std.specs.Prelude.{Result, ◌⊎◌, Some}
 use Rattle.std.specs.Io.KnownBytes.{Appends}
 use Rattle.gr_desk.specs.declared.port.Port.{Port}
 use Rattle.gr_desk.specs.declared.port.Port.TheVariants.{RoutesOut, CertOut, Report}
-use Rattle.gr_desk.specs.declared.state.State.TheVariants.{Fresh}
 use Rattle.gr_desk.specs.Calls.{IsOrderlyCreate}
 use Rattle.gr_desk.specs.Causes.{Rose}
 use Rattle.gr_desk.specs.Runs.{Adds}
 use Rattle.gr_desk.specs.Told.{Told, PortTold}
 use Rattle.router_cli.specs.Finishing.{AreOrderlyCreates, MakesFiles, Finishes}
 use Rattle.router_cli.specs.Headline.{Texts}
-use Rattle.router_cli.specs.Lines.{done_status, unwritten_status, unwritten_line}
-use Rattle.router_cli.specs.Outputs.{HasFile, HasPart, Makes}
+use Rattle.judge_cli.specs.Lines.{done_status, unwritten_status, unwritten_line}
+use Rattle.judge_cli.specs.Outputs.{HasFile, HasPart, Makes}
 use Rattle.router_cli.specs.Tasks.{RouteTask}
-use Rattle.router_cli.specs.Traces.{ReportGains, TouchesOnly, OutputFailed, but_for_output}
-use Rattle.router_cli.proofs.Traces.{contained_in_two, but_for_output-of}
+use Rattle.judge_cli.specs.Traces.{ReportGains, TouchesOnly, OutputFailed, but_for_output}
+use Rattle.judge_cli.proofs.MadeFiles.{file-keeps, part-keeps, same-keeps, still_orderly}
+use Rattle.judge_cli.proofs.Traces.{contained_in_two}
 
 routes_is_not_cert : RoutesOut ≢ CertOut
 routes_is_not_cert h = cc
@@ -25,14 +25,6 @@ routes_is_not_report h = cc
 
 cert_is_not_report : CertOut ≢ Report
 cert_is_not_report h = cc
-
--- the certificate's port is created in order where it was before another one was touched
-still_orderly : (a b : Told) (port : Port) (name : List ℕ) → b.ports port ≡ a.ports port → IsOrderlyCreate a port name → IsOrderlyCreate b port name
-still_orderly a b port name same orderly = record {
-  output = orderly.output;
-  fresh = subst (λ (p : PortTold). p.state ≡ Some Fresh) (sym same) orderly.fresh;
-  expected = subst (λ (p : PortTold). p.expected ≡ Some (Some name)) (sym same) orderly.expected;
-}
 
 -- where the routes failed, so did the files
 pub files-no_routes : {S F T E : Type 0} (q : RouteTask) (texts : Texts) (a c : Told) (made : Result S F) (f : F) (r : Result T E)
@@ -97,17 +89,6 @@ files-both q texts a b c (Ok x) s (Err e) first ok second =
       };
       still = second.still ∙ first.still;
     }
-
--- a port where a file was made keeps what no create and no write changes
-pub file-keeps : (x y : PortTold) (name text : List ℕ) → HasFile x y name text → y ≡ but_for_output x y
-file-keeps x y name text file = but_for_output-of x y (ap (λ (p : PortTold). p.rest) file.only) (ap (λ (p : PortTold). p.expected) file.only)
-
-pub part-keeps : (x y : PortTold) (name text : List ℕ) → HasPart x y name text → y ≡ but_for_output x y
-part-keeps x y name text (inl is) = but_for_output-of x y (ap (λ (p : PortTold). p.rest) is) (ap (λ (p : PortTold). p.expected) is)
-part-keeps x y name text (inr (n, file)) = file-keeps x y name (take n text) file
-
-same-keeps : (x y : PortTold) → y ≡ x → y ≡ but_for_output x y
-same-keeps x y is = but_for_output-of x y (ap (λ (p : PortTold). p.rest) is) (ap (λ (p : PortTold). p.expected) is)
 
 -- both ports keep what no create and no write changes
 files-keep : {T E : Type 0} (q : RouteTask) (texts : Texts) (a b : Told) (r : Result T E) → MakesFiles q texts a b r

@@ -9,8 +9,8 @@ use Rattle.gr_make.specs.Shapes.{IsShape}
 use Rattle.gr_make.specs.declared.shape.Shape.{Shape}
 use Rattle.made_designs.proofs.Contents.{made_text_says}
 use Rattle.made_designs.proofs.Generated.{made_nets_reachable}
-use Rattle.router_cli.specs.declared.refusal.Refusal.{Refusal}
-use Rattle.router_cli.specs.declared.refusal.Refusal.TheVariants.{NoCommand, Input, Unreachable, Text, Unread, NoMemory}
+use Rattle.judge_cli.specs.declared.refusal.Refusal.{Refusal}
+use Rattle.judge_cli.specs.declared.refusal.Refusal.TheVariants.{NoCommand, Input, Unreachable, Text, Unread, NoMemory}
 use Rattle.cert_text.specs.declared.cert.Cert.{Cert}
 use Rattle.cert_text.specs.declared.cert_error.CertError.{CertError}
 use Rattle.cert_text.specs.declared.cert_error.CertError.TheVariants as cert_errors
@@ -22,9 +22,9 @@ use Rattle.route_text.specs.declared.route_error.RouteError.{RouteError}
 use Rattle.route_text.specs.declared.route_error.RouteError.TheVariants as route_errors
 use Rattle.route_text.specs.Blocks.{blocks_of}
 use Rattle.route_text.specs.Reads.{RefusesRoute}
-use Rattle.router_cli.specs.JudgedTexts.{of_route_error, of_cert_error}
-use Rattle.router_cli.specs.Outputs.{Makes}
-use Rattle.router_cli.specs.Refusals.{IsRefusedFor}
+use Rattle.judge_cli.specs.JudgedTexts.{of_route_error, of_cert_error}
+use Rattle.judge_cli.specs.Outputs.{Makes}
+use Rattle.judge_cli.specs.Refusals.{IsRefusedFor}
 
 -- what was appended to nothing is all that there is
 all_there_is : (x y : Option (List ℕ)) (text bytes : List ℕ) → x ≡ Some [] → y ≡ Some bytes → Appends x y text → bytes ≡ text

@@ -8,15 +8,15 @@ use Rattle.gr_desk.specs.declared.port.Port.TheVariants.{DesignOut, Report}
 use Rattle.gr_desk.specs.Runs.{Adds}
 use Rattle.gr_desk.specs.Told.{Told, PortTold}
 use Rattle.gr_make.specs.declared.shape.Shape.{Shape}
-use Rattle.router_cli.specs.declared.refusal.Refusal.TheVariants.{NoMemory}
-use Rattle.router_cli.specs.Lines.{lines_of, status_of}
+use Rattle.judge_cli.specs.declared.refusal.Refusal.TheVariants.{NoMemory}
+use Rattle.judge_cli.specs.Lines.{lines_of, status_of}
 use Rattle.router_cli.specs.MakeRun.{MakeTask, EndsBeforeMade, IsMade, IsMakeRun, make_task_of, make_task_of_words, make_value}
 use Rattle.gr_desk.specs.declared.port.Port.{Port}
-use Rattle.router_cli.specs.Traces.{TouchesOnly, OutputFailed, but_for_output}
+use Rattle.judge_cli.specs.Traces.{TouchesOnly, OutputFailed, but_for_output}
 use Rattle.router_cli.specs.TrialRun.{TrialTask, IsTried, IsTriedInPart, IsTrialRun, trial_task_of, trial_task_of_words, trial_value}
-use Rattle.router_cli.specs.WantOfMemory.{IsWantOfMemory}
-use Rattle.router_cli.proofs.Outcomes.{status-no_report}
-use Rattle.router_cli.proofs.Traces.{but_for_output-of, none_in, only_of, touches-none}
+use Rattle.judge_cli.specs.WantOfMemory.{IsWantOfMemory}
+use Rattle.judge_cli.proofs.Outcomes.{status-no_report}
+use Rattle.judge_cli.proofs.Traces.{but_for_output-of, none_in, only_of, touches-none}
 
 -- ---- what the words ask for
 

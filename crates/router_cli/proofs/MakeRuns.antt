@@ -9,14 +9,14 @@ use Rattle.gr_desk.specs.Causes.{Rose}
 use Rattle.gr_desk.specs.Runs.{Adds}
 use Rattle.gr_desk.specs.Told.{Told, PortTold}
 use Rattle.gr_make.specs.MadeText.{made_text}
-use Rattle.router_cli.specs.Lines.{unwritten_status, unwritten_line}
+use Rattle.judge_cli.specs.Lines.{unwritten_status, unwritten_line}
 use Rattle.router_cli.specs.MakeRun.{MakeTask, made_line, IsMade, EndsBeforeMade, ExpectsOutput, IsMakeRun}
-use Rattle.router_cli.specs.Outputs.{HasFile, HasPart, Makes}
-use Rattle.router_cli.specs.Saying.{SaysDone}
-use Rattle.router_cli.specs.Traces.{ReportGains, TouchesOnly, OutputFailed, but_for_output}
-use Rattle.router_cli.specs.WantOfMemory.{IsWantOfMemory}
-use Rattle.router_cli.proofs.Finishing.{file-keeps, part-keeps}
-use Rattle.router_cli.proofs.Traces.{only_of}
+use Rattle.judge_cli.specs.Outputs.{HasFile, HasPart, Makes}
+use Rattle.judge_cli.specs.Saying.{SaysDone}
+use Rattle.judge_cli.specs.Traces.{ReportGains, TouchesOnly, OutputFailed, but_for_output}
+use Rattle.judge_cli.specs.WantOfMemory.{IsWantOfMemory}
+use Rattle.judge_cli.proofs.MadeFiles.{file-keeps, part-keeps}
+use Rattle.judge_cli.proofs.Traces.{only_of}
 use Rattle.router_cli.proofs.TrialRuns.{not_both}
 
 design_is_not_report : DesignOut ≢ Report

@@ -6,26 +6,28 @@ use Rattle.gr_desk.specs.declared.port.Port.TheVariants.{In, RoutesOut, CertOut,
 use Rattle.gr_desk.specs.Runs.{Adds}
 use Rattle.gr_desk.specs.Told.{Told, PortTold}
 use Rattle.ispd_reader.specs.Designs.{IsDesignOfText}
-use Rattle.router_cli.specs.declared.refusal.Refusal.{Refusal}
-use Rattle.router_cli.specs.declared.refusal.Refusal.TheVariants.{NoCommand, Unread, NoMemory}
+use Rattle.judge_cli.specs.declared.refusal.Refusal.{Refusal}
+use Rattle.judge_cli.specs.declared.refusal.Refusal.TheVariants.{NoCommand, Unread, NoMemory}
 use Rattle.router_cli.specs.declared.routed_design.RoutedDesign.{RoutedDesign}
 use Rattle.router_cli.specs.Finishing.{Finishes, texts_of, AreOrderlyCreates}
 use Rattle.router_cli.specs.Headline.{Texts, AreTexts}
-use Rattle.router_cli.specs.Lines.{unwritten_status, unwritten_line, lines_of, status_of}
-use Rattle.router_cli.specs.Outputs.{HasFile, HasPart}
-use Rattle.router_cli.specs.Refusals.{IsCause, IsRefused}
+use Rattle.judge_cli.specs.Lines.{unwritten_status, unwritten_line, lines_of, status_of}
+use Rattle.judge_cli.specs.Outputs.{HasFile, HasPart}
+use Rattle.judge_cli.specs.Refusals.{IsCause, IsRefused}
 use Rattle.router_cli.specs.RouteRun.{IsRouted, IsCutShort, EndsEarly, ExpectsNames, IsRouteRun}
 use Rattle.router_cli.specs.Routed.{IsRoutedDesign}
 use Rattle.router_cli.specs.Runs.{IsNoCommandRun}
-use Rattle.router_cli.specs.Steps.{OnlyReads}
+use Rattle.judge_cli.specs.Steps.{OnlyReads}
 use Rattle.router_cli.specs.Tasks.{RouteTask}
-use Rattle.router_cli.specs.Traces.{ReportGains, ReportsRefusal, OutputFailed}
-use Rattle.router_cli.specs.Sources.{design_source, AreOrderlyOpens}
-use Rattle.router_cli.proofs.Causes.{routed_reachable, not_refused, refused_once, text_or_memory}
-use Rattle.router_cli.proofs.ReadFiles.{reads-nothing}
-use Rattle.router_cli.proofs.RefusedRuns.{is_refused}
-use Rattle.router_cli.proofs.Outcomes.{status-no_report}
-use Rattle.router_cli.proofs.Traces.{not_design, report_not_design, failed-after_reads, touches-none, touches-more, touches-then, in_order-after_reads}
+use Rattle.judge_cli.specs.Traces.{ReportGains, ReportsRefusal, OutputFailed}
+use Rattle.judge_cli.specs.Sources.{design_source, AreOrderlyOpens}
+use Rattle.judge_cli.proofs.Causes.{not_refused, refused_once, text_or_memory}
+use Rattle.judge_cli.proofs.ReadFiles.{reads-nothing}
+use Rattle.judge_cli.proofs.RefusedRuns.{is_refused}
+use Rattle.judge_cli.proofs.Outcomes.{status-no_report}
+use Rattle.judge_cli.proofs.Traces.{failed-after_reads, touches-none, in_order-after_reads}
+use Rattle.router_cli.proofs.Routed.{routed_reachable}
+use Rattle.router_cli.proofs.RouteTraces.{not_design, report_not_design, touches-more, touches-then}
 
 -- what ended early after a step that left the three ports alone
 early-after_reads : (q : RouteTask) (texts : Texts) (a b c : Told)

@@ -2,11 +2,11 @@
 use Rattle.std.proofs.Common.{◌≡◌, ◌≢◌, ℕ, take, refl, sym, ◌∙◌, inl, inr}
 use Rattle.std.specs.Prelude.{List}
 use Rattle.gr_desk.specs.Told.{Told}
-use Rattle.router_cli.specs.Lines.{done_status, unwritten_status}
-use Rattle.router_cli.specs.Saying.{SaysDone}
+use Rattle.judge_cli.specs.Lines.{done_status, unwritten_status}
+use Rattle.judge_cli.specs.Saying.{SaysDone}
 use Rattle.router_cli.specs.TrialRun.{TrialTask, ReportsTrial, IsTried, IsTriedInPart, IsTrialRun}
-use Rattle.router_cli.specs.WantOfMemory.{IsWantOfMemory}
-use Rattle.router_cli.proofs.Traces.{touches-none}
+use Rattle.judge_cli.specs.WantOfMemory.{IsWantOfMemory}
+use Rattle.judge_cli.proofs.Traces.{touches-none}
 
 -- a run isn't both done and unwritten
 pub not_both : (status : ℕ) → status ≡ done_status → status ≡ unwritten_status → ⊥

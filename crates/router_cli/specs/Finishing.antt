@@ -10,11 +10,12 @@ use Rattle.cert_text.specs.CertText.{cert_text}
 use Rattle.route_text.specs.RouteText.{routes_text}
 use Rattle.router_cli.specs.declared.routed_design.RoutedDesign.{RoutedDesign}
 use Rattle.router_cli.specs.Headline.{Texts}
-use Rattle.router_cli.specs.Lines.{done_status, unwritten_status, report_text}
-use Rattle.router_cli.specs.Outputs.{HasFile, HasPart}
+use Rattle.judge_cli.specs.Lines.{done_status, unwritten_status}
+use Rattle.judge_cli.specs.Outputs.{HasFile, HasPart}
+use Rattle.router_cli.specs.ReportLines.{report_text}
 use Rattle.router_cli.specs.RouteRun.{EndsEarly}
 use Rattle.router_cli.specs.Tasks.{RouteTask}
-use Rattle.router_cli.specs.Traces.{ReportGains, TouchesOnly, OutputFailed}
+use Rattle.judge_cli.specs.Traces.{ReportGains, TouchesOnly, OutputFailed}
 
 -- the texts of a routed design
 abbrev pub texts_of : RoutedDesign → Texts

@@ -1,5 +1,5 @@
 -- The headline, in one page: what a run of `route` that ends with status 0 has written and reported. Every other file of this
--- folder says when a run ends so, and what it leaves where it doesn't.
+-- folder, and of `judge_cli`, says when a run ends so, and what it leaves where it doesn't.
 --
 -- Where the words lead: `IsDesignOfText` of `ispd_reader` is the design that bytes name, `IsRouting` of `tree_set` says that each
 -- net's set joins its terminals in its ground, `IsRouterRun` beside this file is a run of phases, picks and rounds of repair,
@@ -17,7 +17,7 @@ use Rattle.dual_bound.specs.Bounds.{BoundsDesign, IsResource}
 use Rattle.route_text.specs.RouteText.{routes_text}
 use Rattle.tree_set.specs.Routings.{IsRouting}
 use Rattle.router_cli.specs.Certified.{IsCertified}
-use Rattle.router_cli.specs.Lines.{report_text}
+use Rattle.router_cli.specs.ReportLines.{report_text}
 use Rattle.router_cli.specs.RouterRuns.{IsRouterRun}
 
 -- the sets are routes of all nets, and what the certificate says of them is true, and so are the overflow before repair and the

@@ -9,11 +9,11 @@ use Rattle.gr_desk.specs.declared.state.State.TheVariants.{Fresh}
 use Rattle.gr_desk.specs.Told.{Told}
 use Rattle.gr_make.specs.declared.shape.Shape.{Shape}
 use Rattle.gr_make.specs.MadeText.{made_text}
-use Rattle.router_cli.specs.declared.refusal.Refusal.TheVariants.{NoMemory}
-use Rattle.router_cli.specs.Lines.{done_status, unwritten_status, unwritten_line, status_of, fields}
-use Rattle.router_cli.specs.Outputs.{HasFile, HasPart}
-use Rattle.router_cli.specs.Traces.{ReportGains, TouchesOnly, OutputFailed}
-use Rattle.router_cli.specs.WantOfMemory.{IsWantOfMemory}
+use Rattle.judge_cli.specs.declared.refusal.Refusal.TheVariants.{NoMemory}
+use Rattle.judge_cli.specs.Lines.{done_status, unwritten_status, unwritten_line, status_of, fields}
+use Rattle.judge_cli.specs.Outputs.{HasFile, HasPart}
+use Rattle.judge_cli.specs.Traces.{ReportGains, TouchesOnly, OutputFailed}
+use Rattle.judge_cli.specs.WantOfMemory.{IsWantOfMemory}
 
 -- ---- what its words ask for
 

@@ -6,15 +6,15 @@ use Rattle.gr_desk.specs.declared.state.State.TheVariants.{Fresh}
 use Rattle.gr_desk.specs.Told.{Told}
 use Rattle.grid_graph.specs.declared.design.Design.{Design}
 use Rattle.ispd_reader.specs.Designs.{IsDesignOfText}
-use Rattle.router_cli.specs.declared.refusal.Refusal.{Refusal}
-use Rattle.router_cli.specs.declared.refusal.Refusal.TheVariants.{Unread, NoMemory}
+use Rattle.judge_cli.specs.declared.refusal.Refusal.{Refusal}
+use Rattle.judge_cli.specs.declared.refusal.Refusal.TheVariants.{Unread, NoMemory}
 use Rattle.router_cli.specs.Headline.{Texts, AreTexts}
-use Rattle.router_cli.specs.Lines.{done_status, unwritten_status, unwritten_line, status_of}
-use Rattle.router_cli.specs.Outputs.{HasFile, HasPart}
-use Rattle.router_cli.specs.Refusals.{AreReachable, IsRefusedFor, IsRefused}
-use Rattle.router_cli.specs.Sources.{design_source}
+use Rattle.judge_cli.specs.Lines.{done_status, unwritten_status, unwritten_line, status_of}
+use Rattle.judge_cli.specs.Outputs.{HasFile, HasPart}
+use Rattle.judge_cli.specs.Refusals.{AreReachable, IsRefusedFor, IsRefused}
+use Rattle.judge_cli.specs.Sources.{design_source}
 use Rattle.router_cli.specs.Tasks.{RouteTask}
-use Rattle.router_cli.specs.Traces.{ReportGains, ReportsRefusal, TouchesOnly, InputFailed, OutputFailed}
+use Rattle.judge_cli.specs.Traces.{ReportGains, ReportsRefusal, TouchesOnly, InputFailed, OutputFailed}
 
 -- ---- how a run ends
 

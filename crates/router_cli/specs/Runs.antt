@@ -6,16 +6,18 @@
 --   Certified    what the certificate says of them
 --   RouteRun     what a run of `route` leaves on each status
 --   Tasks        what its words ask for
---   MeasureRun   what a run of `measure` says of routes, and
---   JudgeRun     what a run of `judge` says of routes and a certificate: neither needs a word of how routes are found
---   AnsweredRun  what a run of these two leaves on each status
 --   MakeRun      what a run of `make` leaves, and
 --   TrialRun     what a run of `trial` does: it never finds a no, and TextsMeet says what the judge has to say of its texts
---   WantOfMemory the one other way in which these two end
+--   ReportLines  the lines that `route` and `trial` report, byte for byte
+-- then in `judge_cli`, where no word says how routes are found:
+--   MeasureRun   what a run of `measure` says of routes, and
+--   JudgeRun     what a run of `judge` says of routes and a certificate
+--   AnsweredRun  what a run of these two leaves on each status
+--   WantOfMemory the one other way in which a run of `make` or `trial` ends
 --   Sources      the files that a command reads
 --   JudgedTexts  what the texts say that are judged
 --   Refusals     why a run can be refused, and what it then says
---   Lines        the lines of the report, byte for byte, and
+--   Lines        the lines of refusals, byte for byte, and
 --   AnswerLines  those of what is said of routes that are judged
 --   Outputs      the files that a run makes
 --   Traces       what a run does to the desk that it reads from and writes to
@@ -27,15 +29,15 @@ use Rattle.std.specs.Prelude.{◌≡◌, ◌⊎◌, ℕ, List, [], map, string_b
 use Rattle.std.specs.declared.string.String.{String}
 use Rattle.gr_desk.specs.Told.{Told}
 use Rattle.command_words.specs.CommandLine.{is_command, is_command_of, route_form, measure_form, judge_form, make_form, trial_form}
-use Rattle.router_cli.specs.declared.refusal.Refusal.{Refusal}
-use Rattle.router_cli.specs.declared.refusal.Refusal.TheVariants.{NoCommand, NoMemory}
-use Rattle.router_cli.specs.Lines.{status_of}
-use Rattle.router_cli.specs.JudgeRun.{IsJudgeRun, judge_task_of_words}
+use Rattle.judge_cli.specs.declared.refusal.Refusal.{Refusal}
+use Rattle.judge_cli.specs.declared.refusal.Refusal.TheVariants.{NoCommand, NoMemory}
+use Rattle.judge_cli.specs.Lines.{status_of}
+use Rattle.judge_cli.specs.JudgeRun.{IsJudgeRun, judge_task_of_words}
 use Rattle.router_cli.specs.MakeRun.{IsMakeRun, make_task_of_words}
-use Rattle.router_cli.specs.MeasureRun.{IsMeasureRun, measure_task_of_words}
+use Rattle.judge_cli.specs.MeasureRun.{IsMeasureRun, measure_task_of_words}
 use Rattle.router_cli.specs.RouteRun.{IsRouteRun}
 use Rattle.router_cli.specs.Tasks.{task_of_words}
-use Rattle.router_cli.specs.Traces.{ReportsRefusal, TouchesOnly}
+use Rattle.judge_cli.specs.Traces.{ReportsRefusal, TouchesOnly}
 use Rattle.router_cli.specs.TrialRun.{IsTrialRun, trial_task_of_words}
 
 -- a run on words that are no command

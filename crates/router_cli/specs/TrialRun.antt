@@ -16,12 +16,13 @@ use Rattle.grid_graph.specs.Grounds.{AreGrounds}
 use Rattle.ispd_reader.specs.Designs.{IsDesignOfText}
 use Rattle.price_workers.specs.declared.settings.Settings.{Settings}
 use Rattle.route_text.specs.RouteText.{routes_text}
-use Rattle.router_cli.specs.declared.refusal.Refusal.TheVariants.{NoMemory}
+use Rattle.judge_cli.specs.declared.refusal.Refusal.TheVariants.{NoMemory}
 use Rattle.router_cli.specs.Headline.{IsTrueOf}
-use Rattle.router_cli.specs.Lines.{done_status, unwritten_status, report_text, status_of}
+use Rattle.router_cli.specs.ReportLines.{report_text}
+use Rattle.judge_cli.specs.Lines.{done_status, unwritten_status, status_of}
 use Rattle.router_cli.specs.TextsMeet.{TextsMeet}
-use Rattle.router_cli.specs.Traces.{ReportGains, TouchesOnly, OutputFailed}
-use Rattle.router_cli.specs.WantOfMemory.{IsWantOfMemory}
+use Rattle.judge_cli.specs.Traces.{ReportGains, TouchesOnly, OutputFailed}
+use Rattle.judge_cli.specs.WantOfMemory.{IsWantOfMemory}
 
 -- ---- what its words ask for
 

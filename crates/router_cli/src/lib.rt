@@ -12,10 +12,11 @@
 //! // bound 1/2
 //! ```
 //!
-//! It stands on `command_words` for the words, `ispd_reader` for the design, `grid_graph` for the nets' grounds, `sharing_phases`,
-//! `rounding_pick` and `ripup_repair` for the routes and their prices, `tree_set` for their measures, `dual_bound` for the bound,
-//! `route_text` and `cert_text` for the texts, `route_judge` for the verdict on them, `gr_make` for generated designs,
-//! `made_designs` and `judge_laws` for the laws by which a trial never fails, `gr_desk` to read from and write to, and `itoa`.
+//! It stands on `command_words` for the words, `judge_cli` for the commands `measure` and `judge`, for the reading of designs and
+//! for how every run ends, `sharing_phases`, `rounding_pick` and `ripup_repair` for the routes and their prices, `tree_set` for
+//! their measures, `dual_bound` for the bound, `route_text` and `cert_text` for the texts, `route_judge` for the verdict of a
+//! trial, `gr_make` for generated designs, `made_designs` and `judge_laws` for the laws by which a trial never fails, and
+//! `gr_desk` to read from and write to.
 //!
 //! Promised, in the words of `specs/Runs.antt`, which is the page to begin with: where the status is 0, the routes that were
 //! written join their nets' pins inside the grid, and are the result of a run of phases, picks and rounds of repair; the printed
@@ -28,36 +29,19 @@
 
 #![tactic(auto)]
 
-mod answer;
-mod answer_lines;
 mod certificate;
-mod grounded_design;
-mod judge;
 mod laws;
-mod lines;
 mod make;
-mod measure;
 mod outputs;
 mod prepared;
-mod refusal;
-mod refuse;
 mod report;
 mod route;
 mod routed_design;
-mod routes_report;
-mod say;
-mod sources;
-mod statuses;
-mod text_fault;
 mod top;
 mod trial;
 mod trial_texts;
 
-pub use answer::Answer;
 pub use laws::{
     repair_adds_no_overflow, routes_of_designs_read_back, texts_of_runs_meet_their_design,
 };
-pub use refusal::Refusal;
-pub use routes_report::RoutesReport;
-pub use text_fault::TextFault;
 pub use top::run;

@@ -6,15 +6,13 @@ ghost use Rattle.gr_desk.specs.declared.port.Port.TheVariants.{Report};
 ghost use Rattle.gr_desk.specs.Pens.{Ends, Puts, pen_told, HasSameDesk};
 ghost use Rattle.gr_make.specs.Shapes.{IsShape};
 ghost use Rattle.router_cli.specs.MakeRun.{IsMakeRun, made_line, make_task_of};
-ghost use Rattle.router_cli.specs.Saying.{SaysDone};
+ghost use Rattle.judge_cli.specs.Saying.{SaysDone};
 
-use crate::lines::put_fields;
 use crate::outputs::make_design;
-use crate::route::say_unwritten;
-use crate::statuses::{DONE, UNWRITTEN};
 use command_words::MakeRequest;
 use gr_desk::{Desk, Failed, Pen, Port};
 use gr_make::Shape;
+use judge_cli::{DONE, UNWRITTEN, put_fields, say_unwritten};
 
 /// Makes the design that is asked for, reports how many nets it has, and answers the status.
 pub(crate) fn make<D: Desk>(desk: &mut D, request: &MakeRequest<'_>) -> u8

@@ -1,16 +1,14 @@
-//! The files that a run makes.
+//! The files that a run makes, but for certificates.
 
 ghost use Rattle.std.specs.Prelude.{◌≡◌, length, All};
-ghost use Rattle.gr_desk.specs.declared.port.Port.TheVariants.{RoutesOut, CertOut, DesignOut};
+ghost use Rattle.gr_desk.specs.declared.port.Port.TheVariants.{RoutesOut, DesignOut};
 ghost use Rattle.gr_make.specs.MadeText.{made_text};
 ghost use Rattle.gr_make.specs.Shapes.{IsShape};
 ghost use Rattle.grid_graph.specs.Grids.{size_of};
-ghost use Rattle.cert_text.specs.CertText.{cert_text};
 ghost use Rattle.route_text.specs.RouteText.{routes_text};
 ghost use Rattle.tree_set.specs.Routings.{ArePieces};
-ghost use Rattle.router_cli.specs.Outputs.{Makes};
+ghost use Rattle.judge_cli.specs.Outputs.{Makes};
 
-use cert_text::{Cert, write_cert};
 use gr_desk::{Desk, Failed, Port};
 use gr_make::{Shape, make};
 use grid_graph::Design;
@@ -30,14 +28,6 @@ pub(crate) fn make_routes<D: Desk>(
 {
     desk.create(Port::RoutesOut, name)?;
     write_routes(desk, Port::RoutesOut, design, trees)
-}
-
-/// Creates a file under the name, and writes the certificate to it.
-pub(crate) fn make_cert<D: Desk>(desk: &mut D, name: &str, cert: &Cert) -> Result<(), Failed>
-    ensures { Makes (D.told desk.old) (D.told desk.new) CertOut name.now (cert_text cert.now) result }
-{
-    desk.create(Port::CertOut, name)?;
-    write_cert(desk, Port::CertOut, cert)
 }
 
 /// Creates a file under the name, and writes the design that is made from the seed to it.

@@ -3,23 +3,11 @@
 ghost use Rattle.std.specs.Prelude.{◌≡◌};
 ghost use Rattle.gr_desk.specs.declared.port.Port.TheVariants.{Report};
 ghost use Rattle.gr_desk.specs.Pens.{Ends, Puts, pen_told, HasSameDesk};
-ghost use Rattle.router_cli.specs.Lines.{budget_line, report_text};
+ghost use Rattle.router_cli.specs.ReportLines.{report_text};
 
-use crate::lines::put_line;
 use cert_text::{Cert, put_labelled_fraction};
 use gr_desk::{Desk, Failed, Pen, Port};
-use tree_set::Budget;
-
-/// Puts the line of the budget, where there is one.
-pub(crate) fn put_budget<D: Desk>(pen: &mut Pen<'_, D>, budget: Option<Budget>)
-    ensures same_desk { HasSameDesk pen.old pen.new }
-    ensures puts { Puts (pen_told D.told pen.old) (pen_told D.told pen.new) (budget_line budget) }
-{
-    match budget {
-        Some(budget) => put_line(pen, b"budget", &[budget.most]),
-        None => {}
-    }
-}
+use judge_cli::{put_budget, put_line};
 
 /// Puts the report of routes: the overflow before repair, the number of its rounds, and what the certificate says.
 pub(crate) fn put_report<D: Desk>(pen: &mut Pen<'_, D>, rounded: u64, rounds: u32, cert: &Cert)

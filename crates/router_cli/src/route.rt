@@ -5,21 +5,19 @@ ghost use Rattle.gr_desk.specs.declared.port.Port.TheVariants.{Report};
 ghost use Rattle.gr_desk.specs.Runs.{Adds};
 ghost use Rattle.price_workers.specs.Settings.{AreSettings};
 ghost use Rattle.router_cli.specs.Finishing.{texts_of, MakesFiles, Finishes};
-ghost use Rattle.router_cli.specs.Lines.{done_status, unwritten_status, unwritten_line};
+ghost use Rattle.judge_cli.specs.Lines.{done_status, unwritten_status};
 ghost use Rattle.router_cli.specs.Routed.{IsRoutedDesign};
 ghost use Rattle.router_cli.specs.RouteRun.{IsRouteRun};
 ghost use Rattle.router_cli.specs.Tasks.{settings_of, task_of};
-ghost use Rattle.router_cli.specs.Traces.{OutputFailed};
+ghost use Rattle.judge_cli.specs.Traces.{OutputFailed};
 
-use crate::lines::write_unwritten;
-use crate::outputs::{make_cert, make_routes};
+use crate::outputs::make_routes;
 use crate::prepared::prepare;
-use crate::refuse::refuse;
 use crate::report::write_report;
 use crate::routed_design::RoutedDesign;
-use crate::statuses::{DONE, UNWRITTEN};
 use command_words::RouteRequest;
 use gr_desk::{Desk, Failed};
+use judge_cli::{DONE, UNWRITTEN, make_cert, refuse, say_unwritten};
 use price_workers::{Gate, Settings};
 use std::alloc::Global;
 use std::thread::Threads;
@@ -91,13 +89,4 @@ fn report<D: Desk>(desk: &mut D, routed: &RoutedDesign) -> u8
         Ok(()) => DONE,
         Err(Failed) => UNWRITTEN,
     }
-}
-
-/// Says on the report that a file could not be written, as far as that can be written, and answers the status.
-pub(crate) fn say_unwritten<D: Desk>(desk: &mut D) -> u8
-    ensures status { result ≡ unwritten_status }
-    ensures part { (n : ℕ) × Adds (D.told desk.old) (D.told desk.new) Report (take n unwritten_line) }
-{
-    let _ = write_unwritten(desk, UNWRITTEN);
-    UNWRITTEN
 }

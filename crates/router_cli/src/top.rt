@@ -2,15 +2,12 @@
 
 ghost use Rattle.router_cli.specs.Runs.{IsRun};
 
-use crate::judge::judge;
 use crate::make::make;
-use crate::measure::measure;
-use crate::refusal::Refusal;
-use crate::refuse::refuse;
 use crate::route::route;
 use crate::trial::trial;
 use command_words::{Command, WordsError, command_of};
 use gr_desk::Desk;
+use judge_cli::{Refusal, judge, measure, refuse};
 use price_workers::Gate;
 use std::alloc::Global;
 use std::thread::Threads;

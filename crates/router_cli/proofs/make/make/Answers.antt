@@ -3,8 +3,8 @@ use Rattle.gr_desk.specs.declared.port.Port.TheVariants.{DesignOut}
 use Rattle.gr_make.specs.declared.shape.Shape.{Shape}
 use Rattle.gr_make.specs.MadeText.{made_text}
 use Rattle.router_cli.specs.MakeRun.{make_task_of, made_line}
-use Rattle.router_cli.specs.Outputs.{Makes}
-use Rattle.router_cli.specs.Saying.{SaysDone}
+use Rattle.judge_cli.specs.Outputs.{Makes}
+use Rattle.judge_cli.specs.Saying.{SaysDone}
 use Rattle.router_cli.proofs.MakeRuns.{run-made, run-unmade}
 use Rattle.router_cli.proofs.make.make.Goals as goal
 

@@ -2,7 +2,7 @@ use Rattle.std.proofs.Common.{rules, subst}
 use Rattle.gr_desk.specs.declared.port.Port.TheVariants.{Report}
 use Rattle.gr_desk.specs.Pens.{Ends, pen_told}
 use Rattle.gr_desk.proofs.Pens.{ends-put}
-use Rattle.router_cli.specs.Lines.{report_text}
+use Rattle.router_cli.specs.ReportLines.{report_text}
 use Rattle.router_cli.proofs.report.write_report.Goals as goal
 
 pub returns : goal.returns

@@ -1,5 +1,5 @@
 use Rattle.std.proofs.Common.{◌≡◌, refl}
-use Rattle.router_cli.specs.declared.refusal.Refusal.TheVariants.{Unread}
+use Rattle.judge_cli.specs.declared.refusal.Refusal.TheVariants.{Unread}
 use Rattle.router_cli.specs.Tasks.{task_of}
 use Rattle.router_cli.proofs.RouteRuns.{run-routed, run-refused}
 use Rattle.router_cli.proofs.route.route.Goals as goal

@@ -1,9 +1,9 @@
 use Rattle.std.proofs.Common.{refl, sym, subst, lit<, string_bytes, map}
 use Rattle.command_words.specs.CommandLine.{AsksForRoute, AsksForMeasure, AsksForJudge, AsksForMake, AsksForTrial, HasRouteRanges, HasMakeRanges, HasTrialRanges}
 use Rattle.command_words.specs.CommandLine.{route_form, measure_form, judge_form, make_form, trial_form}
-use Rattle.router_cli.specs.JudgeRun.{IsJudgeRun, JudgeTask}
+use Rattle.judge_cli.specs.JudgeRun.{IsJudgeRun, JudgeTask}
 use Rattle.router_cli.specs.MakeRun.{IsMakeRun, MakeTask}
-use Rattle.router_cli.specs.MeasureRun.{IsMeasureRun, MeasureTask}
+use Rattle.judge_cli.specs.MeasureRun.{IsMeasureRun, MeasureTask}
 use Rattle.router_cli.specs.RouteRun.{IsRouteRun}
 use Rattle.router_cli.specs.Tasks.{RouteTask}
 use Rattle.router_cli.specs.TrialRun.{IsTrialRun, TrialTask}

@@ -11,7 +11,7 @@ use Rattle.price_workers.specs.declared.settings.Settings.{Settings}
 use Rattle.tree_set.specs.Routings.{IsRoute}
 use Rattle.router_cli.specs.Headline.{IsTrueOf}
 use Rattle.router_cli.specs.TrialRun.{trial_settings, trial_task_of}
-use Rattle.router_cli.proofs.Outcomes.{same_refusal}
+use Rattle.judge_cli.proofs.Outcomes.{same_refusal}
 use Rattle.router_cli.proofs.Routed.{routes_are_pieces}
 use Rattle.router_cli.proofs.TrueTexts.{texts_meet}
 use Rattle.router_cli.proofs.trial.tried.Goals as goal

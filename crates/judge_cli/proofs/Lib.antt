@@ -1,0 +1,10 @@
+pub mod Endings
+pub mod Fields
+pub mod Outcomes
+pub mod Traces
+pub mod Causes
+pub mod ReadFiles
+pub mod RefusedRuns
+pub mod AnsweredRuns
+pub mod JudgedRuns
+pub mod MadeFiles

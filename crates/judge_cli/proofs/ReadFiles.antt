@@ -1,0 +1,220 @@
+-- Files that are read one after another.
+use Rattle.std.proofs.Common.{◌≡◌, ◌≢◌, ◌<◌, ◌≤◌, ◌+◌, ℕ, List, [], ◌∷◌, length, Contains, Some, None, Ok, Err, IsOk, IsErr, IsErrAnd, true, false, refl, sym, ◌∙◌, ap, subst, arith, lit<, lt-ltb, length-append, inl, inr}
+use Rattle.std.specs.Prelude.{◌⊎◌, IsTrue, Option, option_map, Result, is_err}
+use Rattle.std.specs.Io.KnownBytes.{Consumes}
+use Rattle.gr_desk.specs.declared.port.Port.{Port}
+use Rattle.gr_desk.specs.declared.port.Port.TheVariants.{In, RoutesIn, CertIn, RoutesOut, CertOut, DesignOut, Report}
+use Rattle.gr_desk.specs.declared.state.State.{State}
+use Rattle.gr_desk.specs.declared.state.State.TheVariants.{Ready, Refused}
+use Rattle.gr_desk.specs.Calls.{Opens, IsOrderlyRead}
+use Rattle.gr_desk.specs.Ports.{is_input}
+use Rattle.gr_desk.specs.Runs.{Takes}
+use Rattle.gr_desk.specs.Told.{Told, PortTold}
+use Rattle.grid_base.proofs.Lists.{head_or_rest, Contains-rest}
+use Rattle.judge_cli.specs.declared.refusal.Refusal.{Refusal}
+use Rattle.judge_cli.specs.declared.refusal.Refusal.TheVariants.{Unread, NoMemory}
+use Rattle.judge_cli.specs.JudgedTexts.{max_judged_bytes}
+use Rattle.judge_cli.specs.Refusals.{IsRefusedFor, IsRefusedAt, IsAcceptedAt, IsCause}
+use Rattle.judge_cli.specs.Sources.{Source, ports_of, design_source, AreOrderlyOpens}
+use Rattle.judge_cli.specs.Steps.{OnlyReads, ReadsSources, too_long_at}
+use Rattle.judge_cli.proofs.Causes.{cause-of_text, cause-early, cause-behind}
+use Rattle.judge_cli.proofs.Traces.{only_of}
+
+-- a step that does nothing
+pub reads-nothing : (sources : List Source) (a : Told) → OnlyReads sources a a
+reads-nothing sources a = record {
+  files = refl;
+  inputs = λ p at. refl;
+  others = λ p apart. refl;
+  in_order = λ _. refl;
+  later = omega arith;
+  still = refl;
+}
+
+-- what the desk expects at other ports stays where one file was read
+opens-after : (s : Source) (later : List Source) (a b : Told) → ¬ Contains (ports_of later) s.port → OnlyReads (s ∷ []) a b → AreOrderlyOpens a later → AreOrderlyOpens b later
+opens-after s [] a b apart reads opens = tt
+opens-after s (t ∷ later) a b apart reads opens =
+    let other : ¬ Contains (s.port ∷ []) t.port = λ at. apart (0, omega arith, only_of t.port s.port at) in
+    let same : b.ports t.port ≡ a.ports t.port = reads.others t.port other in (
+      record {
+        input = opens.0.input;
+        fresh = ap (λ (p : PortTold). p.state) same ∙ opens.0.fresh;
+        expected = ap (λ (p : PortTold). p.expected) same ∙ opens.0.expected;
+      },
+      opens-after s later a b (λ at. apart (Contains-rest t.port (ports_of later) s.port at)) reads opens.1,
+    )
+
+-- one file, and then others at other ports
+pub reads-then : (s : Source) (later : List Source) (a b c : Told) → ¬ Contains (ports_of later) s.port → OnlyReads (s ∷ []) a b → OnlyReads later b c → OnlyReads (s ∷ later) a c
+reads-then s later a b c apart reads more = record {
+  files = more.files ∙ reads.files;
+  inputs = λ p at. elim (head_or_rest s.port (ports_of later) p at) [
+    | inl is ↦
+        let same : c.ports p ≡ b.ports p = more.others p (λ in_later. apart (subst (λ (x : Port). Contains (ports_of later) x) is in_later)) in
+        rw same (reads.inputs p (0, lit< tt, sym is))
+    | inr in_later ↦
+        let same : b.ports p ≡ a.ports p = reads.others p (λ here. apart (subst (λ (x : Port). Contains (ports_of later) x) (only_of p s.port here) in_later)) in
+        subst (λ (x : PortTold). c.ports p ≡ record x { rest = (c.ports p).rest; state = (c.ports p).state }) same (more.inputs p in_later)
+  ];
+  others = λ p unread.
+      more.others p (λ at. unread (Contains-rest s.port (ports_of later) p at))
+      ∙ reads.others p (λ at. unread (0, omega arith, sym (only_of p s.port at)));
+  in_order = λ orderly. more.in_order (opens-after s later a b apart reads orderly.1) ∙ reads.in_order (orderly.0, tt);
+  later = omega (arith, reads.later, more.later);
+  still = more.still ∙ reads.still;
+}
+
+-- ---- one file
+
+-- a port at which what is left and the state are whatever they are now
+as_read : (x y : PortTold) (rest : Option (List ℕ)) (state : Option State) → y ≡ record x { rest = rest; state = state } → y ≡ record x { rest = y.rest; state = y.state }
+as_read x y rest state h = rw h refl
+
+-- an open that failed read nothing
+pub reads-open_failed : {T E : Type 0} (a b : Told) (port : Port) (name : List ℕ) (r : Result T E) → Opens a b port name r → IsErr r → OnlyReads (record { port = port; name = name } ∷ []) a b
+reads-open_failed a b port name (Ok v) opens failed = cc
+reads-open_failed a b port name (Err e) opens failed = record {
+  files = opens.others.files;
+  inputs = λ p at. subst (λ (q : Port). b.ports q ≡ record (a.ports q) { rest = (b.ports q).rest; state = (b.ports q).state }) (sym (only_of p port at))
+      (as_read (a.ports port) (b.ports port) (a.ports port).rest (option_map (λ (_ : State). Refused) (a.ports port).state) opens.err);
+  others = λ p apart. opens.others.ports p (λ is. apart (0, lit< tt, sym is));
+  in_order = λ orderly. opens.stray.kept orderly.0;
+  later = opens.cause.later;
+  still = opens.still;
+}
+
+-- a file that was opened, and of which some bytes were read
+pub reads-taken : {T E : Type 0} (a b c : Told) (port : Port) (name bytes : List ℕ) (r : Result T E) → Opens a b port name r → IsOk r → Takes b c port bytes → OnlyReads (record { port = port; name = name } ∷ []) a c
+reads-taken a b c port name bytes (Err e) opens done takes = cc
+reads-taken a b c port name bytes (Ok v) opens done takes =
+    let read : c.ports port ≡ record (a.ports port) { rest = (c.ports port).rest; state = option_map (λ (_ : State). Ready) (a.ports port).state } =
+    subst (λ (x : PortTold). c.ports port ≡ record x { rest = (c.ports port).rest }) opens.ok takes.only in
+    record {
+      files = takes.others.files ∙ opens.others.files;
+      inputs = λ p at. subst (λ (q : Port). c.ports q ≡ record (a.ports q) { rest = (c.ports q).rest; state = (c.ports q).state }) (sym (only_of p port at))
+          (as_read (a.ports port) (c.ports port) (c.ports port).rest (option_map (λ (_ : State). Ready) (a.ports port).state) read);
+      others = λ p apart.
+          let other : p ≢ port = λ is. apart (0, lit< tt, sym is) in
+          takes.others.ports p other ∙ opens.others.ports p other;
+      in_order = λ orderly.
+          let ready : IsOrderlyRead b port = record {
+            input = orderly.0.input;
+            ready = ap (λ (x : PortTold). x.state) opens.ok ∙ ap (option_map (λ (_ : State). Ready)) orderly.0.fresh;
+          } in
+          takes.stray.kept ready ∙ opens.stray.kept orderly.0;
+      later = omega (arith, opens.cause.later, takes.later);
+      still = takes.still ∙ opens.still;
+    }
+
+-- the bytes that were read are from the front of those under the name
+longer : (x : List ℕ) (rest : Option (List ℕ)) (bytes : List ℕ) → Consumes (Some x) rest bytes → length bytes ≤ length x
+longer x None bytes h = absurd h
+longer x (Some y) bytes h = let long = ap length h ∙ length-append bytes y in omega (arith, long)
+
+pub taken_of_file : {T E : Type 0} (a b c : Told) (port : Port) (name bytes under : List ℕ) (r : Result T E) → Opens a b port name r → IsOk r → Takes b c port bytes
+    → a.files name ≡ Some under → length bytes ≤ length under
+taken_of_file a b c port name bytes under (Err e) opens done takes told = cc
+taken_of_file a b c port name bytes under (Ok v) opens done takes told =
+    let rest : (b.ports port).rest ≡ Some under = ap (λ (x : PortTold). x.rest) opens.ok ∙ told in
+    longer under (c.ports port).rest bytes (subst (λ (x : Option (List ℕ)). Consumes x (c.ports port).rest bytes) rest takes.taken)
+
+-- a text of too many bytes is refused for that
+too_long-refused : (port : Port) (text : List ℕ) → IsTrue (is_input port) → max_judged_bytes < length text → IsRefusedAt port text (too_long_at port)
+too_long-refused In text input long = rw (lt-ltb max_judged_bytes (length text) long) refl
+too_long-refused RoutesIn text input long = rw (lt-ltb max_judged_bytes (length text) long) refl
+too_long-refused CertIn text input long = rw (lt-ltb max_judged_bytes (length text) long) refl
+too_long-refused RoutesOut text input long = cc
+too_long-refused CertOut text input long = cc
+too_long-refused DesignOut text input long = cc
+too_long-refused Report text input long = cc
+
+pub too_long-cause : (port : Port) (name : List ℕ) (a b : Told) → IsTrue (is_input port) → ((bytes : List ℕ) → a.files name ≡ Some bytes → max_judged_bytes < length bytes)
+    → IsCause (record { port = port; name = name } ∷ []) a b (too_long_at port)
+too_long-cause In name a b input long = inl (λ bytes under. too_long-refused In bytes input (long bytes under))
+too_long-cause RoutesIn name a b input long = inl (λ bytes under. too_long-refused RoutesIn bytes input (long bytes under))
+too_long-cause CertIn name a b input long = inl (λ bytes under. too_long-refused CertIn bytes input (long bytes under))
+too_long-cause RoutesOut name a b input long = cc
+too_long-cause CertOut name a b input long = cc
+too_long-cause DesignOut name a b input long = cc
+too_long-cause Report name a b input long = cc
+
+-- ---- the steps of a run that reads files
+
+-- an open that failed
+pub source-unopened : {T E U : Type 0} (a b : Told) (port : Port) (name : List ℕ) (r : Result T E) → Opens a b port name r → is_err r ≡ true
+    → ReadsSources {T = U} (record { port = port; name = name } ∷ []) a b (Err Unread)
+source-unopened a b port name (Ok v) opens failed = cc
+source-unopened a b port name (Err e) opens failed = record {
+  refused = λ q is. let same : Unread ≡ q = cc in subst (IsCause (record { port = port; name = name } ∷ []) a b) same opens.cause.failed;
+  reads = reads-open_failed a b port name (Err e) opens refl;
+  quiet = λ not. absurd (not refl);
+}
+
+-- a file that was read whole
+pub source-read : {T E U : Type 0} (a b c : Told) (port : Port) (name bytes : List ℕ) (r : Result T E) (u : U) → Opens a b port name r → is_err r ≡ false → Takes b c port bytes
+    → c.in_faults ≡ b.in_faults → ReadsSources {T = U} (record { port = port; name = name } ∷ []) a c (Ok u)
+source-read a b c port name bytes (Err e) u opens done takes calm = cc
+source-read a b c port name bytes (Ok v) u opens done takes calm = record {
+  refused = λ q is. cc;
+  reads = reads-taken a b c port name bytes (Ok v) opens refl takes;
+  quiet = λ _. calm ∙ opens.cause.quiet;
+}
+
+-- a file of too many bytes
+pub source-too_long : {T E U : Type 0} (a b c : Told) (port : Port) (name bytes : List ℕ) (r : Result T E) → IsTrue (is_input port) → Opens a b port name r → is_err r ≡ false
+    → Takes b c port bytes → length bytes ≡ max_judged_bytes + 1 → c.in_faults ≡ b.in_faults
+    → ReadsSources {T = U} (record { port = port; name = name } ∷ []) a c (Err (too_long_at port))
+source-too_long a b c port name bytes (Err e) input opens done takes many calm = cc
+source-too_long a b c port name bytes (Ok v) input opens done takes many calm =
+    let long : (under : List ℕ) → a.files name ≡ Some under → max_judged_bytes < length under =
+    λ under told. omega (arith, many, taken_of_file a b c port name bytes under (Ok v) opens refl takes told) in
+    record {
+      refused = λ q is. let same : too_long_at port ≡ q = cc in subst (IsCause (record { port = port; name = name } ∷ []) a c) same (too_long-cause port name a c input long);
+      reads = reads-taken a b c port name bytes (Ok v) opens refl takes;
+      quiet = λ _. calm ∙ opens.cause.quiet;
+    }
+
+-- an error that is this one
+pub error_of : {T : Type 0} (x : Result T Refusal) (e : Refusal) → IsErrAnd x (λ y. y ≡ e) → x ≡ Err e
+error_of (Ok v) e is = absurd is
+error_of (Err y) e is = ap (λ (z : Refusal). Err z) is
+
+-- what a design's text is refused for, once it was read
+pub source-text : {T U : Type 0} (name text : List ℕ) (a b : Told) (v : T) (x : Result U Refusal)
+    → ReadsSources {T = T} (design_source name) a b (Ok v) → ((bytes : List ℕ) → a.files name ≡ Some bytes → text ≡ bytes)
+    → ((q : Refusal) → x ≡ Err q → IsRefusedFor text q ⊎ (q ≡ NoMemory)) → ReadsSources (design_source name) a b x
+source-text name text a b v x read same for = record {
+  refused = λ q is. cause-of_text name text a b q same (for q is);
+  reads = read.reads;
+  quiet = λ _. read.quiet (λ h. cc);
+}
+
+-- the first file was refused
+pub sources-early : {T U : Type 0} (s : Source) (later : List Source) (a b : Told) (r : Result T Refusal) (x : Result U Refusal) (e : Refusal) → ¬ Contains (ports_of later) s.port
+    → r ≡ Err e → x ≡ Err e → ReadsSources (s ∷ []) a b r → ReadsSources (s ∷ later) a b x
+sources-early s later a b r x e apart failed answered read = record {
+  refused = λ q is. let same : r ≡ Err q = cc in cause-early s later a b q (read.refused q same);
+  reads = reads-then s later a b b apart read.reads (reads-nothing later b);
+  quiet = λ not. read.quiet (λ unread. let same : x ≡ Err Unread = cc in not same);
+}
+
+-- the first file was accepted, and others follow
+pub sources-then : {T U : Type 0} (s : Source) (later : List Source) (a b c : Told) (r : Result T Refusal) (v : T) (x : Result U Refusal) → ¬ Contains (ports_of later) s.port
+    → r ≡ Ok v → ((bytes : List ℕ) → a.files s.name ≡ Some bytes → IsAcceptedAt s.port bytes)
+    → ReadsSources (s ∷ []) a b r → ReadsSources later b c x → ReadsSources (s ∷ later) a c x
+sources-then s later a b c r v x apart done accepted read more =
+    let calm : b.in_faults ≡ a.in_faults = read.quiet (λ unread. let same : Ok v ≡ Err Unread = sym done ∙ unread in cc) in
+    record {
+      refused = λ q is. cause-behind s later a b c q accepted read.reads.files calm (more.refused q is);
+      reads = reads-then s later a b c apart read.reads more.reads;
+      quiet = λ not. more.quiet not ∙ calm;
+    }
+
+-- all files were read, and only memory can be wanting
+pub sources-done : {U : Type 0} (a : Told) (x : Result U Refusal) → ((q : Refusal) → x ≡ Err q → q ≡ NoMemory) → ReadsSources [] a a x
+sources-done a x memory = record {
+  refused = λ q is. subst (IsCause [] a a) (sym (memory q is)) tt;
+  reads = reads-nothing [] a;
+  quiet = λ _. refl;
+}

@@ -1,0 +1,97 @@
+-- Why a run is refused.
+use Rattle.std.specs.Prelude.{◌≡◌, ◌⊎◌, ℕ, List, [], ◌∷◌, Option, Some, Ok, Err}
+use Rattle.cert_text.specs.declared.stated.Stated.{Stated}
+use Rattle.gr_desk.specs.declared.port.Port.{Port}
+use Rattle.gr_desk.specs.declared.port.Port.TheVariants.{In, RoutesIn, CertIn}
+use Rattle.gr_desk.specs.Told.{Told}
+use Rattle.grid_graph.specs.declared.design.Design.{Design}
+use Rattle.grid_graph.specs.declared.grid.Grid.{Grid}
+use Rattle.grid_graph.specs.declared.ground.Ground.TheVariants.{WithChoked}
+use Rattle.grid_graph.specs.declared.net_spec.NetSpec.{NetSpec}
+use Rattle.grid_graph.specs.Grounds.{JoinsTerminals, IsFirstCutOff}
+use Rattle.grid_base.specs.Lists.{At}
+use Rattle.ispd_reader.specs.Designs.{contents_of, IsDesignOfText}
+use Rattle.route_text.specs.declared.block.Block.{Block}
+use Rattle.judge_cli.specs.declared.refusal.Refusal.{Refusal}
+use Rattle.judge_cli.specs.declared.refusal.Refusal.TheVariants.{NoCommand, Input, Unreachable, Text, Unread, NoMemory}
+use Rattle.judge_cli.specs.JudgedTexts.{blocks_or_refusal, stated_or_refusal}
+use Rattle.judge_cli.specs.Lines.{status_of}
+use Rattle.judge_cli.specs.Sources.{Source, ports_of}
+use Rattle.judge_cli.specs.Traces.{ReportsRefusal, TouchesOnly, InputFailed}
+
+-- ---- what is wrong with a text
+
+-- open and choked edges with vias join every net's terminals
+abbrev pub AreReachable : Grid → List NetSpec → Type 0
+AreReachable g nets = (k : ℕ) (n : NetSpec) → At nets k n → JoinsTerminals g WithChoked n.terminals
+
+-- the text names a design of which this net is the first that is cut off, and this its first terminal
+pub record IsCutOffText (text : List ℕ) (id terminal : ℕ) : Type 0 where
+  pub design : Design
+  pub named : IsDesignOfText text design
+  pub first : IsFirstCutOff design.grid design.nets id terminal
+
+-- the text of a design is refused for this; the other refusals are not for what it says
+abbrev pub IsRefusedFor : List ℕ → Refusal → Type 0
+IsRefusedFor text (Input fault) = contents_of text ≡ Err fault
+IsRefusedFor text (Unreachable net) = IsCutOffText text net.id net.terminal
+IsRefusedFor text (Text fault) = ⊥
+IsRefusedFor text NoCommand = ⊥
+IsRefusedFor text Unread = ⊥
+IsRefusedFor text NoMemory = ⊥
+
+-- the text that is read at the port is refused for this
+abbrev pub IsRefusedAt : Port → List ℕ → Refusal → Type 0
+IsRefusedAt In text refusal = IsRefusedFor text refusal
+IsRefusedAt RoutesIn text refusal = blocks_or_refusal text ≡ Err refusal
+IsRefusedAt CertIn text refusal = stated_or_refusal text ≡ Err refusal
+IsRefusedAt _ text refusal = ⊥
+
+-- the text that is read at the port is one: of a design whose nets are reachable, of blocks, of a certificate
+abbrev pub IsAcceptedAt : Port → List ℕ → Type 0
+IsAcceptedAt In text = (d : Design) × IsDesignOfText text d × AreReachable d.grid d.nets
+IsAcceptedAt RoutesIn text = (blocks : List Block) × (blocks_or_refusal text ≡ Ok blocks)
+IsAcceptedAt CertIn text = (stated : Stated) × (stated_or_refusal text ≡ Ok stated)
+IsAcceptedAt _ text = ⊥
+
+-- ---- in which order texts are read
+
+-- where the desk tells the bytes under the names: one of the texts is refused for this, and those that are read before it are
+-- none that are refused
+abbrev pub IsFirstRefused : (List ℕ → Option (List ℕ)) → List Source → Refusal → Type 0
+IsFirstRefused files [] refusal = ⊥
+IsFirstRefused files (s ∷ later) refusal =
+    ((bytes : List ℕ) → files s.name ≡ Some bytes → IsRefusedAt s.port bytes refusal)
+    ⊎ (((bytes : List ℕ) → files s.name ≡ Some bytes → IsAcceptedAt s.port bytes) × IsFirstRefused files later refusal)
+
+-- the desk tells the bytes up to the first text that is refused, which is so for this
+abbrev pub HasToBeRefused : (List ℕ → Option (List ℕ)) → List Source → Refusal → Type 0
+HasToBeRefused files [] refusal = ⊥
+HasToBeRefused files (s ∷ later) refusal =
+    (bytes : List ℕ) × (files s.name ≡ Some bytes)
+    × (IsRefusedAt s.port bytes refusal ⊎ (IsAcceptedAt s.port bytes × HasToBeRefused files later refusal))
+
+-- the desk tells the bytes of all of them, and none is refused
+abbrev pub AreAccepted : (List ℕ → Option (List ℕ)) → List Source → Type 0
+AreAccepted files [] = Unit {0}
+AreAccepted files (s ∷ later) =
+    (bytes : List ℕ) × (files s.name ≡ Some bytes) × IsAcceptedAt s.port bytes × AreAccepted files later
+
+-- the cause of a refusal, where the words are a command: a failed open or read, or what the bytes under the names say, where
+-- the desk tells them; want of memory has none
+abbrev pub IsCause : List Source → Told → Told → Refusal → Type 0
+IsCause sources before after NoCommand = ⊥
+IsCause sources before after Unread = InputFailed before after
+IsCause sources before after NoMemory = Unit {0}
+IsCause sources before after refusal = IsFirstRefused before.files sources refusal
+
+-- ---- what a refused run leaves
+
+-- the run, which reads these files, was refused: for a cause, with the status of the refusal, and it said so; no file was
+-- created
+pub record IsRefused (sources : List Source) (before after : Told) (status : ℕ) : Type 0 where
+  pub refusal : Refusal
+  pub status_is : status ≡ status_of refusal
+  pub cause : IsCause sources before after refusal
+  pub says : ReportsRefusal before after refusal
+  pub touches : TouchesOnly (ports_of sources) [] before after

@@ -1,0 +1,47 @@
+-- What a run does to the desk.
+use Rattle.std.specs.Prelude.{◌≡◌, ◌≢◌, ◌≤◌, ℕ, List, take, Contains}
+use Rattle.std.specs.Io.KnownBytes.{Appends}
+use Rattle.gr_desk.specs.declared.port.Port.{Port}
+use Rattle.gr_desk.specs.declared.port.Port.TheVariants.{Report}
+use Rattle.gr_desk.specs.Causes.{Rose}
+use Rattle.gr_desk.specs.Told.{Told, PortTold}
+use Rattle.judge_cli.specs.declared.refusal.Refusal.{Refusal}
+use Rattle.judge_cli.specs.Lines.{lines_of}
+
+-- an open or a read failed in the run
+abbrev pub InputFailed : Told → Told → Type 0
+InputFailed before after = Rose before.in_faults after.in_faults
+
+-- a create or a write failed in the run
+abbrev pub OutputFailed : Told → Told → Type 0
+OutputFailed before after = Rose before.out_faults after.out_faults
+
+-- the report gained these bytes
+abbrev pub ReportGains : Told → Told → List ℕ → Type 0
+ReportGains before after bytes = Appends (before.ports Report).written (after.ports Report).written bytes
+
+-- the run said why it is refused: a part of the refusal's lines from their front, and all of them where no write failed
+pub record ReportsRefusal (before after : Told) (refusal : Refusal) : Type 0 where
+  pub count : ℕ
+  pub part : ReportGains before after (take count (lines_of refusal))
+  pub whole : ¬ OutputFailed before after → ReportGains before after (lines_of refusal)
+
+-- a port but for what may have become of a file that was created there
+abbrev pub but_for_output : PortTold → PortTold → PortTold
+but_for_output before after = record before { written = after.written; target = after.target; state = after.state }
+
+-- the run read at some ports at most, created and wrote files at others, and wrote the report
+pub record TouchesOnly (read made : List Port) (before after : Told) : Type 0 where
+  pub files : after.files ≡ before.files
+  -- where it may read, what is left to be read changed, and the state
+  pub inputs : (p : Port) → Contains read p
+      → after.ports p ≡ record (before.ports p) { rest = (after.ports p).rest; state = (after.ports p).state }
+  -- where it may create files, what was written, its name, and the state
+  pub outputs : (p : Port) → Contains made p → after.ports p ≡ but_for_output (before.ports p) (after.ports p)
+  -- at the report what was written
+  pub report : after.ports Report ≡ record (before.ports Report) { written = (after.ports Report).written }
+  -- at all other ports nothing
+  pub others : (p : Port) → ¬ Contains read p → ¬ Contains made p → p ≢ Report → after.ports p ≡ before.ports p
+  -- the counts of faults never fall
+  pub in_count : before.in_faults ≤ after.in_faults
+  pub out_count : before.out_faults ≤ after.out_faults

@@ -1,0 +1,79 @@
+//! The command `judge`.
+
+ghost use Rattle.std.specs.Prelude.{◌≡◌, IfOk};
+ghost use Rattle.cert_text.specs.Certs.{IsCertWithin};
+ghost use Rattle.grid_graph.specs.Grounds.{AreGrounds};
+ghost use Rattle.route_judge.specs.Limits.{AreBlocks};
+ghost use Rattle.judge_cli.specs.JudgeRun.{IsJudgeAnswer, IsJudgeRun, IsTrueOfCert, judge_sources, judge_task_of};
+ghost use Rattle.judge_cli.specs.Steps.{ReadsSources};
+
+use crate::answer::Answer;
+use crate::grounded_design::GroundedDesign;
+use crate::measuring::report_of;
+use crate::refusal::Refusal;
+use crate::refusing::refuse;
+use crate::saying::say;
+use crate::sources::{read_blocks, read_certificate, read_grounded};
+use cert_text::Cert;
+use command_words::JudgeRequest;
+use gr_desk::Desk;
+use grid_base::NoMemory;
+use route_judge::Verdict;
+use route_text::Block;
+use std::alloc::Global;
+use std::thread::Threads;
+
+/// Judges routes and a certificate, says on the report whether they are accepted, and answers the status.
+pub fn judge<R: Threads + Sync, D: Desk>(
+    rt: &R,
+    alloc: Global,
+    request: &JudgeRequest<'_>,
+    desk: &mut D,
+) -> u8
+    ensures { IsJudgeRun (judge_task_of request.now) (D.told desk.old) (D.told desk.new) result }
+{
+    match judged(rt, alloc, request, desk) {
+        Ok(answer) => say(desk, answer),
+        Err(refusal) => refuse(desk, refusal),
+    }
+}
+
+/// Reads the design, the routes and the certificate under the names, and judges these two.
+fn judged<R: Threads + Sync, D: Desk>(
+    rt: &R,
+    alloc: Global,
+    request: &JudgeRequest<'_>,
+    desk: &mut D,
+) -> Result<Answer, Refusal>
+    ensures answer { IfOk result (IsJudgeAnswer (judge_task_of request.now) (D.told desk.old)) }
+    ensures reads { ReadsSources (judge_sources (judge_task_of request.now)) (D.told desk.old) (D.told desk.new) result }
+{
+    let grounded = read_grounded(alloc, desk, request.input)?;
+    let blocks = read_blocks(alloc, desk, request.routes)?;
+    let cert = read_certificate(alloc, desk, request.certificate)?;
+    Ok(answer_on_cert(rt, alloc, &grounded, blocks.as_slice(), &cert)?)
+}
+
+/// What is said of routes and a certificate.
+pub fn answer_on_cert<R: Threads + Sync>(
+    rt: &R,
+    alloc: Global,
+    grounded: &GroundedDesign,
+    blocks: &[Block],
+    cert: &Cert,
+) -> Result<Answer, NoMemory>
+    requires grounds { AreGrounds grounded.now.design.grid grounded.now.design.nets grounded.now.grounds.items }
+    requires blocks { AreBlocks blocks.now }
+    requires cert { IsCertWithin cert.now }
+    ensures { IfOk result (IsTrueOfCert grounded.now.design grounded.now.grounds.items blocks.now cert.now) }
+{
+    let grounds = grounded.grounds.as_slice();
+    match route_judge::judge(rt, alloc, &grounded.design, grounds, blocks, cert)? {
+        Verdict::Yes { measure, beyond } => Ok(Answer::Yes {
+            report: report_of(grounded, measure, beyond),
+            bound: cert.bound,
+            budget: cert.budget,
+        }),
+        Verdict::No(reason) => Ok(Answer::No(reason)),
+    }
+}

@@ -1,0 +1,60 @@
+//! The commands that judge: a desk and names in, a status out. And what every run of a program does that reads files and
+//! answers on the report.
+//!
+//! ```text
+//! let status = judge(&rt, alloc, &request, desk);    // request: one_net.gr one_net.routes one_net.cert
+//! // yes
+//! // nets 1
+//! // forced 0
+//! // beyond 0
+//! // overflow 0
+//! // wirelength 2
+//! // peak 1/2
+//! // bound 1/2
+//! let status = measure(alloc, &request, desk);       // the same of routes alone: no yes, and no bound
+//! ```
+//!
+//! It stands on `command_words` for the requests, `ispd_reader` for the design, `grid_graph` for the nets' grounds, `route_text`
+//! and `cert_text` for the texts, `route_judge` for the verdict on them, `tree_set` for measures, `gr_desk` to read from and
+//! write to, `text_scan`, and `itoa`. It knows nothing of how routes are found, so whoever trusts `judge` alone reads these
+//! crates and no others.
+//!
+//! Promised, in the words of `specs/MeasureRun.antt`, `specs/JudgeRun.antt` and `specs/AnsweredRun.antt`: where the status is 0,
+//! nothing can be objected to what was read, and the report says what is measured of it; where it is 1, the report has the first
+//! objection that applies; every other status but 8, want of memory, has its cause, and no file is ever touched. The bound of a
+//! certificate that was accepted holds of every routing, whole or mixed.
+//!
+//! Other programs that read designs, routes and certificates stand on the same calls: `read_grounded`, `read_blocks`,
+//! `read_certificate` and `answer_on_cert` to read and judge, `make_cert` to make a file, and `say`, `refuse` and
+//! `say_unwritten` to end.
+
+#![tactic(auto)]
+
+mod answer;
+mod answer_lines;
+mod grounded_design;
+mod judging;
+mod lines;
+mod measuring;
+mod outputs;
+mod refusal;
+mod refusing;
+mod routes_report;
+mod saying;
+mod sources;
+mod statuses;
+mod text_fault;
+
+pub use answer::Answer;
+pub use grounded_design::GroundedDesign;
+pub use judging::{answer_on_cert, judge};
+pub use lines::{put_budget, put_fields, put_line};
+pub use measuring::{measure, report_of};
+pub use outputs::make_cert;
+pub use refusal::Refusal;
+pub use refusing::refuse;
+pub use routes_report::RoutesReport;
+pub use saying::{say, say_unwritten};
+pub use sources::{grounded, read_blocks, read_certificate, read_grounded};
+pub use statuses::{DONE, OBJECTED, UNWRITTEN};
+pub use text_fault::TextFault;
