@@ -15,12 +15,12 @@ use Rattle.judge_cli.specs.declared.refusal.Refusal.TheVariants.{Unread}
 use Rattle.judge_cli.specs.AnsweredRun.{IsSaid, IsSaidInPart, IsObjected, ExpectsSources, IsAnsweredRun}
 use Rattle.judge_cli.specs.AnswerLines.{answer_text, answer_status, reason_text, unsaid_status}
 use Rattle.judge_cli.specs.Lines.{done_status, objected_status, unwritten_status, lines_of, status_of}
-use Rattle.judge_cli.specs.Refusals.{IsAcceptedAt, HasToBeRefused, IsCause, IsRefused}
+use Rattle.judge_cli.specs.Refusals.{HasToBeRefused, IsCause, IsRefused}
 use Rattle.judge_cli.specs.Saying.{Says}
 use Rattle.judge_cli.specs.Sources.{Source, ports_of, AreOrderlyOpens}
 use Rattle.judge_cli.specs.Steps.{OnlyReads}
 use Rattle.judge_cli.specs.Traces.{ReportsRefusal, OutputFailed}
-use Rattle.judge_cli.proofs.Causes.{not_refused_at, first_once, accepted-not_first, first_or_memory}
+use Rattle.judge_cli.proofs.Causes.{AreAcceptedIfTold, not_refused_at, cause-due, cause-accepted}
 use Rattle.judge_cli.proofs.Outcomes.{status-no_report, status-no_objection}
 use Rattle.judge_cli.proofs.RefusedRuns.{is_refused}
 use Rattle.judge_cli.proofs.Traces.{gains-after_reads, failed-after_reads, touches-read, in_order-after_reads}
@@ -32,12 +32,7 @@ abbrev pub AreInputs : List Source → Type 0
 AreInputs [] = Unit {0}
 AreInputs (s ∷ later) = IsTrue (is_input s.port) × AreInputs later
 
--- what the desk tells of their bytes is accepted
-abbrev pub AreAcceptedIfTold : (List ℕ → Option (List ℕ)) → List Source → Type 0
-AreAcceptedIfTold files [] = Unit {0}
-AreAcceptedIfTold files (s ∷ later) = ((bytes : List ℕ) → files s.name ≡ Some bytes → IsAcceptedAt s.port bytes) × AreAcceptedIfTold files later
-
--- so none has to be refused
+-- where what the desk tells of their bytes is accepted none has to be refused
 pub accepted-not_due : (files : List ℕ → Option (List ℕ)) (sources : List Source) (r : Refusal) → AreAcceptedIfTold files sources → HasToBeRefused files sources r → ⊥
 accepted-not_due files [] r all due = due
 accepted-not_due files (s ∷ later) r all (bytes, under, inl now) = not_refused_at s.port bytes r (all.0 bytes under) now
@@ -201,16 +196,11 @@ run-not_said sources IsRight a b c status n r apart inputs why reads calm is par
       objected = λ one. absurd {A = IsObjected IsRight a c} (status-no_objection r (sym is ∙ one));
       cut_short = λ seven. absurd {A = IsSaidInPart IsRight a c} ((status-no_report r).1 (sym is ∙ seven));
       refused = λ not_zero not_one not_seven. refused;
-      tested = λ x due in_ok. elim (first_or_memory sources a c r refused.cause in_ok) [
-        | inl first ↦
-            let same : r ≡ x = first_once a.files sources r x first due in
-            inl (is ∙ ap status_of same, subst (ReportsRefusal a c) same refused.says)
+      tested = λ x due in_ok. elim (cause-due sources a c r x refused.cause due in_ok) [
+        | inl same ↦ inl (is ∙ ap status_of same, subst (ReportsRefusal a c) same refused.says)
         | inr memory ↦ inr (is ∙ ap status_of memory)
       ];
-      complete = λ all in_ok out_ok. elim (first_or_memory sources a c r refused.cause in_ok) [
-        | inl first ↦ absurd (accepted-not_first a.files sources r all first)
-        | inr memory ↦ inr (inr (is ∙ ap status_of memory))
-      ];
+      complete = λ all in_ok out_ok. inr (inr (is ∙ ap status_of (cause-accepted sources a c r refused.cause all in_ok)));
       touches = refused.touches;
       unread = λ not_six. part.still ∙ calm (λ six. not_six (is ∙ ap status_of six));
       in_order = λ expects. in_order-after_reads sources a b c (take n (lines_of r)) reads part (expected_opens sources a inputs expects);

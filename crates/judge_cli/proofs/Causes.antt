@@ -1,5 +1,5 @@
 -- What refuses a text: it is one cause, and it never refuses a text that has a routing.
-use Rattle.std.proofs.Common.{◌≡◌, ℕ, List, [], ◌∷◌, refl, sym, ap, ◌∙◌, subst, Some, Ok, Err, inl, inr}
+use Rattle.std.proofs.Common.{◌≡◌, ℕ, List, [], ◌∷◌, ◌++◌, refl, sym, ap, ◌∙◌, subst, Some, Ok, Err, inl, inr}
 use Rattle.std.specs.Prelude.{◌⊎◌, Option}
 use Rattle.grid_graph.specs.declared.design.Design.{Design}
 use Rattle.grid_graph.specs.declared.unreachable_net.UnreachableNet.{UnreachableNet}
@@ -12,9 +12,11 @@ use Rattle.judge_cli.specs.declared.refusal.Refusal.{Refusal}
 use Rattle.judge_cli.specs.declared.refusal.Refusal.TheVariants.{NoCommand, Input, Unreachable, Text, Unread, NoMemory}
 use Rattle.gr_desk.specs.declared.port.Port.{Port}
 use Rattle.gr_desk.specs.declared.port.Port.TheVariants.{In, RoutesIn, CertIn, RoutesOut, CertOut, DesignOut, Report}
-use Rattle.judge_cli.specs.Refusals.{AreReachable, IsRefusedFor, IsRefusedAt, IsAcceptedAt, IsFirstRefused, HasToBeRefused, AreAccepted, IsCause, IsCutOffText}
-use Rattle.judge_cli.specs.Sources.{Source, design_source}
+use Rattle.judge_cli.specs.Refusals.{AreReachable, IsRefusedFor, IsRefusedAt, IsAcceptedAt, IsAcceptedIfTold, AreUnopened, HasToBeRefused, AreAccepted, IsCause, IsCauseAt, IsCutOffText}
+use Rattle.judge_cli.specs.Sources.{Source, ports_of, design_source}
 use Rattle.judge_cli.specs.Traces.{InputFailed}
+use Rattle.grid_base.proofs.Lists.{Contains-rest}
+use Rattle.judge_cli.proofs.Traces.{none_in, ports-either}
 
 -- the first net that is cut off is one, in whatever design of the text
 one_cut_off : (text : List ℕ) (id id' t t' : ℕ) → IsCutOffText text id t → IsCutOffText text id' t' → (id ≡ id') × (t ≡ t')
@@ -75,78 +77,139 @@ not_refused_at CertOut text r accepted h = h
 not_refused_at DesignOut text r accepted h = h
 not_refused_at Report text r accepted h = h
 
--- files are refused for one cause, which is that of the first that has to be refused
-pub first_once : (files : List ℕ → Option (List ℕ)) (sources : List Source) (r x : Refusal) → IsFirstRefused files sources r → HasToBeRefused files sources x → r ≡ x
-first_once files [] r x first has = absurd first
-first_once files (s ∷ later) r x (inl refused) (bytes, under, inl now) = refused_once_at s.port bytes r x (refused bytes under) now
-first_once files (s ∷ later) r x (inl refused) (bytes, under, inr more) = absurd (not_refused_at s.port bytes r more.0 (refused bytes under))
-first_once files (s ∷ later) r x (inr rest) (bytes, under, inl now) = absurd (not_refused_at s.port bytes x (rest.0 bytes under) now)
-first_once files (s ∷ later) r x (inr rest) (bytes, under, inr more) = first_once files later r x rest.1 more.1
+-- where no open or read failed, what a run ended for at a file is what its text says, or want of memory
+cause_at-says : (s : Source) (a c : Told) (r : Refusal) → IsCauseAt s a c r → ¬ InputFailed a c
+    → ((bytes : List ℕ) → a.files s.name ≡ Some bytes → IsRefusedAt s.port bytes r) ⊎ (r ≡ NoMemory)
+cause_at-says s a c NoCommand cause calm = absurd cause
+cause_at-says s a c (Input fault) cause calm = inl cause
+cause_at-says s a c (Text fault) cause calm = inl cause
+cause_at-says s a c (Unreachable net) cause calm = inl cause
+cause_at-says s a c Unread cause calm = absurd (calm cause)
+cause_at-says s a c NoMemory cause calm = inr refl
 
--- files that are accepted are refused for nothing
-pub accepted-not_first : (files : List ℕ → Option (List ℕ)) (sources : List Source) (r : Refusal) → AreAccepted files sources → IsFirstRefused files sources r → ⊥
-accepted-not_first files [] r all first = first
-accepted-not_first files (s ∷ later) r all (inl refused) = not_refused_at s.port all.0 r all.2 (refused all.0 all.1)
-accepted-not_first files (s ∷ later) r all (inr rest) = accepted-not_first files later r all.3 rest.1
+-- a run that ends before a text that has to be refused ends for that, or for want of memory
+pub cause-due : (sources : List Source) (a c : Told) (r x : Refusal) → IsCause sources a c r → HasToBeRefused a.files sources x → ¬ InputFailed a c → (r ≡ x) ⊎ (r ≡ NoMemory)
+cause-due [] a c r x cause due calm = absurd due
+cause-due (s ∷ later) a c r x (inl (at, unopened)) (bytes, under, inl now) calm = elim (cause_at-says s a c r at calm) [
+  | inl says ↦ inl (refused_once_at s.port bytes r x (says bytes under) now)
+  | inr memory ↦ inr memory
+]
+cause-due (s ∷ later) a c r x (inl (at, unopened)) (bytes, under, inr more) calm = elim (cause_at-says s a c r at calm) [
+  | inl says ↦ absurd (not_refused_at s.port bytes r more.0 (says bytes under))
+  | inr memory ↦ inr memory
+]
+cause-due (s ∷ later) a c r x (inr (accepted, rest)) (bytes, under, inl now) calm = absurd (not_refused_at s.port bytes x (accepted bytes under) now)
+cause-due (s ∷ later) a c r x (inr (accepted, rest)) (bytes, under, inr more) calm = cause-due later a c r x rest more.1 calm
 
--- a refusal with a cause, where no open or read failed, is for what a text says, or want of memory
-pub first_or_memory : (sources : List Source) (a c : Told) (r : Refusal) → IsCause sources a c r → ¬ InputFailed a c → IsFirstRefused a.files sources r ⊎ (r ≡ NoMemory)
-first_or_memory sources a c NoCommand cause calm = absurd cause
-first_or_memory sources a c (Input fault) cause calm = inl cause
-first_or_memory sources a c (Text fault) cause calm = inl cause
-first_or_memory sources a c (Unreachable net) cause calm = inl cause
-first_or_memory sources a c Unread cause calm = absurd (calm cause)
-first_or_memory sources a c NoMemory cause calm = inr refl
+-- where all texts are accepted it ends for want of memory alone
+pub cause-accepted : (sources : List Source) (a c : Told) (r : Refusal) → IsCause sources a c r → AreAccepted a.files sources → ¬ InputFailed a c → r ≡ NoMemory
+cause-accepted [] a c r cause all calm = cause
+cause-accepted (s ∷ later) a c r (inl (at, unopened)) all calm = elim (cause_at-says s a c r at calm) [
+  | inl says ↦ absurd (not_refused_at s.port all.0 r all.2 (says all.0 all.1))
+  | inr memory ↦ memory
+]
+cause-accepted (s ∷ later) a c r (inr (accepted, rest)) all calm = cause-accepted later a c r rest all.3 calm
+
+-- ---- a run that reads one file
+
+-- the cause at a file that is read alone
+pub cause-alone : (s : Source) (a b : Told) (r : Refusal) → IsCauseAt s a b r → IsCause (s ∷ []) a b r
+cause-alone s a b r at = inl (at, λ p in_none. absurd (none_in p in_none))
+
+cause-at : (s : Source) (a b : Told) (r : Refusal) → IsCause (s ∷ []) a b r → IsCauseAt s a b r
+cause-at s a b r (inl (at, unopened)) = at
+cause-at s a b r (inr (accepted, memory)) = subst (IsCauseAt s a b) (sym memory) tt
 
 -- of a design alone
 pub text_or_memory : (name text : List ℕ) (a c : Told) (r : Refusal) → IsCause (design_source name) a c r → a.files name ≡ Some text → ¬ InputFailed a c → IsRefusedFor text r ⊎ (r ≡ NoMemory)
-text_or_memory name text a c r cause under calm = elim (first_or_memory (design_source name) a c r cause calm) [
-  | inl first ↦ elim first [
-    | inl refused ↦ inl (refused text under)
-    | inr rest ↦ absurd rest.1
-  ]
-  | inr memory ↦ inr memory
-]
+text_or_memory name text a c r cause under calm =
+    let design : Source = record { port = In; name = name } in
+    elim (cause_at-says design a c r (cause-at design a c r cause) calm) [
+      | inl says ↦ inl (says text under)
+      | inr memory ↦ inr memory
+    ]
 
 -- what the text of a design is refused for is a cause, and so is want of memory
+cause_at-of_text : (name text : List ℕ) (a b : Told) (r : Refusal) → ((bytes : List ℕ) → a.files name ≡ Some bytes → text ≡ bytes)
+    → IsRefusedFor text r ⊎ (r ≡ NoMemory) → IsCauseAt (record { port = In; name = name }) a b r
+cause_at-of_text name text a b NoCommand same (inl for) = absurd for
+cause_at-of_text name text a b Unread same (inl for) = absurd for
+cause_at-of_text name text a b (Text fault) same (inl for) = absurd for
+cause_at-of_text name text a b NoMemory same for = tt
+cause_at-of_text name text a b (Input fault) same (inl for) = λ bytes under. subst (λ (t : List ℕ). IsRefusedFor t (Input fault)) (same bytes under) for
+cause_at-of_text name text a b (Unreachable net) same (inl for) = λ bytes under. subst (λ (t : List ℕ). IsRefusedFor t (Unreachable net)) (same bytes under) for
+cause_at-of_text name text a b r same (inr memory) = subst (IsCauseAt (record { port = In; name = name }) a b) (sym memory) tt
+
 pub cause-of_text : (name text : List ℕ) (a b : Told) (r : Refusal) → ((bytes : List ℕ) → a.files name ≡ Some bytes → text ≡ bytes)
     → IsRefusedFor text r ⊎ (r ≡ NoMemory) → IsCause (design_source name) a b r
-cause-of_text name text a b NoCommand same (inl for) = absurd for
-cause-of_text name text a b Unread same (inl for) = absurd for
-cause-of_text name text a b (Text fault) same (inl for) = absurd for
-cause-of_text name text a b NoMemory same for = tt
-cause-of_text name text a b (Input fault) same (inl for) = inl (λ bytes under. subst (λ (t : List ℕ). IsRefusedFor t (Input fault)) (same bytes under) for)
-cause-of_text name text a b (Unreachable net) same (inl for) = inl (λ bytes under. subst (λ (t : List ℕ). IsRefusedFor t (Unreachable net)) (same bytes under) for)
-cause-of_text name text a b r same (inr memory) = subst (IsCause (design_source name) a b) (sym memory) tt
+cause-of_text name text a b r same for = cause-alone (record { port = In; name = name }) a b r (cause_at-of_text name text a b r same for)
+
+-- ---- causes of parts of a run
+
+-- what the desk tells of the files' bytes is accepted
+abbrev pub AreAcceptedIfTold : (List ℕ → Option (List ℕ)) → List Source → Type 0
+AreAcceptedIfTold files [] = Unit {0}
+AreAcceptedIfTold files (s ∷ later) = IsAcceptedIfTold files s × AreAcceptedIfTold files later
+
+-- memory may be wanting before the first file is opened
+cause-unopened : (sources : List Source) (a b : Told) → AreUnopened sources a b → IsCause sources a b NoMemory
+cause-unopened [] a b kept = refl
+cause-unopened (s ∷ later) a b kept = inl (tt, λ p is. kept p (Contains-rest s.port (ports_of later) p is))
+
+pub cause-unbegun : (sources : List Source) (a : Told) → IsCause sources a a NoMemory
+cause-unbegun sources a = cause-unopened sources a a (λ p is. refl)
+
+-- and behind the last one
+pub cause-read : (sources : List Source) (a b : Told) → AreAcceptedIfTold a.files sources → IsCause sources a b NoMemory
+cause-read [] a b accepted = refl
+cause-read (s ∷ later) a b accepted = inr (accepted.0, cause-read later a b accepted.1)
 
 -- a cause stays one where no open or read follows
-pub cause-later : (sources : List Source) (a b c : Told) (r : Refusal) → c.in_faults ≡ b.in_faults → IsCause sources a b r → IsCause sources a c r
-cause-later sources a b c NoCommand same cause = cause
-cause-later sources a b c (Input fault) same cause = cause
-cause-later sources a b c (Text fault) same cause = cause
-cause-later sources a b c (Unreachable net) same cause = cause
-cause-later sources a b c Unread same cause = rw same cause
-cause-later sources a b c NoMemory same cause = cause
+cause_at-later : (s : Source) (a b c : Told) (r : Refusal) → c.in_faults ≡ b.in_faults → IsCauseAt s a b r → IsCauseAt s a c r
+cause_at-later s a b c NoCommand same cause = cause
+cause_at-later s a b c (Input fault) same cause = cause
+cause_at-later s a b c (Text fault) same cause = cause
+cause_at-later s a b c (Unreachable net) same cause = cause
+cause_at-later s a b c Unread same cause = rw same cause
+cause_at-later s a b c NoMemory same cause = cause
 
-first-early : (s : Source) (later : List Source) (files : List ℕ → Option (List ℕ)) (r : Refusal) → IsFirstRefused files (s ∷ []) r → IsFirstRefused files (s ∷ later) r
-first-early s later files r (inl refused) = inl refused
-first-early s later files r (inr rest) = absurd rest.1
+pub cause-later : (sources : List Source) (a b c : Told) (r : Refusal) → c.in_faults ≡ b.in_faults → AreUnopened sources b c → IsCause sources a b r → IsCause sources a c r
+cause-later [] a b c r same kept cause = cause
+cause-later (s ∷ later) a b c r same kept (inl (at, unopened)) =
+    inl (cause_at-later s a b c r same at, λ p is. kept p (Contains-rest s.port (ports_of later) p is) ∙ unopened p is)
+cause-later (s ∷ later) a b c r same kept (inr (accepted, rest)) =
+    inr (accepted, cause-later later a b c r same (λ p is. kept p (Contains-rest s.port (ports_of later) p is)) rest)
 
--- a cause in the first file is one where others would follow
-pub cause-early : (s : Source) (later : List Source) (a b : Told) (r : Refusal) → IsCause (s ∷ []) a b r → IsCause (s ∷ later) a b r
-cause-early s later a b NoCommand cause = cause
-cause-early s later a b (Input fault) cause = first-early s later a.files (Input fault) cause
-cause-early s later a b (Text fault) cause = first-early s later a.files (Text fault) cause
-cause-early s later a b (Unreachable net) cause = first-early s later a.files (Unreachable net) cause
-cause-early s later a b Unread cause = cause
-cause-early s later a b NoMemory cause = cause
+-- and it was one where no open or read of these files came before
+cause_at-since : (s : Source) (a b c : Told) (r : Refusal) → b.files ≡ a.files → b.in_faults ≡ a.in_faults → IsCauseAt s b c r → IsCauseAt s a c r
+cause_at-since s a b c NoCommand files calm cause = cause
+cause_at-since s a b c (Input fault) files calm cause = rw files at cause
+cause_at-since s a b c (Text fault) files calm cause = rw files at cause
+cause_at-since s a b c (Unreachable net) files calm cause = rw files at cause
+cause_at-since s a b c Unread files calm cause = rw (sym calm) cause
+cause_at-since s a b c NoMemory files calm cause = cause
 
--- a cause in later files is one behind a file that was accepted
-pub cause-behind : (s : Source) (later : List Source) (a b c : Told) (r : Refusal) → ((bytes : List ℕ) → a.files s.name ≡ Some bytes → IsAcceptedAt s.port bytes)
-    → b.files ≡ a.files → b.in_faults ≡ a.in_faults → IsCause later b c r → IsCause (s ∷ later) a c r
-cause-behind s later a b c NoCommand accepted files calm cause = cause
-cause-behind s later a b c (Input fault) accepted files calm cause = inr (accepted, subst (λ (f : List ℕ → Option (List ℕ)). IsFirstRefused f later (Input fault)) files cause)
-cause-behind s later a b c (Text fault) accepted files calm cause = inr (accepted, subst (λ (f : List ℕ → Option (List ℕ)). IsFirstRefused f later (Text fault)) files cause)
-cause-behind s later a b c (Unreachable net) accepted files calm cause = inr (accepted, subst (λ (f : List ℕ → Option (List ℕ)). IsFirstRefused f later (Unreachable net)) files cause)
-cause-behind s later a b c Unread accepted files calm cause = rw (sym calm) cause
-cause-behind s later a b c NoMemory accepted files calm cause = cause
+cause-since : (sources : List Source) (a b c : Told) (r : Refusal) → b.files ≡ a.files → b.in_faults ≡ a.in_faults → AreUnopened sources a b → IsCause sources b c r → IsCause sources a c r
+cause-since [] a b c r files calm kept cause = cause
+cause-since (s ∷ later) a b c r files calm kept (inl (at, unopened)) =
+    inl (cause_at-since s a b c r files calm at, λ p is. unopened p is ∙ kept p (Contains-rest s.port (ports_of later) p is))
+cause-since (s ∷ later) a b c r files calm kept (inr (accepted, rest)) =
+    inr (subst (λ (f : List ℕ → Option (List ℕ)). IsAcceptedIfTold f s) files accepted, cause-since later a b c r files calm (λ p is. kept p (Contains-rest s.port (ports_of later) p is)) rest)
+
+-- a cause in the first files is one where others would follow
+pub cause-early : (first later : List Source) (a b : Told) (r : Refusal) → AreUnopened later a b → IsCause first a b r → IsCause (first ++ later) a b r
+cause-early [] later a b r kept cause = subst (IsCause later a b) (sym cause) (cause-unopened later a b kept)
+cause-early (s ∷ first) later a b r kept (inl (at, unopened)) = inl (
+  at,
+  λ p is. elim (ports-either first later p is) [
+    | inl in_first ↦ unopened p in_first
+    | inr in_later ↦ kept p in_later
+  ],
+)
+cause-early (s ∷ first) later a b r kept (inr (accepted, rest)) = inr (accepted, cause-early first later a b r kept rest)
+
+-- a cause in later files is one behind files that were accepted
+pub cause-behind : (first later : List Source) (a b c : Told) (r : Refusal) → AreAcceptedIfTold a.files first
+    → b.files ≡ a.files → b.in_faults ≡ a.in_faults → AreUnopened later a b → IsCause later b c r → IsCause (first ++ later) a c r
+cause-behind [] later a b c r accepted files calm kept cause = cause-since later a b c r files calm kept cause
+cause-behind (s ∷ first) later a b c r accepted files calm kept cause = inr (accepted.0, cause-behind first later a b c r accepted.1 files calm kept cause)

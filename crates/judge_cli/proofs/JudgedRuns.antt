@@ -1,5 +1,5 @@
 -- Why what was read for a measure or a judgement is accepted.
-use Rattle.std.proofs.Common.{◌≡◌, ◌<◌, ℕ, List, [], ◌∷◌, length, Contains, Some, Ok, false, refl, arith, le-ltb, get_or, inl, inr}
+use Rattle.std.proofs.Common.{◌≡◌, ◌<◌, ℕ, List, [], ◌∷◌, length, Contains, Some, Ok, false, refl, sym, ◌∙◌, arith, le-ltb, get_or, inl, inr}
 use Rattle.std.specs.Prelude.{nat_lt}
 use Rattle.std.proofs.lemmas.Option.{slice_get-get_or, slice_get_within}
 use Rattle.std.proofs.lemmas.Slice.Zip.{AllZip-long}
@@ -16,14 +16,14 @@ use Rattle.grid_graph.specs.Grounds.{AreGrounds, IsGround}
 use Rattle.grid_graph.proofs.Grounds.{joins_with_choked}
 use Rattle.ispd_reader.specs.Designs.{IsDesignOfText}
 use Rattle.route_text.specs.declared.block.Block.{Block}
-use Rattle.judge_cli.specs.declared.answer.Answer.{Answer}
-use Rattle.judge_cli.specs.JudgedTexts.{max_judged_bytes, blocks_or_refusal}
-use Rattle.judge_cli.specs.JudgeRun.{JudgeTask, IsReadCert, IsJudgeAnswer, judge_sources}
-use Rattle.judge_cli.specs.MeasureRun.{MeasureTask, IsMeasureAnswer, measure_sources}
-use Rattle.judge_cli.specs.Refusals.{AreReachable, IsAcceptedAt}
+use Rattle.ispd_reader.specs.Limits.{max_bytes}
+use Rattle.judge_cli.specs.JudgeRun.{JudgeTask, IsReadCert, judge_sources}
+use Rattle.judge_cli.specs.MeasureRun.{MeasureTask, AreReadRoutes, measure_sources}
+use Rattle.judge_cli.specs.Refusals.{AreReachable, IsAcceptedIfTold}
 use Rattle.judge_cli.specs.Sources.{ports_of}
-use Rattle.judge_cli.proofs.AnsweredRuns.{AreAcceptedIfTold}
-use Rattle.judge_cli.proofs.Traces.{only_of}
+use Rattle.judge_cli.proofs.Causes.{AreAcceptedIfTold}
+use Rattle.judge_cli.proofs.ReadFiles.{AreApart}
+use Rattle.judge_cli.proofs.Traces.{contained_in_two, only_of}
 use Rattle.grid_base.proofs.Lists.{head_or_rest}
 
 -- the nets of a design with grounds are reachable
@@ -34,46 +34,40 @@ grounds_reachable g nets over all k n at =
     joins_with_choked g n.terminals (get_or over k Open) is
 
 -- a design with grounds is accepted
-pub accepted-design : (name : List ℕ) (files : List ℕ → _) (d : Design) (over : List Ground) → ((bytes : List ℕ) → files name ≡ Some bytes → IsDesignOfText bytes d)
-    → AreGrounds d.grid d.nets over → (bytes : List ℕ) → files name ≡ Some bytes → IsAcceptedAt In bytes
-accepted-design name files d over named grounds bytes under = (d, named bytes under, grounds_reachable d.grid d.nets over grounds)
+pub design-accepted : (name : List ℕ) (told : Told) (d : Design) (over : List Ground) → ((bytes : List ℕ) → told.files name ≡ Some bytes → IsDesignOfText bytes d)
+    → AreGrounds d.grid d.nets over → IsAcceptedIfTold told.files (record { port = In; name = name })
+design-accepted name told d over named grounds bytes under = (d, named bytes under, grounds_reachable d.grid d.nets over grounds)
 
 -- so are blocks
-pub accepted-blocks : (name : List ℕ) (files : List ℕ → _) (blocks : List Block) → ((bytes : List ℕ) → files name ≡ Some bytes → blocks_or_refusal bytes ≡ Ok blocks)
-    → (bytes : List ℕ) → files name ≡ Some bytes → IsAcceptedAt RoutesIn bytes
-accepted-blocks name files blocks are bytes under = (blocks, are bytes under)
+pub routes-accepted : (q : MeasureTask) (told : Told) (d : Design) (over : List Ground) (blocks : List Block) → AreReadRoutes q.input q.routes told d over blocks
+    → AreAcceptedIfTold told.files (measure_sources q)
+routes-accepted q told d over blocks read = (
+  design-accepted q.input told d over read.named read.grounds,
+  (λ bytes under. (blocks, read.blocks_are bytes under), tt),
+)
 
 -- and a certificate
-pub accepted-cert : (name : List ℕ) (told : Told) (cert : Cert) → IsReadCert name told cert → (bytes : List ℕ) → told.files name ≡ Some bytes → IsAcceptedAt CertIn bytes
-accepted-cert name told cert read bytes under =
+cert-accepted : (name : List ℕ) (told : Told) (cert : Cert) → IsReadCert name told cert → IsAcceptedIfTold told.files (record { port = CertIn; name = name })
+cert-accepted name told cert read bytes under =
     let is = read bytes under in
-    let short : nat_lt max_judged_bytes (length bytes) ≡ false = le-ltb max_judged_bytes (length bytes) is.0 in
+    let short : nat_lt max_bytes (length bytes) ≡ false = le-ltb max_bytes (length bytes) is.0 in
     (is.1.0, rw (short, is.1.1) refl)
 
-pub measure-accepted : (q : MeasureTask) (told : Told) (answer : Answer) → IsMeasureAnswer q told answer → AreAcceptedIfTold told.files (measure_sources q)
-measure-accepted q told answer is = (
-  accepted-design q.input told.files is.design is.grounds is.are_read.named is.are_read.grounds,
-  (accepted-blocks q.routes told.files is.blocks is.are_read.blocks_are, tt),
-)
-
-pub judge-accepted : (q : JudgeTask) (told : Told) (answer : Answer) → IsJudgeAnswer q told answer → AreAcceptedIfTold told.files (judge_sources q)
-judge-accepted q told answer is = (
-  accepted-design q.input told.files is.design is.grounds is.are_read.named is.are_read.grounds,
-  (accepted-blocks q.routes told.files is.blocks is.are_read.blocks_are, (accepted-cert q.cert told is.cert is.cert_read, tt)),
-)
+pub files-accepted : (q : JudgeTask) (told : Told) (d : Design) (over : List Ground) (blocks : List Block) (cert : Cert)
+    → AreReadRoutes q.input q.routes told d over blocks → IsReadCert q.cert told cert → AreAcceptedIfTold told.files (judge_sources q)
+files-accepted q told d over blocks cert read cert_read =
+    let routes = routes-accepted (record { input = q.input; routes = q.routes }) told d over blocks read in
+    (routes.0, (routes.1.0, (cert-accepted q.cert told cert cert_read, tt)))
 
 -- ---- the ports of the files
 
-pub in-not_routes : ¬ Contains (RoutesIn ∷ []) In
-in-not_routes at = let same : In ≡ RoutesIn = only_of In RoutesIn at in cc
+pub in-apart : (input routes : List ℕ) → AreApart (record { port = In; name = input } ∷ []) (record { port = RoutesIn; name = routes } ∷ [])
+in-apart input routes p at other = let same : In ≡ RoutesIn = sym (only_of p In at) ∙ only_of p RoutesIn other in cc
 
-pub routes-not_cert : ¬ Contains (CertIn ∷ []) RoutesIn
-routes-not_cert at = let same : RoutesIn ≡ CertIn = only_of RoutesIn CertIn at in cc
-
-pub in-not_judged : ¬ Contains (RoutesIn ∷ CertIn ∷ []) In
-in-not_judged at = elim (head_or_rest RoutesIn (CertIn ∷ []) In at) [
-  | inl same ↦ cc
-  | inr rest ↦ (let same : In ≡ CertIn = only_of In CertIn rest in cc)
+pub routed-apart : (q : MeasureTask) (cert : List ℕ) → AreApart (measure_sources q) (record { port = CertIn; name = cert } ∷ [])
+routed-apart q cert p at other = elim (contained_in_two p In RoutesIn at) [
+  | inl is ↦ (let same : In ≡ CertIn = sym is ∙ only_of p CertIn other in cc)
+  | inr is ↦ (let same : RoutesIn ≡ CertIn = sym is ∙ only_of p CertIn other in cc)
 ]
 
 pub report-not_measured : (q : MeasureTask) → ¬ Contains (ports_of (measure_sources q)) Report

@@ -1,5 +1,5 @@
 -- Files that are read one after another.
-use Rattle.std.proofs.Common.{◌≡◌, ◌≢◌, ◌<◌, ◌≤◌, ◌+◌, ℕ, List, [], ◌∷◌, length, Contains, Some, None, Ok, Err, IsOk, IsErr, IsErrAnd, true, false, refl, sym, ◌∙◌, ap, subst, arith, lit<, lt-ltb, length-append, inl, inr}
+use Rattle.std.proofs.Common.{◌≡◌, ◌≢◌, ◌<◌, ◌≤◌, ◌+◌, ℕ, List, [], ◌∷◌, ◌++◌, length, Contains, Some, None, Ok, Err, IsOk, IsErr, IsErrAnd, true, false, refl, sym, ◌∙◌, ap, subst, arith, lit<, lt-ltb, length-append, inl, inr}
 use Rattle.std.specs.Prelude.{◌⊎◌, IsTrue, Option, option_map, Result, is_err}
 use Rattle.std.specs.Io.KnownBytes.{Consumes}
 use Rattle.gr_desk.specs.declared.port.Port.{Port}
@@ -10,15 +10,15 @@ use Rattle.gr_desk.specs.Calls.{Opens, IsOrderlyRead}
 use Rattle.gr_desk.specs.Ports.{is_input}
 use Rattle.gr_desk.specs.Runs.{Takes}
 use Rattle.gr_desk.specs.Told.{Told, PortTold}
-use Rattle.grid_base.proofs.Lists.{head_or_rest, Contains-rest}
+use Rattle.grid_base.proofs.Lists.{Contains-rest}
 use Rattle.judge_cli.specs.declared.refusal.Refusal.{Refusal}
 use Rattle.judge_cli.specs.declared.refusal.Refusal.TheVariants.{Unread, NoMemory}
-use Rattle.judge_cli.specs.JudgedTexts.{max_judged_bytes}
-use Rattle.judge_cli.specs.Refusals.{IsRefusedFor, IsRefusedAt, IsAcceptedAt, IsCause}
+use Rattle.ispd_reader.specs.Limits.{max_bytes}
+use Rattle.judge_cli.specs.Refusals.{AreUnopened, IsRefusedFor, IsRefusedAt, IsCause}
 use Rattle.judge_cli.specs.Sources.{Source, ports_of, design_source, AreOrderlyOpens}
 use Rattle.judge_cli.specs.Steps.{OnlyReads, ReadsSources, too_long_at}
-use Rattle.judge_cli.proofs.Causes.{cause-of_text, cause-early, cause-behind}
-use Rattle.judge_cli.proofs.Traces.{only_of}
+use Rattle.judge_cli.proofs.Causes.{AreAcceptedIfTold, cause-alone, cause-of_text, cause-read, cause-early, cause-behind}
+use Rattle.judge_cli.proofs.Traces.{none_in, only_of, ports-first, ports-later, ports-either}
 
 -- a step that does nothing
 pub reads-nothing : (sources : List Source) (a : Told) → OnlyReads sources a a
@@ -31,39 +31,51 @@ reads-nothing sources a = record {
   still = refl;
 }
 
--- what the desk expects at other ports stays where one file was read
-opens-after : (s : Source) (later : List Source) (a b : Told) → ¬ Contains (ports_of later) s.port → OnlyReads (s ∷ []) a b → AreOrderlyOpens a later → AreOrderlyOpens b later
-opens-after s [] a b apart reads opens = tt
-opens-after s (t ∷ later) a b apart reads opens =
-    let other : ¬ Contains (s.port ∷ []) t.port = λ at. apart (0, omega arith, only_of t.port s.port at) in
-    let same : b.ports t.port ≡ a.ports t.port = reads.others t.port other in (
+-- the ports of the first files are none of those behind them
+abbrev pub AreApart : List Source → List Source → Type 0
+AreApart first later = (p : Port) → Contains (ports_of first) p → ¬ Contains (ports_of later) p
+
+-- the files behind those that were read are unopened
+unopened-after : (first later : List Source) (a b : Told) → AreApart first later → OnlyReads first a b → AreUnopened later a b
+unopened-after first later a b apart reads p at = reads.others p (λ here. apart p here at)
+
+-- what the desk expects of unopened files stays
+opens-after : (later : List Source) (a b : Told) → AreUnopened later a b → AreOrderlyOpens a later → AreOrderlyOpens b later
+opens-after [] a b kept opens = tt
+opens-after (t ∷ later) a b kept opens =
+    let same : b.ports t.port ≡ a.ports t.port = kept t.port (0, omega arith, refl) in (
       record {
         input = opens.0.input;
         fresh = ap (λ (p : PortTold). p.state) same ∙ opens.0.fresh;
         expected = ap (λ (p : PortTold). p.expected) same ∙ opens.0.expected;
       },
-      opens-after s later a b (λ at. apart (Contains-rest t.port (ports_of later) s.port at)) reads opens.1,
+      opens-after later a b (λ p at. kept p (Contains-rest t.port (ports_of later) p at)) opens.1,
     )
 
--- one file, and then others at other ports
-pub reads-then : (s : Source) (later : List Source) (a b c : Told) → ¬ Contains (ports_of later) s.port → OnlyReads (s ∷ []) a b → OnlyReads later b c → OnlyReads (s ∷ later) a c
-reads-then s later a b c apart reads more = record {
-  files = more.files ∙ reads.files;
-  inputs = λ p at. elim (head_or_rest s.port (ports_of later) p at) [
-    | inl is ↦
-        let same : c.ports p ≡ b.ports p = more.others p (λ in_later. apart (subst (λ (x : Port). Contains (ports_of later) x) is in_later)) in
-        rw same (reads.inputs p (0, lit< tt, sym is))
-    | inr in_later ↦
-        let same : b.ports p ≡ a.ports p = reads.others p (λ here. apart (subst (λ (x : Port). Contains (ports_of later) x) (only_of p s.port here) in_later)) in
-        subst (λ (x : PortTold). c.ports p ≡ record x { rest = (c.ports p).rest; state = (c.ports p).state }) same (more.inputs p in_later)
-  ];
-  others = λ p unread.
-      more.others p (λ at. unread (Contains-rest s.port (ports_of later) p at))
-      ∙ reads.others p (λ at. unread (0, omega arith, sym (only_of p s.port at)));
-  in_order = λ orderly. more.in_order (opens-after s later a b apart reads orderly.1) ∙ reads.in_order (orderly.0, tt);
-  later = omega (arith, reads.later, more.later);
-  still = more.still ∙ reads.still;
-}
+opens-parts : (first later : List Source) (a : Told) → AreOrderlyOpens a (first ++ later) → AreOrderlyOpens a first × AreOrderlyOpens a later
+opens-parts [] later a opens = (tt, opens)
+opens-parts (s ∷ first) later a opens = let parts = opens-parts first later a opens.1 in ((opens.0, parts.0), parts.1)
+
+-- files, and then others at other ports
+reads-then : (first later : List Source) (a b c : Told) → AreApart first later → OnlyReads first a b → OnlyReads later b c → OnlyReads (first ++ later) a c
+reads-then first later a b c apart reads more =
+    let unopened : AreUnopened later a b = unopened-after first later a b apart reads in
+    record {
+      files = more.files ∙ reads.files;
+      inputs = λ p at. elim (ports-either first later p at) [
+        | inl in_first ↦
+            let same : c.ports p ≡ b.ports p = more.others p (apart p in_first) in
+            rw same (reads.inputs p in_first)
+        | inr in_later ↦
+            subst (λ (x : PortTold). c.ports p ≡ record x { rest = (c.ports p).rest; state = (c.ports p).state }) (unopened p in_later) (more.inputs p in_later)
+      ];
+      others = λ p unread. more.others p (λ at. unread (ports-later first later p at)) ∙ reads.others p (λ at. unread (ports-first first later p at));
+      in_order = λ orderly.
+          let parts = opens-parts first later a orderly in
+          more.in_order (opens-after later a b unopened parts.1) ∙ reads.in_order parts.0;
+      later = omega (arith, reads.later, more.later);
+      still = more.still ∙ reads.still;
+    }
 
 -- ---- one file
 
@@ -120,20 +132,20 @@ taken_of_file a b c port name bytes under (Ok v) opens done takes told =
     longer under (c.ports port).rest bytes (subst (λ (x : Option (List ℕ)). Consumes x (c.ports port).rest bytes) rest takes.taken)
 
 -- a text of too many bytes is refused for that
-too_long-refused : (port : Port) (text : List ℕ) → IsTrue (is_input port) → max_judged_bytes < length text → IsRefusedAt port text (too_long_at port)
-too_long-refused In text input long = rw (lt-ltb max_judged_bytes (length text) long) refl
-too_long-refused RoutesIn text input long = rw (lt-ltb max_judged_bytes (length text) long) refl
-too_long-refused CertIn text input long = rw (lt-ltb max_judged_bytes (length text) long) refl
+too_long-refused : (port : Port) (text : List ℕ) → IsTrue (is_input port) → max_bytes < length text → IsRefusedAt port text (too_long_at port)
+too_long-refused In text input long = rw (lt-ltb max_bytes (length text) long) refl
+too_long-refused RoutesIn text input long = rw (lt-ltb max_bytes (length text) long) refl
+too_long-refused CertIn text input long = rw (lt-ltb max_bytes (length text) long) refl
 too_long-refused RoutesOut text input long = cc
 too_long-refused CertOut text input long = cc
 too_long-refused DesignOut text input long = cc
 too_long-refused Report text input long = cc
 
-pub too_long-cause : (port : Port) (name : List ℕ) (a b : Told) → IsTrue (is_input port) → ((bytes : List ℕ) → a.files name ≡ Some bytes → max_judged_bytes < length bytes)
+pub too_long-cause : (port : Port) (name : List ℕ) (a b : Told) → IsTrue (is_input port) → ((bytes : List ℕ) → a.files name ≡ Some bytes → max_bytes < length bytes)
     → IsCause (record { port = port; name = name } ∷ []) a b (too_long_at port)
-too_long-cause In name a b input long = inl (λ bytes under. too_long-refused In bytes input (long bytes under))
-too_long-cause RoutesIn name a b input long = inl (λ bytes under. too_long-refused RoutesIn bytes input (long bytes under))
-too_long-cause CertIn name a b input long = inl (λ bytes under. too_long-refused CertIn bytes input (long bytes under))
+too_long-cause In name a b input long = inl ((λ bytes under. too_long-refused In bytes input (long bytes under)), λ p at. absurd (none_in p at))
+too_long-cause RoutesIn name a b input long = inl ((λ bytes under. too_long-refused RoutesIn bytes input (long bytes under)), λ p at. absurd (none_in p at))
+too_long-cause CertIn name a b input long = inl ((λ bytes under. too_long-refused CertIn bytes input (long bytes under)), λ p at. absurd (none_in p at))
 too_long-cause RoutesOut name a b input long = cc
 too_long-cause CertOut name a b input long = cc
 too_long-cause DesignOut name a b input long = cc
@@ -146,7 +158,7 @@ pub source-unopened : {T E U : Type 0} (a b : Told) (port : Port) (name : List �
     → ReadsSources {T = U} (record { port = port; name = name } ∷ []) a b (Err Unread)
 source-unopened a b port name (Ok v) opens failed = cc
 source-unopened a b port name (Err e) opens failed = record {
-  refused = λ q is. let same : Unread ≡ q = cc in subst (IsCause (record { port = port; name = name } ∷ []) a b) same opens.cause.failed;
+  refused = λ q is. let same : Unread ≡ q = cc in subst (IsCause (record { port = port; name = name } ∷ []) a b) same (cause-alone (record { port = port; name = name }) a b Unread opens.cause.failed);
   reads = reads-open_failed a b port name (Err e) opens refl;
   quiet = λ not. absurd (not refl);
 }
@@ -163,11 +175,11 @@ source-read a b c port name bytes (Ok v) u opens done takes calm = record {
 
 -- a file of too many bytes
 pub source-too_long : {T E U : Type 0} (a b c : Told) (port : Port) (name bytes : List ℕ) (r : Result T E) → IsTrue (is_input port) → Opens a b port name r → is_err r ≡ false
-    → Takes b c port bytes → length bytes ≡ max_judged_bytes + 1 → c.in_faults ≡ b.in_faults
+    → Takes b c port bytes → length bytes ≡ max_bytes + 1 → c.in_faults ≡ b.in_faults
     → ReadsSources {T = U} (record { port = port; name = name } ∷ []) a c (Err (too_long_at port))
 source-too_long a b c port name bytes (Err e) input opens done takes many calm = cc
 source-too_long a b c port name bytes (Ok v) input opens done takes many calm =
-    let long : (under : List ℕ) → a.files name ≡ Some under → max_judged_bytes < length under =
+    let long : (under : List ℕ) → a.files name ≡ Some under → max_bytes < length under =
     λ under told. omega (arith, many, taken_of_file a b c port name bytes under (Ok v) opens refl takes told) in
     record {
       refused = λ q is. let same : too_long_at port ≡ q = cc in subst (IsCause (record { port = port; name = name } ∷ []) a c) same (too_long-cause port name a c input long);
@@ -190,31 +202,48 @@ source-text name text a b v x read same for = record {
   quiet = λ _. read.quiet (λ h. cc);
 }
 
--- the first file was refused
-pub sources-early : {T U : Type 0} (s : Source) (later : List Source) (a b : Told) (r : Result T Refusal) (x : Result U Refusal) (e : Refusal) → ¬ Contains (ports_of later) s.port
-    → r ≡ Err e → x ≡ Err e → ReadsSources (s ∷ []) a b r → ReadsSources (s ∷ later) a b x
-sources-early s later a b r x e apart failed answered read = record {
-  refused = λ q is. let same : r ≡ Err q = cc in cause-early s later a b q (read.refused q same);
-  reads = reads-then s later a b b apart read.reads (reads-nothing later b);
+-- a step that goes on with what was read
+pub sources-passed : {T U : Type 0} (sources : List Source) (a b : Told) (r : Result T Refusal) (v : T) (u : U) → r ≡ Ok v → ReadsSources sources a b r → ReadsSources {T = U} sources a b (Ok u)
+sources-passed sources a b r v u done read = record {
+  refused = λ q is. cc;
+  reads = read.reads;
+  quiet = λ _. read.quiet (λ unread. let same : Ok v ≡ Err Unread = sym done ∙ unread in cc);
+}
+
+-- one that is refused as what it calls
+pub sources-failed : {T U : Type 0} (sources : List Source) (a b : Told) (r : Result T Refusal) (x : Result U Refusal) (e : Refusal)
+    → r ≡ Err e → x ≡ Err e → ReadsSources sources a b r → ReadsSources sources a b x
+sources-failed sources a b r x e failed answered read = record {
+  refused = λ q is. let same : r ≡ Err q = cc in read.refused q same;
+  reads = read.reads;
   quiet = λ not. read.quiet (λ unread. let same : x ≡ Err Unread = cc in not same);
 }
 
--- the first file was accepted, and others follow
-pub sources-then : {T U : Type 0} (s : Source) (later : List Source) (a b c : Told) (r : Result T Refusal) (v : T) (x : Result U Refusal) → ¬ Contains (ports_of later) s.port
-    → r ≡ Ok v → ((bytes : List ℕ) → a.files s.name ≡ Some bytes → IsAcceptedAt s.port bytes)
-    → ReadsSources (s ∷ []) a b r → ReadsSources later b c x → ReadsSources (s ∷ later) a c x
-sources-then s later a b c r v x apart done accepted read more =
+-- and one that wants memory behind all files
+pub sources-memory : {T U : Type 0} (sources : List Source) (a b : Told) (r : Result T Refusal) (v : T) (x : Result U Refusal) → r ≡ Ok v → AreAcceptedIfTold a.files sources
+    → ((q : Refusal) → x ≡ Err q → q ≡ NoMemory) → ReadsSources sources a b r → ReadsSources sources a b x
+sources-memory sources a b r v x done accepted memory read = record {
+  refused = λ q is. subst (IsCause sources a b) (sym (memory q is)) (cause-read sources a b accepted);
+  reads = read.reads;
+  quiet = λ _. read.quiet (λ unread. let same : Ok v ≡ Err Unread = sym done ∙ unread in cc);
+}
+
+-- the first files were refused
+pub sources-early : {T U : Type 0} (first later : List Source) (a b : Told) (r : Result T Refusal) (x : Result U Refusal) (e : Refusal) → AreApart first later
+    → r ≡ Err e → x ≡ Err e → ReadsSources first a b r → ReadsSources (first ++ later) a b x
+sources-early first later a b r x e apart failed answered read = record {
+  refused = λ q is. let same : r ≡ Err q = cc in cause-early first later a b q (unopened-after first later a b apart read.reads) (read.refused q same);
+  reads = reads-then first later a b b apart read.reads (reads-nothing later b);
+  quiet = λ not. read.quiet (λ unread. let same : x ≡ Err Unread = cc in not same);
+}
+
+-- the first files were accepted, and others follow
+pub sources-then : {T U : Type 0} (first later : List Source) (a b c : Told) (r : Result T Refusal) (v : T) (x : Result U Refusal) → AreApart first later
+    → r ≡ Ok v → AreAcceptedIfTold a.files first → ReadsSources first a b r → ReadsSources later b c x → ReadsSources (first ++ later) a c x
+sources-then first later a b c r v x apart done accepted read more =
     let calm : b.in_faults ≡ a.in_faults = read.quiet (λ unread. let same : Ok v ≡ Err Unread = sym done ∙ unread in cc) in
     record {
-      refused = λ q is. cause-behind s later a b c q accepted read.reads.files calm (more.refused q is);
-      reads = reads-then s later a b c apart read.reads more.reads;
+      refused = λ q is. cause-behind first later a b c q accepted read.reads.files calm (unopened-after first later a b apart read.reads) (more.refused q is);
+      reads = reads-then first later a b c apart read.reads more.reads;
       quiet = λ not. more.quiet not ∙ calm;
     }
-
--- all files were read, and only memory can be wanting
-pub sources-done : {U : Type 0} (a : Told) (x : Result U Refusal) → ((q : Refusal) → x ≡ Err q → q ≡ NoMemory) → ReadsSources [] a a x
-sources-done a x memory = record {
-  refused = λ q is. subst (IsCause [] a a) (sym (memory q is)) tt;
-  reads = reads-nothing [] a;
-  quiet = λ _. refl;
-}

@@ -1,5 +1,6 @@
 -- A run that reads files and is refused.
-use Rattle.std.proofs.Common.{◌≡◌, ℕ, List, take, Contains}
+use Rattle.std.proofs.Common.{◌≡◌, ℕ, List, take, Contains, subst}
+use Rattle.gr_desk.specs.declared.port.Port.{Port}
 use Rattle.gr_desk.specs.declared.port.Port.TheVariants.{Report}
 use Rattle.gr_desk.specs.Runs.{Adds}
 use Rattle.gr_desk.specs.Told.{Told}
@@ -24,7 +25,7 @@ abbrev pub is_refused : (sources : List Source) (a b c : Told) (status n : ℕ) 
 is_refused sources a b c status n r apart why reads is part whole = record {
   refusal = r;
   status_is = is;
-  cause = cause-later sources a b c r part.still why;
+  cause = cause-later sources a b c r part.still (λ p at. part.others.ports p (λ is. apart (subst (λ (x : Port). Contains (ports_of sources) x) is at))) why;
   says = record {
     count = n;
     part = gains-after_reads sources a b c (take n (lines_of r)) apart reads part;

@@ -1,6 +1,8 @@
 -- What a run touches: one that read some files and then wrote to the report, and one that only wrote to the report.
-use Rattle.std.proofs.Common.{◌≡◌, ◌≢◌, ℕ, List, [], ◌∷◌, Contains, refl, ◌∙◌, ap, subst, arith, inl, inr}
+use Rattle.std.proofs.Common.{◌≡◌, ◌≢◌, ℕ, List, [], ◌∷◌, ◌++◌, Contains, refl, sym, ◌∙◌, ap, subst, arith, inl, inr}
 use Rattle.std.specs.Prelude.{◌⊎◌}
+use Rattle.std.proofs.lemmas.List.{map-append}
+use Rattle.std.proofs.lemmas.List.Elements.{Contains-append_left, Contains-append_right, Contains-append_cases}
 use Rattle.std.specs.declared.option.Option.{Option}
 use Rattle.std.specs.Io.KnownBytes.{Appends}
 use Rattle.gr_desk.specs.declared.port.Port.{Port}
@@ -30,6 +32,19 @@ contained_in_two p q r at = elim (head_or_rest q (r ∷ []) p at) [
   | inl is ↦ inl is
   | inr rest ↦ inr (only_of p r rest)
 ]
+
+-- the ports of files and of others behind them
+pub ports-first : (first later : List Source) (p : Port) → Contains (ports_of first) p → Contains (ports_of (first ++ later)) p
+ports-first first later p at =
+    subst (λ (ports : List Port). Contains ports p) (sym (map-append (λ (s : Source). s.port) first later)) (Contains-append_left (ports_of first) (ports_of later) p at)
+
+pub ports-later : (first later : List Source) (p : Port) → Contains (ports_of later) p → Contains (ports_of (first ++ later)) p
+ports-later first later p at =
+    subst (λ (ports : List Port). Contains ports p) (sym (map-append (λ (s : Source). s.port) first later)) (Contains-append_right (ports_of first) (ports_of later) p at)
+
+pub ports-either : (first later : List Source) (p : Port) → Contains (ports_of (first ++ later)) p → Contains (ports_of first) p ⊎ Contains (ports_of later) p
+ports-either first later p at =
+    Contains-append_cases (ports_of first) (ports_of later) p (subst (λ (ports : List Port). Contains ports p) (map-append (λ (s : Source). s.port) first later) at)
 
 -- what the report gained after a step that left it alone
 pub gains-after_reads : (sources : List Source) (a b c : Told) (text : List ℕ) → ¬ Contains (ports_of sources) Report

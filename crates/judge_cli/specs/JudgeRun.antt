@@ -17,7 +17,7 @@ use Rattle.judge_cli.specs.declared.answer.Answer.{Answer}
 use Rattle.judge_cli.specs.declared.answer.Answer.TheVariants.{Measured, Yes, No}
 use Rattle.judge_cli.specs.declared.routes_report.RoutesReport.{RoutesReport}
 use Rattle.judge_cli.specs.AnsweredRun.{IsAnsweredRun}
-use Rattle.judge_cli.specs.JudgedTexts.{max_judged_bytes}
+use Rattle.ispd_reader.specs.Limits.{max_bytes}
 use Rattle.judge_cli.specs.MeasureRun.{AreReadRoutes, IsReportOf}
 use Rattle.judge_cli.specs.Sources.{Source}
 
@@ -51,7 +51,7 @@ judge_sources q =
 -- the certificate that the bytes under the name have, where the desk tells these bytes
 abbrev pub IsReadCert : List ℕ → Told → Cert → Type 0
 IsReadCert name told cert =
-    (bytes : List ℕ) → told.files name ≡ Some bytes → (length bytes ≤ max_judged_bytes) × IsCertOf bytes cert
+    (bytes : List ℕ) → told.files name ≡ Some bytes → (length bytes ≤ max_bytes) × IsCertOf bytes cert
 
 -- routes and a certificate are accepted: nothing can be objected to them, the report is that of the routes with the certificate's
 -- budget, and what is stated is the certificate's bound, which is at most the greatest load/capacity of every routing, whole

@@ -1,5 +1,6 @@
 -- What the texts say that are judged: the blocks of a route text, and what a certificate's text states.
-use Rattle.std.specs.Prelude.{ℕ, ◌^◌, List, length, if◌then◌else◌, nat_lt, Result, Err}
+use Rattle.std.specs.Prelude.{ℕ, List, length, if◌then◌else◌, nat_lt, Result, Err}
+use Rattle.ispd_reader.specs.Limits.{max_bytes}
 use Rattle.text_scan.specs.Parts.{refused_as}
 use Rattle.cert_text.specs.declared.cert_error.CertError.{CertError}
 use Rattle.cert_text.specs.declared.cert_error.CertError.TheVariants as cert_errors
@@ -12,10 +13,6 @@ use Rattle.route_text.specs.Blocks.{blocks_of}
 use Rattle.judge_cli.specs.declared.refusal.Refusal.{Refusal}
 use Rattle.judge_cli.specs.declared.refusal.Refusal.TheVariants.{Text, NoMemory}
 use Rattle.judge_cli.specs.declared.text_fault.TextFault.TheVariants.{Routes, Certificate, Price, Number, TooLong}
-
--- the most bytes of a text that is judged
-abbrev pub max_judged_bytes : ℕ
-max_judged_bytes = 2 ^ 30
 
 -- what an error of a route text is
 abbrev pub of_route_error : RouteError → Refusal
@@ -31,7 +28,7 @@ of_cert_error cert_errors.NoMemory = NoMemory
 
 -- what is read of a text, where it isn't too long
 abbrev pub unless_too_long : {A : Type 0} → List ℕ → Result A Refusal → Result A Refusal
-unless_too_long text read = if nat_lt max_judged_bytes (length text) then Err (Text TooLong) else read
+unless_too_long text read = if nat_lt max_bytes (length text) then Err (Text TooLong) else read
 
 -- the blocks of a route text, or its refusal
 abbrev pub blocks_or_refusal : List ℕ → Result (List Block) Refusal

@@ -1,5 +1,5 @@
 -- Why a run is refused.
-use Rattle.std.specs.Prelude.{◌≡◌, ◌⊎◌, ℕ, List, [], ◌∷◌, Option, Some, Ok, Err}
+use Rattle.std.specs.Prelude.{◌≡◌, ◌⊎◌, ℕ, List, [], ◌∷◌, Contains, Option, Some, Ok, Err}
 use Rattle.cert_text.specs.declared.stated.Stated.{Stated}
 use Rattle.gr_desk.specs.declared.port.Port.{Port}
 use Rattle.gr_desk.specs.declared.port.Port.TheVariants.{In, RoutesIn, CertIn}
@@ -56,14 +56,6 @@ IsAcceptedAt _ text = ⊥
 
 -- ---- in which order texts are read
 
--- where the desk tells the bytes under the names: one of the texts is refused for this, and those that are read before it are
--- none that are refused
-abbrev pub IsFirstRefused : (List ℕ → Option (List ℕ)) → List Source → Refusal → Type 0
-IsFirstRefused files [] refusal = ⊥
-IsFirstRefused files (s ∷ later) refusal =
-    ((bytes : List ℕ) → files s.name ≡ Some bytes → IsRefusedAt s.port bytes refusal)
-    ⊎ (((bytes : List ℕ) → files s.name ≡ Some bytes → IsAcceptedAt s.port bytes) × IsFirstRefused files later refusal)
-
 -- the desk tells the bytes up to the first text that is refused, which is so for this
 abbrev pub HasToBeRefused : (List ℕ → Option (List ℕ)) → List Source → Refusal → Type 0
 HasToBeRefused files [] refusal = ⊥
@@ -77,13 +69,31 @@ AreAccepted files [] = Unit {0}
 AreAccepted files (s ∷ later) =
     (bytes : List ℕ) × (files s.name ≡ Some bytes) × IsAcceptedAt s.port bytes × AreAccepted files later
 
--- the cause of a refusal, where the words are a command: a failed open or read, or what the bytes under the names say, where
+-- ---- why a run ends that reads files in this order
+
+-- the cause of a refusal that came while this file was read: a failed open or read, or what the bytes under the name say, where
 -- the desk tells them; want of memory has none
+abbrev pub IsCauseAt : Source → Told → Told → Refusal → Type 0
+IsCauseAt s before after NoCommand = ⊥
+IsCauseAt s before after Unread = InputFailed before after
+IsCauseAt s before after NoMemory = Unit {0}
+IsCauseAt s before after refusal = (bytes : List ℕ) → before.files s.name ≡ Some bytes → IsRefusedAt s.port bytes refusal
+
+-- what the desk tells of the bytes under the name is accepted
+abbrev pub IsAcceptedIfTold : (List ℕ → Option (List ℕ)) → Source → Type 0
+IsAcceptedIfTold files s = (bytes : List ℕ) → files s.name ≡ Some bytes → IsAcceptedAt s.port bytes
+
+-- none of these files was opened: their ports are as they were
+abbrev pub AreUnopened : List Source → Told → Told → Type 0
+AreUnopened sources before after = (p : Port) → Contains (ports_of sources) p → after.ports p ≡ before.ports p
+
+-- the cause of a refusal, where the words are a command: the run ended at one of the files, those before it are accepted, and
+-- none behind it was opened; or it had read them all, and memory was wanting
 abbrev pub IsCause : List Source → Told → Told → Refusal → Type 0
-IsCause sources before after NoCommand = ⊥
-IsCause sources before after Unread = InputFailed before after
-IsCause sources before after NoMemory = Unit {0}
-IsCause sources before after refusal = IsFirstRefused before.files sources refusal
+IsCause [] before after refusal = refusal ≡ NoMemory
+IsCause (s ∷ later) before after refusal =
+    IsCauseAt s before after refusal × AreUnopened later before after
+    ⊎ IsAcceptedIfTold before.files s × IsCause later before after refusal
 
 -- ---- what a refused run leaves
 

@@ -8,18 +8,16 @@ ghost use Rattle.judge_cli.specs.JudgeRun.{IsJudgeAnswer, IsJudgeRun, IsTrueOfCe
 ghost use Rattle.judge_cli.specs.Steps.{ReadsSources};
 
 use crate::answer::Answer;
-use crate::grounded_design::GroundedDesign;
+use crate::certified_input::CertifiedInput;
 use crate::measuring::report_of;
 use crate::refusal::Refusal;
 use crate::refusing::refuse;
 use crate::saying::say;
-use crate::sources::{read_blocks, read_certificate, read_grounded};
-use cert_text::Cert;
+use crate::sources::read_certified;
 use command_words::JudgeRequest;
 use gr_desk::Desk;
 use grid_base::NoMemory;
 use route_judge::Verdict;
-use route_text::Block;
 use std::alloc::Global;
 use std::thread::Threads;
 
@@ -48,31 +46,35 @@ fn judged<R: Threads + Sync, D: Desk>(
     ensures answer { IfOk result (IsJudgeAnswer (judge_task_of request.now) (D.told desk.old)) }
     ensures reads { ReadsSources (judge_sources (judge_task_of request.now)) (D.told desk.old) (D.told desk.new) result }
 {
-    let grounded = read_grounded(alloc, desk, request.input)?;
-    let blocks = read_blocks(alloc, desk, request.routes)?;
-    let cert = read_certificate(alloc, desk, request.certificate)?;
-    Ok(answer_on_cert(rt, alloc, &grounded, blocks.as_slice(), &cert)?)
+    let read = read_certified(
+        alloc,
+        desk,
+        request.input,
+        request.routes,
+        request.certificate,
+    )?;
+    Ok(answer_on_cert(rt, alloc, &read)?)
 }
 
 /// What is said of routes and a certificate.
-pub fn answer_on_cert<R: Threads + Sync>(
+fn answer_on_cert<R: Threads + Sync>(
     rt: &R,
     alloc: Global,
-    grounded: &GroundedDesign,
-    blocks: &[Block],
-    cert: &Cert,
+    read: &CertifiedInput,
 ) -> Result<Answer, NoMemory>
-    requires grounds { AreGrounds grounded.now.design.grid grounded.now.design.nets grounded.now.grounds.items }
-    requires blocks { AreBlocks blocks.now }
-    requires cert { IsCertWithin cert.now }
-    ensures { IfOk result (IsTrueOfCert grounded.now.design grounded.now.grounds.items blocks.now cert.now) }
+    requires grounds { AreGrounds read.now.routed.grounded.design.grid read.now.routed.grounded.design.nets read.now.routed.grounded.grounds.items }
+    requires blocks { AreBlocks read.now.routed.blocks.items }
+    requires cert { IsCertWithin read.now.cert }
+    ensures { IfOk result (IsTrueOfCert read.now.routed.grounded.design read.now.routed.grounded.grounds.items read.now.routed.blocks.items read.now.cert) }
 {
+    let grounded = &read.routed.grounded;
     let grounds = grounded.grounds.as_slice();
-    match route_judge::judge(rt, alloc, &grounded.design, grounds, blocks, cert)? {
+    let blocks = read.routed.blocks.as_slice();
+    match route_judge::judge(rt, alloc, &grounded.design, grounds, blocks, &read.cert)? {
         Verdict::Yes { measure, beyond } => Ok(Answer::Yes {
             report: report_of(grounded, measure, beyond),
-            bound: cert.bound,
-            budget: cert.budget,
+            bound: read.cert.bound,
+            budget: read.cert.budget,
         }),
         Verdict::No(reason) => Ok(Answer::No(reason)),
     }

@@ -24,14 +24,14 @@
 //! objection that applies; every other status but 8, want of memory, has its cause, and no file is ever touched. The bound of a
 //! certificate that was accepted holds of every routing, whole or mixed.
 //!
-//! Other programs that read designs, routes and certificates stand on the same calls: `read_grounded`, `read_blocks`,
-//! `read_certificate` and `answer_on_cert` to read and judge, `make_cert` to make a file, and `say`, `refuse` and
-//! `say_unwritten` to end.
+//! Other programs that read designs, routes and certificates stand on the same calls: `read_grounded`, `read_routed` and
+//! `read_certified` to read, `make_cert` to make a file, and `say`, `refuse` and `say_unwritten` to end.
 
 #![tactic(auto)]
 
 mod answer;
 mod answer_lines;
+mod certified_input;
 mod grounded_design;
 mod judging;
 mod lines;
@@ -39,6 +39,7 @@ mod measuring;
 mod outputs;
 mod refusal;
 mod refusing;
+mod routed_input;
 mod routes_report;
 mod saying;
 mod sources;
@@ -46,15 +47,19 @@ mod statuses;
 mod text_fault;
 
 pub use answer::Answer;
+pub use certified_input::CertifiedInput;
 pub use grounded_design::GroundedDesign;
-pub use judging::{answer_on_cert, judge};
+pub use judging::judge;
 pub use lines::{put_budget, put_fields, put_line};
-pub use measuring::{measure, report_of};
+pub use measuring::measure;
 pub use outputs::make_cert;
 pub use refusal::Refusal;
 pub use refusing::refuse;
+pub use routed_input::RoutedInput;
 pub use routes_report::RoutesReport;
 pub use saying::{say, say_unwritten};
-pub use sources::{grounded, read_blocks, read_certificate, read_grounded};
+pub use sources::{
+    grounded, read_blocks, read_certificate, read_certified, read_grounded, read_routed,
+};
 pub use statuses::{DONE, OBJECTED, UNWRITTEN};
 pub use text_fault::TextFault;

@@ -11,14 +11,14 @@ use crate::answer::Answer;
 use crate::grounded_design::GroundedDesign;
 use crate::refusal::Refusal;
 use crate::refusing::refuse;
+use crate::routed_input::RoutedInput;
 use crate::routes_report::RoutesReport;
 use crate::saying::say;
-use crate::sources::{read_blocks, read_grounded};
+use crate::sources::read_routed;
 use command_words::MeasureRequest;
 use gr_desk::Desk;
 use grid_base::NoMemory;
 use route_judge::{Checked, forced_count, judge_routes};
-use route_text::Block;
 use std::alloc::Global;
 use tree_set::Measure;
 
@@ -41,32 +41,32 @@ fn measured<D: Desk>(
     ensures answer { IfOk result (IsMeasureAnswer (measure_task_of request.now) (D.told desk.old)) }
     ensures reads { ReadsSources (measure_sources (measure_task_of request.now)) (D.told desk.old) (D.told desk.new) result }
 {
-    let grounded = read_grounded(alloc, desk, request.input)?;
-    let blocks = read_blocks(alloc, desk, request.routes)?;
-    Ok(answer_on_routes(alloc, &grounded, blocks.as_slice())?)
+    let read = read_routed(alloc, desk, request.input, request.routes)?;
+    Ok(answer_on_routes(alloc, &read)?)
 }
 
 /// What is said of routes.
-fn answer_on_routes(
-    alloc: Global,
-    grounded: &GroundedDesign,
-    blocks: &[Block],
-) -> Result<Answer, NoMemory>
-    requires grounds { AreGrounds grounded.now.design.grid grounded.now.design.nets grounded.now.grounds.items }
-    requires blocks { AreBlocks blocks.now }
-    ensures { IfOk result (IsTrueOfRoutes grounded.now.design grounded.now.grounds.items blocks.now) }
+fn answer_on_routes(alloc: Global, read: &RoutedInput) -> Result<Answer, NoMemory>
+    requires grounds { AreGrounds read.now.grounded.design.grid read.now.grounded.design.nets read.now.grounded.grounds.items }
+    requires blocks { AreBlocks read.now.blocks.items }
+    ensures { IfOk result (IsTrueOfRoutes read.now.grounded.design read.now.grounded.grounds.items read.now.blocks.items) }
 {
-    let grounds = grounded.grounds.as_slice();
-    match judge_routes(alloc, &grounded.design, grounds, blocks)? {
+    let grounds = read.grounded.grounds.as_slice();
+    match judge_routes(
+        alloc,
+        &read.grounded.design,
+        grounds,
+        read.blocks.as_slice(),
+    )? {
         Checked::Yes { measure, beyond } => {
-            Ok(Answer::Measured(report_of(grounded, measure, beyond)))
+            Ok(Answer::Measured(report_of(&read.grounded, measure, beyond)))
         }
         Checked::No(reason) => Ok(Answer::No(reason)),
     }
 }
 
 /// What is reported of routes with this measure, of whose nets so many go beyond their grounds.
-pub fn report_of(grounded: &GroundedDesign, measure: Measure, beyond: u32) -> RoutesReport
+pub(crate) fn report_of(grounded: &GroundedDesign, measure: Measure, beyond: u32) -> RoutesReport
     ensures { result ≡ record {
       nets = length grounded.now.design.nets;
       forced = counts.forced_count grounded.now.grounds.items;

@@ -8,24 +8,25 @@ ghost use Rattle.grid_graph.specs.Grounds.{AreGrounds};
 ghost use Rattle.ispd_reader.specs.Designs.{IsDesignOfText};
 ghost use Rattle.route_judge.specs.Limits.{AreBlocks};
 ghost use Rattle.judge_cli.specs.declared.refusal.Refusal.{Refusal};
-ghost use Rattle.judge_cli.specs.JudgedTexts.{max_judged_bytes, blocks_or_refusal};
-ghost use Rattle.judge_cli.specs.JudgeRun.{IsReadCert};
+ghost use Rattle.ispd_reader.specs.Limits.{max_bytes};
+ghost use Rattle.judge_cli.specs.JudgedTexts.{blocks_or_refusal};
+ghost use Rattle.judge_cli.specs.JudgeRun.{IsReadCert, judge_sources};
+ghost use Rattle.judge_cli.specs.MeasureRun.{AreReadRoutes, measure_sources};
 ghost use Rattle.judge_cli.specs.Refusals.{IsRefusedFor};
 ghost use Rattle.judge_cli.specs.Sources.{design_source};
 ghost use Rattle.judge_cli.specs.Steps as steps;
 ghost use Rattle.judge_cli.specs.Steps.{ReadsSources};
 
+use crate::certified_input::CertifiedInput;
 use crate::grounded_design::GroundedDesign;
 use crate::refusal::Refusal;
+use crate::routed_input::RoutedInput;
 use crate::text_fault::TextFault;
 use cert_text::{Cert, read_cert};
 use gr_desk::{Desk, Port, PortFault, read_port};
-use ispd_reader::{InputFault, read_design};
+use ispd_reader::{InputFault, MAX_BYTES, read_design};
 use route_text::{Block, read_routes};
 use std::alloc::Global;
-
-/// The most bytes of a text.
-const MAX_BYTES: u64 = 1 << 30;
 
 /// The refusal of a text of more than 2^30 bytes.
 fn too_long_at(port: Port) -> Refusal
@@ -46,13 +47,13 @@ fn read_source<D: Desk>(
 ) -> Result<Vec<u8>, Refusal>
     requires input { IsTrue (is_input port) }
     ensures bytes { IfOk result (λ v. (bytes : List ℕ) → (D.told desk.old).files name.now ≡ Some bytes → v.items ≡ bytes) }
-    ensures short { IfOk result (λ v. length v.items ≤ max_judged_bytes) }
+    ensures short { IfOk result (λ v. length v.items ≤ max_bytes) }
     ensures reads { ReadsSources (record { port = port; name = name.now } ∷ []) (D.told desk.old) (D.told desk.new) result }
 {
     if desk.open(port, name).is_err() {
         return Err(Refusal::Unread);
     }
-    match read_port(alloc, desk, port, MAX_BYTES) {
+    match read_port(alloc, desk, port, MAX_BYTES as u64) {
         Ok(bytes) => Ok(bytes),
         Err(PortFault::TooLong) => Err(too_long_at(port)),
         Err(PortFault::Failed) => Err(Refusal::Unread),
@@ -105,4 +106,40 @@ pub fn read_certificate<D: Desk>(alloc: Global, desk: &mut D, name: &str) -> Res
 {
     let bytes = read_source(alloc, desk, Port::CertIn, name)?;
     Ok(read_cert(alloc, bytes.as_slice())?)
+}
+
+/// The design and the routes under the names, read one after the other.
+pub fn read_routed<D: Desk>(
+    alloc: Global,
+    desk: &mut D,
+    input: &str,
+    routes: &str,
+) -> Result<RoutedInput, Refusal>
+    ensures are_read { IfOk result (λ r. AreReadRoutes input.now routes.now (D.told desk.old) r.grounded.design r.grounded.grounds.items r.blocks.items) }
+    ensures judged { IfOk result (λ r. AreBlocks r.blocks.items) }
+    ensures reads { ReadsSources (measure_sources (record { input = input.now; routes = routes.now })) (D.told desk.old) (D.told desk.new) result }
+{
+    let grounded = read_grounded(alloc, desk, input)?;
+    let blocks = read_blocks(alloc, desk, routes)?;
+    Ok(RoutedInput { grounded, blocks })
+}
+
+/// The design, the routes and the certificate under the names, read one after the other.
+pub fn read_certified<D: Desk>(
+    alloc: Global,
+    desk: &mut D,
+    input: &str,
+    routes: &str,
+    certificate: &str,
+) -> Result<CertifiedInput, Refusal>
+    ensures are_read { IfOk result (λ r. AreReadRoutes input.now routes.now (D.told desk.old)
+        r.routed.grounded.design r.routed.grounded.grounds.items r.routed.blocks.items) }
+    ensures judged { IfOk result (λ r. AreBlocks r.routed.blocks.items) }
+    ensures cert { IfOk result (λ r. IsReadCert certificate.now (D.told desk.old) r.cert) }
+    ensures limits { IfOk result (λ r. IsCertWithin r.cert) }
+    ensures reads { ReadsSources (judge_sources (record { input = input.now; routes = routes.now; cert = certificate.now })) (D.told desk.old) (D.told desk.new) result }
+{
+    let routed = read_routed(alloc, desk, input, routes)?;
+    let cert = read_certificate(alloc, desk, certificate)?;
+    Ok(CertifiedInput { routed, cert })
 }

@@ -1,119 +1,44 @@
-use Rattle.std.proofs.Common.{◌≡◌, ◌∙◌, ap, List, ℕ, [], ◌∷◌}
-use Rattle.std.specs.Prelude.{Option}
-use Rattle.gr_desk.specs.declared.port.Port.TheVariants.{In, RoutesIn, CertIn}
+use Rattle.std.proofs.Common.{◌≡◌}
 use Rattle.judge_cli.specs.declared.refusal.Refusal.TheVariants.{NoMemory}
-use Rattle.judge_cli.specs.JudgeRun.{judge_task_of}
-use Rattle.judge_cli.specs.Sources.{Source}
-use Rattle.judge_cli.proofs.JudgedRuns.{accepted-design, accepted-blocks, accepted-cert, in-not_judged, routes-not_cert}
-use Rattle.judge_cli.proofs.ReadFiles.{error_of, sources-early, sources-then, sources-done}
-use Rattle.judge_cli.proofs.Traces.{none_in}
+use Rattle.judge_cli.specs.JudgeRun.{judge_task_of, judge_sources}
+use Rattle.judge_cli.proofs.JudgedRuns.{files-accepted}
+use Rattle.judge_cli.proofs.ReadFiles.{error_of, sources-failed, sources-memory, sources-passed}
 use Rattle.judge_cli.proofs.judging.judged.Goals as goal
 
-pub returns-in_err-grounded-clause-reads : goal.returns-in_err-grounded-clause-reads
-returns-in_err-grounded-clause-reads g c =
+pub returns-in_err-read-clause-reads : goal.returns-in_err-read-clause-reads
+returns-in_err-read-clause-reads g c =
     let told = g.D.Desk.told in
-    let q = judge_task_of c.args.request.now in
-    let later : List Source = record { port = RoutesIn; name = q.routes } ∷ record { port = CertIn; name = q.cert } ∷ [] in
-    let e = c.in_err-grounded.field-0.0 in
-    sources-early (record { port = In; name = q.input }) later (told c.args.desk.now) (told c.read_grounded.new.desk) c.read_grounded.result c.from_residual.result e in-not_judged
-    c.in_err-grounded.was (error_of c.from_residual.result e c.from_residual.ensures.1) c.read_grounded.ensures.reads
-
-pub returns-in_err-blocks-clause-reads : goal.returns-in_err-blocks-clause-reads
-returns-in_err-blocks-clause-reads g c =
-    let told = g.D.Desk.told in
-    let q = judge_task_of c.args.request.now in
-    let a = told c.args.desk.now in
-    let b = told c.read_grounded.new.desk in
-    let end = told c.read_blocks.new.desk in
-    let cert : Source = record { port = CertIn; name = q.cert } in
-    let routes : Source = record { port = RoutesIn; name = q.routes } in
-    let design = c.in_ok-grounded.ensures in
-    let e = c.in_err-blocks.field-0.0 in
-    let x = c.from_residual-in_err-blocks.result in
-    sources-then (record { port = In; name = q.input }) (routes ∷ cert ∷ []) a b end c.read_grounded.result c.in_ok-grounded.grounded x in-not_judged
-    c.in_ok-grounded.was (accepted-design q.input a.files c.in_ok-grounded.grounded.design c.in_ok-grounded.grounded.grounds.items design.named design.grounds) c.read_grounded.ensures.reads
-    (sources-early routes (cert ∷ []) b end c.read_blocks.result x e routes-not_cert c.in_err-blocks.was (error_of x e c.from_residual-in_err-blocks.ensures.1) c.read_blocks.ensures.reads)
-
-pub returns-in_err-cert-clause-reads : goal.returns-in_err-cert-clause-reads
-returns-in_err-cert-clause-reads g c =
-    let told = g.D.Desk.told in
-    let q = judge_task_of c.args.request.now in
-    let a = told c.args.desk.now in
-    let b = told c.read_grounded.new.desk in
-    let m = told c.read_blocks.new.desk in
-    let end = told c.read_certificate.new.desk in
-    let cert : Source = record { port = CertIn; name = q.cert } in
-    let routes : Source = record { port = RoutesIn; name = q.routes } in
-    let design = c.in_ok-grounded.ensures in
-    let e = c.in_err-cert.field-0.0 in
-    let x = c.from_residual-in_err-cert.result in
-    sources-then (record { port = In; name = q.input }) (routes ∷ cert ∷ []) a b end c.read_grounded.result c.in_ok-grounded.grounded x in-not_judged
-    c.in_ok-grounded.was (accepted-design q.input a.files c.in_ok-grounded.grounded.design c.in_ok-grounded.grounded.grounds.items design.named design.grounds) c.read_grounded.ensures.reads
-    (sources-then routes (cert ∷ []) b m end c.read_blocks.result c.in_ok-blocks.blocks x routes-not_cert
-    c.in_ok-blocks.was (accepted-blocks q.routes b.files c.in_ok-blocks.blocks.items c.in_ok-blocks.ensures.blocks) c.read_blocks.ensures.reads
-    (sources-early cert [] m end c.read_certificate.result x e (none_in CertIn) c.in_err-cert.was (error_of x e c.from_residual-in_err-cert.ensures.1) c.read_certificate.ensures.reads))
+    let e = c.in_err-read.field-0.0 in
+    sources-failed (judge_sources (judge_task_of c.args.request.now)) (told c.args.desk.now) (told c.read_certified.new.desk) c.read_certified.result c.from_residual.result e
+    c.in_err-read.was (error_of c.from_residual.result e c.from_residual.ensures.1) c.read_certified.ensures.reads
 
 pub returns-in_err-answer_on_cert-clause-reads : goal.returns-in_err-answer_on_cert-clause-reads
 returns-in_err-answer_on_cert-clause-reads g c =
     let told = g.D.Desk.told in
     let q = judge_task_of c.args.request.now in
     let a = told c.args.desk.now in
-    let b = told c.read_grounded.new.desk in
-    let m = told c.read_blocks.new.desk in
-    let end = told c.read_certificate.new.desk in
-    let cert : Source = record { port = CertIn; name = q.cert } in
-    let routes : Source = record { port = RoutesIn; name = q.routes } in
-    let design = c.in_ok-grounded.ensures in
+    let r = c.in_ok-read.read in
+    let read = c.in_ok-read.ensures in
     let x = c.from_residual-in_err-answer_on_cert.result in
     let memory = error_of x NoMemory c.from_residual-in_err-answer_on_cert.ensures.1 in
-    sources-then (record { port = In; name = q.input }) (routes ∷ cert ∷ []) a b end c.read_grounded.result c.in_ok-grounded.grounded x in-not_judged
-    c.in_ok-grounded.was (accepted-design q.input a.files c.in_ok-grounded.grounded.design c.in_ok-grounded.grounded.grounds.items design.named design.grounds) c.read_grounded.ensures.reads
-    (sources-then routes (cert ∷ []) b m end c.read_blocks.result c.in_ok-blocks.blocks x routes-not_cert
-    c.in_ok-blocks.was (accepted-blocks q.routes b.files c.in_ok-blocks.blocks.items c.in_ok-blocks.ensures.blocks) c.read_blocks.ensures.reads
-    (sources-then cert [] m end end c.read_certificate.result c.in_ok-cert.cert x (none_in CertIn)
-    c.in_ok-cert.was (accepted-cert q.cert m c.in_ok-cert.cert c.in_ok-cert.ensures.cert) c.read_certificate.ensures.reads
-    (sources-done end x (λ r is. cc))))
+    sources-memory (judge_sources q) a (told c.read_certified.new.desk) c.read_certified.result r x c.in_ok-read.was
+    (files-accepted q a r.routed.grounded.design r.routed.grounded.grounds.items r.routed.blocks.items r.cert read.are_read read.cert) (λ e is. cc) c.read_certified.ensures.reads
 
 pub returns-clause-reads : goal.returns-clause-reads
 returns-clause-reads g c =
     let told = g.D.Desk.told in
-    let q = judge_task_of c.args.request.now in
-    let a = told c.args.desk.now in
-    let b = told c.read_grounded.new.desk in
-    let m = told c.read_blocks.new.desk in
-    let end = told c.read_certificate.new.desk in
-    let cert : Source = record { port = CertIn; name = q.cert } in
-    let routes : Source = record { port = RoutesIn; name = q.routes } in
-    let design = c.in_ok-grounded.ensures in
-    sources-then (record { port = In; name = q.input }) (routes ∷ cert ∷ []) a b end c.read_grounded.result c.in_ok-grounded.grounded _ in-not_judged
-    c.in_ok-grounded.was (accepted-design q.input a.files c.in_ok-grounded.grounded.design c.in_ok-grounded.grounded.grounds.items design.named design.grounds) c.read_grounded.ensures.reads
-    (sources-then routes (cert ∷ []) b m end c.read_blocks.result c.in_ok-blocks.blocks _ routes-not_cert
-    c.in_ok-blocks.was (accepted-blocks q.routes b.files c.in_ok-blocks.blocks.items c.in_ok-blocks.ensures.blocks) c.read_blocks.ensures.reads
-    (sources-then cert [] m end end c.read_certificate.result c.in_ok-cert.cert _ (none_in CertIn)
-    c.in_ok-cert.was (accepted-cert q.cert m c.in_ok-cert.cert c.in_ok-cert.ensures.cert) c.read_certificate.ensures.reads
-    (sources-done end _ (λ r is. cc))))
+    sources-passed (judge_sources (judge_task_of c.args.request.now)) (told c.args.desk.now) (told c.read_certified.new.desk) c.read_certified.result c.in_ok-read.read _ c.in_ok-read.was c.read_certified.ensures.reads
 
 pub returns-clause-answer : goal.returns-clause-answer
 returns-clause-answer g c =
-    let told = g.D.Desk.told in
-    let q = judge_task_of c.args.request.now in
-    let a = told c.args.desk.now in
-    let b = told c.read_grounded.new.desk in
-    let m = told c.read_blocks.new.desk in
-    let files : b.files ≡ a.files = c.read_grounded.ensures.reads.reads.files in
-    let same : m.files ≡ a.files = c.read_blocks.ensures.reads.reads.files ∙ files in
-    let design = c.in_ok-grounded.ensures in
-    let d = c.in_ok-grounded.grounded in
+    let r = c.in_ok-read.read in
+    let read = c.in_ok-read.ensures in
     record {
-      design = d.design;
-      grounds = d.grounds.items;
-      blocks = c.in_ok-blocks.blocks.items;
-      cert = c.in_ok-cert.cert;
-      are_read = record {
-        named = design.named;
-        grounds = design.grounds;
-        blocks_are = λ bytes under. c.in_ok-blocks.ensures.blocks bytes (ap (λ (f : List ℕ → Option (List ℕ)). f q.routes) files ∙ under);
-      };
-      cert_read = λ bytes under. c.in_ok-cert.ensures.cert bytes (ap (λ (f : List ℕ → Option (List ℕ)). f q.cert) same ∙ under);
-      is_true = rw c.as_slice.ensures.value at c.in_ok-answer_on_cert.ensures;
+      design = r.routed.grounded.design;
+      grounds = r.routed.grounded.grounds.items;
+      blocks = r.routed.blocks.items;
+      cert = r.cert;
+      are_read = read.are_read;
+      cert_read = read.cert;
+      is_true = c.in_ok-answer_on_cert.ensures;
     }

@@ -2,7 +2,7 @@ use Rattle.std.proofs.Common.{◌≡◌, refl}
 use Rattle.judge_cli.specs.declared.refusal.Refusal.TheVariants.{Unread}
 use Rattle.judge_cli.specs.MeasureRun.{measure_task_of, measure_sources, IsMeasureAnswer}
 use Rattle.judge_cli.proofs.AnsweredRuns.{run-said, run-not_said}
-use Rattle.judge_cli.proofs.JudgedRuns.{measure-accepted, report-not_measured}
+use Rattle.judge_cli.proofs.JudgedRuns.{routes-accepted, report-not_measured}
 use Rattle.judge_cli.proofs.measuring.measure.Goals as goal
 
 pub returns-in-Ok : goal.returns-in-Ok
@@ -10,8 +10,9 @@ returns-in-Ok g c =
     let told = g.D.Desk.told in
     let q = measure_task_of c.args.request.now in
     let done = c.in-Ok.ensures in
+    let is = done.answer in
     run-said (measure_sources q) (IsMeasureAnswer q (told c.args.desk.now)) (told c.args.desk.now) (told c.measured.new.desk) (told c.say.new.desk) c.say.result c.in-Ok.answer
-    (report-not_measured q) (refl, (refl, tt)) (measure-accepted q (told c.args.desk.now) c.in-Ok.answer done.answer) done.answer done.reads.reads (done.reads.quiet (λ h. cc)) c.say.ensures
+    (report-not_measured q) (refl, (refl, tt)) (routes-accepted q (told c.args.desk.now) is.design is.grounds is.blocks is.are_read) is done.reads.reads (done.reads.quiet (λ h. cc)) c.say.ensures
 
 pub returns-in-Err : goal.returns-in-Err
 returns-in-Err g c =

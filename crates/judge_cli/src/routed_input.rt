@@ -1,0 +1,11 @@
+//! A design and routes, as they were read.
+
+use crate::grounded_design::GroundedDesign;
+use route_text::Block;
+
+/// A design with its nets' grounds, and the blocks of a route text.
+#[derive(Drop)]
+pub struct RoutedInput {
+    pub grounded: GroundedDesign,
+    pub blocks: Vec<Block>,
+}
