@@ -16,16 +16,18 @@ use Rattle.gr_desk.specs.Told.{Told}
 use Rattle.judge_cli.specs.declared.answer.Answer.{Answer}
 use Rattle.judge_cli.specs.declared.refusal.Refusal.TheVariants.{NoCommand, NoMemory}
 use Rattle.judge_cli.specs.AnsweredRun.{IsAnsweredRun}
-use Rattle.judge_cli.specs.JudgeRun.{JudgeTask, IsJudgeAnswer, judge_sources, judge_task_of, judge_task_of_words}
+use Rattle.judge_cli.specs.JudgeRun.{JudgeTask, IsJudgeAnswer, IsJudgeRun, judge_sources, judge_task_of, judge_task_of_words}
 use Rattle.judge_cli.specs.Lines.{lines_of, status_of}
-use Rattle.router_cli.specs.MakeRun.{make_task_of_words}
-use Rattle.judge_cli.specs.MeasureRun.{MeasureTask, IsMeasureAnswer, measure_sources, measure_task_of, measure_task_of_words}
+use Rattle.router_cli.specs.MakeRun.{IsMakeRun, make_task_of_words}
+use Rattle.judge_cli.specs.MeasureRun.{MeasureTask, IsMeasureAnswer, IsMeasureRun, measure_sources, measure_task_of, measure_task_of_words}
+use Rattle.router_cli.specs.RouteRun.{IsRouteRun}
 use Rattle.router_cli.specs.Runs.{IsRun}
 use Rattle.judge_cli.specs.Sources.{Source, ports_of}
 use Rattle.router_cli.specs.Tasks.{task_of_words}
 use Rattle.judge_cli.specs.Traces.{OutputFailed}
-use Rattle.router_cli.specs.TrialRun.{trial_task_of_words}
+use Rattle.router_cli.specs.TrialRun.{IsTrialRun, trial_task_of_words}
 use Rattle.judge_cli.proofs.AnsweredRuns.{AreInputs, run-not_said}
+use Rattle.judge_cli.proofs.Causes.{cause-unbegun}
 use Rattle.judge_cli.proofs.JudgedRuns.{report-not_measured, report-not_judged}
 use Rattle.judge_cli.proofs.ReadFiles.{reads-nothing}
 use Rattle.router_cli.proofs.MadeRuns.{make-no_memory, trial-no_memory}
@@ -46,14 +48,12 @@ begins form words is =
     let shaped = (and_parts (has_shape form words) (has_values_in_range form words) is).0 in
     (and_parts (begins_with form.word words) (are_names form (names_in form words) && are_options form (option_words form words)) shaped).0
 
--- so they are none of another word
-pub not_both : (form other : CommandForm) → bytes_eq form.word other.word ≡ false → (words : List (List ℕ)) → is_command_of words form ≡ true → is_command_of words other ≡ true → ⊥
-not_both form other apart [] one both = let some : false ≡ true = begins form [] one in cc
-not_both form other apart (first ∷ rest) one both =
+-- so a word is that of one command
+pub one_word : (form other : CommandForm) (words : List (List ℕ)) → is_command_of words form ≡ true → is_command_of words other ≡ true → bytes_eq form.word other.word ≡ true
+one_word form other [] one both = let some : false ≡ true = begins form [] one in cc
+one_word form other (first ∷ rest) one both =
     let same : first ≡ form.word = (bytes_eq-Decides first form.word).0 (begins form (first ∷ rest) one) in
-    let equal : bytes_eq form.word other.word ≡ true = subst (λ (word : List ℕ). bytes_eq word other.word ≡ true) same (begins other (first ∷ rest) both) in
-    let clash : true ≡ false = sym equal ∙ apart in
-    cc
+    subst (λ (word : List ℕ). bytes_eq word other.word ≡ true) same (begins other (first ∷ rest) both)
 
 -- ---- what they ask for
 
@@ -75,7 +75,7 @@ judge_task-asked words r asks = ap judge_of_names asks.names
 answered-no_memory : (sources : List Source) (IsRight : Answer → Type 0) (a c : Told) (status n : ℕ) → ¬ Contains (ports_of sources) Report → AreInputs sources
     → status ≡ status_of NoMemory → Adds a c Report (take n (lines_of NoMemory)) → (¬ OutputFailed a c → Adds a c Report (lines_of NoMemory)) → IsAnsweredRun sources IsRight a c status
 answered-no_memory sources IsRight a c status n apart inputs is part whole =
-    run-not_said sources IsRight a a c status n NoMemory apart inputs tt (reads-nothing sources a) (λ _. refl) is part whole
+    run-not_said sources IsRight a a c status n NoMemory apart inputs (cause-unbegun sources a) (reads-nothing sources a) (λ _. refl) is part whole
 
 -- a run that had no memory to read its words, whatever they are
 pub run-without_memory : {Z : Type 0} (words : List (String Z)) (a c : Told) (status n : ℕ)
@@ -105,4 +105,23 @@ run-without_command words a c status n none is part whole =
       judge = λ of. absurd (no_command-not bytes judge_form (2, lit< tt, refl) none of);
       make = λ of. absurd (no_command-not bytes make_form (3, lit< tt, refl) none of);
       trial = λ of. absurd (no_command-not bytes trial_form (4, lit< tt, refl) none of);
+    }
+
+-- a run whose words are this command owes what it promises, and nothing for the other commands
+pub run-of_command : {Z : Type 0} (words : List (String Z)) (a c : Told) (status : ℕ) (form : CommandForm) → Contains command_forms form → is_command_of (map string_bytes words) form ≡ true
+    → (bytes_eq form.word route_form.word ≡ true → IsRouteRun (task_of_words (map string_bytes words)) a c status)
+    → (bytes_eq form.word measure_form.word ≡ true → IsMeasureRun (measure_task_of_words (map string_bytes words)) a c status)
+    → (bytes_eq form.word judge_form.word ≡ true → IsJudgeRun (judge_task_of_words (map string_bytes words)) a c status)
+    → (bytes_eq form.word make_form.word ≡ true → IsMakeRun (make_task_of_words (map string_bytes words)) a c status)
+    → (bytes_eq form.word trial_form.word ≡ true → IsTrialRun (trial_task_of_words (map string_bytes words)) a c status)
+    → IsRun words a c status
+run-of_command words a c status form at is route measure judge make trial =
+    let bytes = map string_bytes words in
+    record {
+      no_command = λ none. absurd (no_command-not bytes form at none is);
+      route = λ other. route (one_word form route_form bytes is other);
+      measure = λ other. measure (one_word form measure_form bytes is other);
+      judge = λ other. judge (one_word form judge_form bytes is other);
+      make = λ other. make (one_word form make_form bytes is other);
+      trial = λ other. trial (one_word form trial_form bytes is other);
     }

@@ -1,7 +1,7 @@
 -- What the words of `make` and of `trial` ask for, and runs on them that had no memory to read their words.
 use Rattle.std.proofs.Common.{◌≡◌, ℕ, List, [], ◌∷◌, take, refl, sym, ◌∙◌, ap, subst, inr}
 use Rattle.std.specs.Prelude.{Option, Some, slice_index_or, unwrap_or}
-use Rattle.command_words.specs.CommandLine.{AsksForMake, AsksForTrial, seed_option, cols_option, rows_option, layers_option, nets_option}
+use Rattle.command_words.specs.CommandLine.{CommandForm, AsksForMake, AsksForTrial, make_form, trial_form, seed_option, cols_option, rows_option, layers_option, nets_option}
 use Rattle.command_words.specs.declared.make_request.MakeRequest.{MakeRequest}
 use Rattle.command_words.specs.declared.trial_request.TrialRequest.{TrialRequest}
 use Rattle.gr_desk.specs.declared.port.Port.TheVariants.{DesignOut, Report}
@@ -10,10 +10,11 @@ use Rattle.gr_desk.specs.Told.{Told, PortTold}
 use Rattle.gr_make.specs.declared.shape.Shape.{Shape}
 use Rattle.judge_cli.specs.declared.refusal.Refusal.TheVariants.{NoMemory}
 use Rattle.judge_cli.specs.Lines.{lines_of, status_of}
-use Rattle.router_cli.specs.MakeRun.{MakeTask, EndsBeforeMade, IsMade, IsMakeRun, make_task_of, make_task_of_words, make_value}
+use Rattle.router_cli.specs.MakeRun.{MakeTask, EndsBeforeMade, IsMade, IsMakeRun, make_task_of, make_task_of_words}
 use Rattle.gr_desk.specs.declared.port.Port.{Port}
 use Rattle.judge_cli.specs.Traces.{TouchesOnly, OutputFailed, but_for_output}
-use Rattle.router_cli.specs.TrialRun.{TrialTask, IsTried, IsTriedInPart, IsTrialRun, trial_task_of, trial_task_of_words, trial_value}
+use Rattle.router_cli.specs.TrialRun.{TrialTask, IsTried, IsTriedInPart, IsTrialRun, trial_task_of, trial_task_of_words}
+use Rattle.router_cli.specs.OptionValues.{shape_in, value_in}
 use Rattle.judge_cli.specs.WantOfMemory.{IsWantOfMemory}
 use Rattle.judge_cli.proofs.Outcomes.{status-no_report}
 use Rattle.judge_cli.proofs.Traces.{but_for_output-of, none_in, only_of, touches-none}
@@ -24,12 +25,13 @@ use Rattle.judge_cli.proofs.Traces.{but_for_output-of, none_in, only_of, touches
 abbrev shape_of_values : Option ℕ → Option ℕ → Option ℕ → Option ℕ → Shape
 shape_of_values cols rows layers nets = record { cols = unwrap_or cols 0; rows = unwrap_or rows 0; layers = unwrap_or layers 0; nets = unwrap_or nets 0 }
 
-shape_is : (cols rows layers nets : Option ℕ) (a b c d : ℕ) → cols ≡ Some a → rows ≡ Some b → layers ≡ Some c → nets ≡ Some d
-    → shape_of_values cols rows layers nets ≡ record { cols = a; rows = b; layers = c; nets = d }
-shape_is cols rows layers nets a b c d is_a is_b is_c is_d =
-    ap (λ (o : Option ℕ). shape_of_values o rows layers nets) is_a
-    ∙ ap (λ (o : Option ℕ). shape_of_values (Some a) o layers nets) is_b
-    ∙ ap (λ (o : Option ℕ). shape_of_values (Some a) (Some b) o nets) is_c
+shape-asked : (form : CommandForm) (words : List (List ℕ)) (a b c d : ℕ) → value_in form words cols_option ≡ Some a → value_in form words rows_option ≡ Some b
+    → value_in form words layers_option ≡ Some c → value_in form words nets_option ≡ Some d → shape_in form words ≡ record { cols = a; rows = b; layers = c; nets = d }
+shape-asked form words a b c d is_a is_b is_c is_d =
+    let value = value_in form words in
+    ap (λ (o : Option ℕ). shape_of_values o (value rows_option) (value layers_option) (value nets_option)) is_a
+    ∙ ap (λ (o : Option ℕ). shape_of_values (Some a) o (value layers_option) (value nets_option)) is_b
+    ∙ ap (λ (o : Option ℕ). shape_of_values (Some a) (Some b) o (value nets_option)) is_c
     ∙ ap (λ (o : Option ℕ). shape_of_values (Some a) (Some b) (Some c) o) is_d
 
 abbrev make_of_values : List (List ℕ) → Option ℕ → Shape → MakeTask
@@ -37,23 +39,19 @@ make_of_values names seed shape = record { output = slice_index_or names 0 []; s
 
 pub make_task-asked : (words : List (List ℕ)) (r : MakeRequest) → AsksForMake words r → make_task_of_words words ≡ make_task_of r
 make_task-asked words r asks =
-    let value = make_value words in
     let names : List (List ℕ) = r.output.now ∷ [] in
-    let given = shape_of_values (value cols_option) (value rows_option) (value layers_option) (value nets_option) in
-    let shape = shape_is (value cols_option) (value rows_option) (value layers_option) (value nets_option) r.cols r.rows r.layers r.nets asks.cols asks.rows asks.layers asks.nets in
-    ap (λ (n : List (List ℕ)). make_of_values n (value seed_option) given) asks.names
+    let given = shape_in make_form words in
+    ap (λ (n : List (List ℕ)). make_of_values n (value_in make_form words seed_option) given) asks.names
     ∙ ap (λ (s : Option ℕ). make_of_values names s given) asks.seed
-    ∙ ap (λ (s : Shape). make_of_values names (Some r.seed) s) shape
+    ∙ ap (make_of_values names (Some r.seed)) (shape-asked make_form words r.cols r.rows r.layers r.nets asks.cols asks.rows asks.layers asks.nets)
 
 abbrev trial_of_values : List ℕ → Shape → TrialTask
 trial_of_values seeds shape = record { seed = slice_index_or seeds 0 0; shape = shape }
 
 pub trial_task-asked : (words : List (List ℕ)) (r : TrialRequest) → AsksForTrial words r → trial_task_of_words words ≡ trial_task_of r
 trial_task-asked words r asks =
-    let value = trial_value words in
-    let given = shape_of_values (value cols_option) (value rows_option) (value layers_option) (value nets_option) in
-    let shape = shape_is (value cols_option) (value rows_option) (value layers_option) (value nets_option) r.cols r.rows r.layers r.nets asks.cols asks.rows asks.layers asks.nets in
-    ap (λ (s : List ℕ). trial_of_values s given) asks.seed ∙ ap (λ (s : Shape). trial_of_values (r.seed ∷ []) s) shape
+    ap (λ (s : List ℕ). trial_of_values s (shape_in trial_form words)) asks.seed
+    ∙ ap (trial_of_values (r.seed ∷ [])) (shape-asked trial_form words r.cols r.rows r.layers r.nets asks.cols asks.rows asks.layers asks.nets)
 
 -- ---- runs without memory
 

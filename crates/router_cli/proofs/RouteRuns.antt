@@ -21,7 +21,7 @@ use Rattle.judge_cli.specs.Steps.{OnlyReads}
 use Rattle.router_cli.specs.Tasks.{RouteTask}
 use Rattle.judge_cli.specs.Traces.{ReportGains, ReportsRefusal, OutputFailed}
 use Rattle.judge_cli.specs.Sources.{design_source, AreOrderlyOpens}
-use Rattle.judge_cli.proofs.Causes.{not_refused, refused_once, text_or_memory}
+use Rattle.judge_cli.proofs.Causes.{cause-unbegun, not_refused, refused_once, text_or_memory}
 use Rattle.judge_cli.proofs.ReadFiles.{reads-nothing}
 use Rattle.judge_cli.proofs.RefusedRuns.{is_refused}
 use Rattle.judge_cli.proofs.Outcomes.{status-no_report}
@@ -147,7 +147,7 @@ run-refused q a b c status n r why reads calm is part whole =
 -- a run that had no memory to read its words
 pub run-no_memory : (q : RouteTask) (a c : Told) (status n : ℕ)
     → status ≡ status_of NoMemory → Adds a c Report (take n (lines_of NoMemory)) → (¬ OutputFailed a c → Adds a c Report (lines_of NoMemory)) → IsRouteRun q a c status
-run-no_memory q a c status n is part whole = run-refused q a a c status n NoMemory tt (reads-nothing (design_source q.input) a) (λ _. refl) is part whole
+run-no_memory q a c status n is part whole = run-refused q a a c status n NoMemory (cause-unbegun (design_source q.input) a) (reads-nothing (design_source q.input) a) (λ _. refl) is part whole
 
 -- a run on words that are no command
 pub run-no_command : (a c : Told) (status n : ℕ) (r : Refusal) → (r ≡ NoCommand) ⊎ (r ≡ NoMemory)

@@ -2,11 +2,12 @@
 use Rattle.std.proofs.Common.{◌≡◌, ℕ, List, [], ◌∷◌, ◌∙◌, ap, subst, ◌≤◌}
 use Rattle.std.specs.Prelude.{Option, Some, None, IfSome, unwrap_or, slice_index_or}
 use Rattle.command_words.specs.declared.route_request.RouteRequest.{RouteRequest}
-use Rattle.command_words.specs.CommandLine.{AsksForRoute, HasRouteRanges, workers_option, phases_option, rounds_option, seed_option, budget_option}
+use Rattle.command_words.specs.CommandLine.{AsksForRoute, HasRouteRanges, route_form, workers_option, phases_option, rounds_option, seed_option, budget_option}
 use Rattle.std.specs.Option.{ForSome}
 use Rattle.grid_graph.specs.Limits.{max_budget}
 use Rattle.price_workers.specs.Settings.{AreSettings}
-use Rattle.router_cli.specs.Tasks.{RouteTask, settings_of, task_of, task_of_words, value_in}
+use Rattle.router_cli.specs.Tasks.{RouteTask, settings_of, task_of, task_of_words}
+use Rattle.router_cli.specs.OptionValues.{value_in}
 
 -- a task by its names and the values of its options
 abbrev of_values : List (List ℕ) → Option ℕ → Option ℕ → Option ℕ → Option ℕ → Option ℕ → RouteTask
@@ -26,11 +27,11 @@ of_values names workers phases rounds seed budget = record {
 pub task_of-asked : (words : List (List ℕ)) (r : RouteRequest) → AsksForRoute words r → task_of_words words ≡ task_of r
 task_of-asked words r asks =
     let names : List (List ℕ) = r.input.now ∷ r.routes.now ∷ r.certificate.now ∷ [] in
-    let phases = value_in words phases_option in
-    let rounds = value_in words rounds_option in
-    let seed = value_in words seed_option in
-    let budget = value_in words budget_option in
-    ap (λ (n : List (List ℕ)). of_values n (value_in words workers_option) phases rounds seed budget) asks.names
+    let phases = value_in route_form words phases_option in
+    let rounds = value_in route_form words rounds_option in
+    let seed = value_in route_form words seed_option in
+    let budget = value_in route_form words budget_option in
+    ap (λ (n : List (List ℕ)). of_values n (value_in route_form words workers_option) phases rounds seed budget) asks.names
     ∙ ap (λ (w : Option ℕ). of_values names w phases rounds seed budget) asks.workers
     ∙ ap (λ (p : Option ℕ). of_values names (Some r.workers) p rounds seed budget) asks.phases
     ∙ ap (λ (k : Option ℕ). of_values names (Some r.workers) (Some r.phases) k seed budget) asks.rounds

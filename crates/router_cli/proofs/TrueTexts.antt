@@ -36,7 +36,7 @@ use Rattle.tree_set.specs.Loads.{load}
 use Rattle.tree_set.specs.Measures.{wirelength, IsPeakWith}
 use Rattle.tree_set.specs.Routings.{IsRoute, KeepsTo}
 use Rattle.route_judge.specs.Bounds.{HasResource}
-use Rattle.route_judge.specs.Counts.{forced_count, needs_choked_edges, listed_prices}
+use Rattle.route_judge.specs.Counts.{forced_count, listed_prices}
 use Rattle.route_judge.specs.NetSets.{IsJoining}
 use Rattle.judge_laws.specs.Meeting.{ClaimsTruly}
 use Rattle.judge_laws.proofs.CertLimits.{true_cert_within}
@@ -44,7 +44,7 @@ use Rattle.judge_laws.proofs.OneBound.{same_grounds}
 use Rattle.judge_laws.proofs.TrueClaims.{true_claims_meet}
 use Rattle.judge_laws.proofs.WrittenBlocks.{AreRoutedSets, written_are_routes, written_sets}
 use Rattle.judge_laws.proofs.WrittenRanges.{written_can_be_judged}
-use Rattle.router_cli.specs.Certified.{IsCertified, IsForcedCount, is_forced, priced_budget}
+use Rattle.router_cli.specs.Certified.{IsCertified, IsForcedCount, priced_budget}
 use Rattle.router_cli.specs.Headline.{IsTrueOf}
 use Rattle.router_cli.specs.TextsMeet.{TextsMeet}
 use Rattle.router_cli.proofs.ListedBack.{listed_back, listed_count, listed_within}
@@ -67,24 +67,9 @@ routing_joins g (n ∷ nets) [] routing = absurd routing
 
 -- ---- what the certificate claims
 
-same_count : (over : List Ground) → count_by is_forced over ≡ forced_count over
-same_count [] = refl
-same_count (Open ∷ over) = omega (
-  arith,
-  sum_by-cons (λ (x : Ground). cond (is_forced x) 1 0) Open over,
-  sum_by-cons (λ (x : Ground). cond (needs_choked_edges x) 1 0) Open over,
-  same_count over,
-)
-same_count (WithChoked ∷ over) = omega (
-  arith,
-  sum_by-cons (λ (x : Ground). cond (is_forced x) 1 0) WithChoked over,
-  sum_by-cons (λ (x : Ground). cond (needs_choked_edges x) 1 0) WithChoked over,
-  same_count over,
-)
-
 forced_is : (d : Design) (over : List Ground) (count : ℕ) → AreGrounds d.grid d.nets over → IsForcedCount d count → count ≡ forced_count over
 forced_is d over count grounds forced =
-    forced.counted ∙ ap (count_by is_forced) (same_grounds d.grid d.nets forced.grounds over forced.are_grounds grounds) ∙ same_count over
+    forced.counted ∙ ap forced_count (same_grounds d.grid d.nets forced.grounds over forced.are_grounds grounds)
 
 most_is : (g : Grid) (prices : List ℕ) (budget : Option ℕ) → most_of (priced_budget g prices budget) ≡ budget
 most_is g prices None = refl

@@ -1,12 +1,11 @@
 -- What a certificate says of a design and of its routes.
-use Rattle.std.specs.Prelude.{ℕ, ◌≡◌, List, length, take, slice_index, map, Option, Bool, true, false}
-use Rattle.std.specs.List.{filter, range_with_len, count_by}
+use Rattle.std.specs.Prelude.{ℕ, ◌≡◌, List, length, take, slice_index, map, Option}
+use Rattle.std.specs.List.{filter, range_with_len}
 use Rattle.std.specs.Option.{option_map}
 use Rattle.grid_base.specs.declared.piece.Piece.{Piece}
 use Rattle.grid_graph.specs.declared.design.Design.{Design}
 use Rattle.grid_graph.specs.declared.grid.Grid.{Grid}
 use Rattle.grid_graph.specs.declared.ground.Ground.{Ground}
-use Rattle.grid_graph.specs.declared.ground.Ground.TheVariants.{Open, WithChoked}
 use Rattle.grid_graph.specs.Grids.{edge_numbers}
 use Rattle.grid_graph.specs.Grounds.{AreGrounds}
 use Rattle.edge_prices.specs.Weights.{is_open}
@@ -15,17 +14,13 @@ use Rattle.tree_set.specs.Loads.{load}
 use Rattle.tree_set.specs.Measures.{overflow, wirelength, IsPeakWith}
 use Rattle.dual_bound.specs.DesignBounds.{IsBoundOrNone}
 use Rattle.cert_text.specs.declared.cert.Cert.{Cert}
-
--- a net of this ground is forced: it needs choked edges
-abbrev pub is_forced : Ground → Bool
-is_forced Open = false
-is_forced WithChoked = true
+use Rattle.route_judge.specs.Counts.{forced_count}
 
 -- so many nets of the design are forced
 pub record IsForcedCount (d : Design) (count : ℕ) : Type 0 where
   pub grounds : List Ground
   pub are_grounds : AreGrounds d.grid d.nets grounds
-  pub counted : count ≡ count_by is_forced grounds
+  pub counted : count ≡ forced_count grounds
 
 -- the open edges, in rising order
 abbrev pub open_edges : Grid → List ℕ

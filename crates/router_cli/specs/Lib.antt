@@ -57,6 +57,7 @@ pub mod Certified
 pub mod ReportLines
 pub mod RouteRun
 pub mod Tasks
+pub mod OptionValues
 pub mod Routed
 pub mod Finishing
 pub mod TextsMeet

@@ -1,7 +1,6 @@
 -- The promise of the command `make`.
-use Rattle.std.specs.Prelude.{◌≡◌, ◌≢◌, ◌⊎◌, ◌++◌, ℕ, List, [], ◌∷◌, Option, Some, None, codes, take, slice_index_or, unwrap_or}
-use Rattle.command_words.specs.CommandLine.{OptionForm, names_in, given_options, value_for, make_form}
-use Rattle.command_words.specs.CommandLine.{seed_option, cols_option, rows_option, layers_option, nets_option}
+use Rattle.std.specs.Prelude.{◌≡◌, ◌≢◌, ◌⊎◌, ◌++◌, ℕ, List, [], ◌∷◌, Some, None, codes, take, slice_index_or, unwrap_or}
+use Rattle.command_words.specs.CommandLine.{names_in, make_form, seed_option}
 use Rattle.command_words.specs.declared.make_request.MakeRequest.{MakeRequest}
 use Rattle.gr_desk.specs.declared.port.Port.{Port}
 use Rattle.gr_desk.specs.declared.port.Port.TheVariants.{DesignOut}
@@ -13,6 +12,7 @@ use Rattle.judge_cli.specs.declared.refusal.Refusal.TheVariants.{NoMemory}
 use Rattle.judge_cli.specs.Lines.{done_status, unwritten_status, unwritten_line, status_of, fields}
 use Rattle.judge_cli.specs.Outputs.{HasFile, HasPart}
 use Rattle.judge_cli.specs.Traces.{ReportGains, TouchesOnly, OutputFailed}
+use Rattle.router_cli.specs.OptionValues.{shape_in, value_in}
 use Rattle.judge_cli.specs.WantOfMemory.{IsWantOfMemory}
 
 -- ---- what its words ask for
@@ -28,21 +28,12 @@ abbrev pub make_task_of : MakeRequest → MakeTask
 make_task_of r =
     record { output = r.output.now; seed = r.seed; shape = record { cols = r.cols; rows = r.rows; layers = r.layers; nets = r.nets } }
 
--- what the words of `make` say of an option
-abbrev pub make_value : List (List ℕ) → OptionForm → Option ℕ
-make_value words option = value_for option (given_options make_form words)
-
 -- what the words of `make` ask for
 abbrev pub make_task_of_words : List (List ℕ) → MakeTask
 make_task_of_words words = record {
   output = slice_index_or (names_in make_form words) 0 [];
-  seed = unwrap_or (make_value words seed_option) 0;
-  shape = record {
-    cols = unwrap_or (make_value words cols_option) 0;
-    rows = unwrap_or (make_value words rows_option) 0;
-    layers = unwrap_or (make_value words layers_option) 0;
-    nets = unwrap_or (make_value words nets_option) 0;
-  };
+  seed = unwrap_or (value_in make_form words seed_option) 0;
+  shape = shape_in make_form words;
 }
 
 -- ---- how a run ends

@@ -5,7 +5,7 @@
 --   RouterRuns   where the routes and the prices come from
 --   Certified    what the certificate says of them
 --   RouteRun     what a run of `route` leaves on each status
---   Tasks        what its words ask for
+--   Tasks        what its words ask for, and OptionValues what words say of options
 --   MakeRun      what a run of `make` leaves, and
 --   TrialRun     what a run of `trial` does: it never finds a no, and TextsMeet says what the judge has to say of its texts
 --   ReportLines  the lines that `route` and `trial` report, byte for byte

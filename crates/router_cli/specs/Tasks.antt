@@ -1,8 +1,9 @@
 -- What a run of `route` is to do.
-use Rattle.std.specs.Prelude.{ℕ, List, [], Option, unwrap_or, slice_index_or}
-use Rattle.command_words.specs.CommandLine.{OptionForm, names_in, given_options, value_for, route_form, workers_option, phases_option, rounds_option, seed_option, budget_option}
+use Rattle.std.specs.Prelude.{ℕ, List, [], unwrap_or, slice_index_or}
+use Rattle.command_words.specs.CommandLine.{names_in, route_form, workers_option, phases_option, rounds_option, seed_option, budget_option}
 use Rattle.command_words.specs.declared.route_request.RouteRequest.{RouteRequest}
 use Rattle.price_workers.specs.declared.settings.Settings.{Settings}
+use Rattle.router_cli.specs.OptionValues.{value_in}
 
 -- the names of the input and of the two files to be made, and the settings
 pub record RouteTask : Type 0 where
@@ -19,10 +20,6 @@ settings_of r = record { workers = r.workers; phases = r.phases; rounds = r.roun
 abbrev pub task_of : RouteRequest → RouteTask
 task_of r = record { input = r.input.now; routes = r.routes.now; cert = r.certificate.now; settings = settings_of r }
 
--- the value that words give an option, or its default
-abbrev pub value_in : List (List ℕ) → OptionForm → Option ℕ
-value_in words option = value_for option (given_options route_form words)
-
 -- what the words of `route` ask for; each option but the budget has a default, so where they are a command no value is missing
 abbrev pub task_of_words : List (List ℕ) → RouteTask
 task_of_words words = record {
@@ -30,10 +27,10 @@ task_of_words words = record {
   routes = slice_index_or (names_in route_form words) 1 [];
   cert = slice_index_or (names_in route_form words) 2 [];
   settings = record {
-    workers = unwrap_or (value_in words workers_option) 0;
-    phases = unwrap_or (value_in words phases_option) 0;
-    rounds = unwrap_or (value_in words rounds_option) 0;
-    seed = unwrap_or (value_in words seed_option) 0;
-    budget = value_in words budget_option;
+    workers = unwrap_or (value_in route_form words workers_option) 0;
+    phases = unwrap_or (value_in route_form words phases_option) 0;
+    rounds = unwrap_or (value_in route_form words rounds_option) 0;
+    seed = unwrap_or (value_in route_form words seed_option) 0;
+    budget = value_in route_form words budget_option;
   };
 }

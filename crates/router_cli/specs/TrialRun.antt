@@ -1,10 +1,9 @@
 -- The promise of the command `trial`.
-use Rattle.std.specs.Prelude.{◌≡◌, ◌≢◌, ◌⊎◌, ◌++◌, ℕ, List, [], Option, None, codes, take, map, slice_index_or, unwrap_or}
+use Rattle.std.specs.Prelude.{◌≡◌, ◌≢◌, ◌⊎◌, ◌++◌, ℕ, List, [], None, codes, take, map, slice_index_or}
 use Rattle.std.specs.Str.Parse.{digits_value}
 use Rattle.cert_text.specs.declared.cert.Cert.{Cert}
 use Rattle.cert_text.specs.CertText.{cert_text}
-use Rattle.command_words.specs.CommandLine.{OptionForm, names_in, given_options, value_for, trial_form}
-use Rattle.command_words.specs.CommandLine.{cols_option, rows_option, layers_option, nets_option}
+use Rattle.command_words.specs.CommandLine.{names_in, trial_form}
 use Rattle.command_words.specs.declared.trial_request.TrialRequest.{TrialRequest}
 use Rattle.gr_desk.specs.Told.{Told}
 use Rattle.gr_make.specs.declared.shape.Shape.{Shape}
@@ -18,6 +17,7 @@ use Rattle.price_workers.specs.declared.settings.Settings.{Settings}
 use Rattle.route_text.specs.RouteText.{routes_text}
 use Rattle.judge_cli.specs.declared.refusal.Refusal.TheVariants.{NoMemory}
 use Rattle.router_cli.specs.Headline.{IsTrueOf}
+use Rattle.router_cli.specs.OptionValues.{shape_in}
 use Rattle.router_cli.specs.ReportLines.{report_text}
 use Rattle.judge_cli.specs.Lines.{done_status, unwritten_status, status_of}
 use Rattle.router_cli.specs.TextsMeet.{TextsMeet}
@@ -35,20 +35,11 @@ pub record TrialTask : Type 0 where
 abbrev pub trial_task_of : TrialRequest → TrialTask
 trial_task_of r = record { seed = r.seed; shape = record { cols = r.cols; rows = r.rows; layers = r.layers; nets = r.nets } }
 
--- what the words of `trial` say of an option
-abbrev pub trial_value : List (List ℕ) → OptionForm → Option ℕ
-trial_value words option = value_for option (given_options trial_form words)
-
 -- what the words of `trial` ask for
 abbrev pub trial_task_of_words : List (List ℕ) → TrialTask
 trial_task_of_words words = record {
   seed = slice_index_or (map (digits_value 10) (names_in trial_form words)) 0 0;
-  shape = record {
-    cols = unwrap_or (trial_value words cols_option) 0;
-    rows = unwrap_or (trial_value words rows_option) 0;
-    layers = unwrap_or (trial_value words layers_option) 0;
-    nets = unwrap_or (trial_value words nets_option) 0;
-  };
+  shape = shape_in trial_form words;
 }
 
 -- the design is routed by one worker in four phases, and repaired in four rounds at most

@@ -1,10 +1,8 @@
 //! The certificate of routes.
 
-ghost use Rattle.std.specs.Prelude.{◌≡◌, ◌≤◌, All, Option, length, IfOk, IfSome};
-ghost use Rattle.std.specs.List.{count_by};
+ghost use Rattle.std.specs.Prelude.{◌≡◌, All, Option, length, IfOk, IfSome};
 ghost use Rattle.grid_graph.specs.Grids.{edge_numbers, size_of};
 ghost use Rattle.grid_graph.specs.Grounds.{AreGrounds};
-ghost use Rattle.grid_graph.specs.Limits.{max_nets};
 ghost use Rattle.edge_prices.specs.Limits.{IsBudget};
 ghost use Rattle.edge_prices.specs.Weights.{IsPriceList};
 ghost use Rattle.tree_set.specs.Budgets as budgets;
@@ -13,12 +11,13 @@ ghost use Rattle.tree_set.specs.Measures as measures;
 ghost use Rattle.tree_set.specs.Routings.{ArePieces};
 ghost use Rattle.dual_bound.specs.Bounds.{BoundsDesign};
 ghost use Rattle.router_cli.specs.Certified as words;
-ghost use Rattle.router_cli.specs.Certified.{IsCertified, is_forced};
+ghost use Rattle.router_cli.specs.Certified.{IsCertified};
 
 use cert_text::{Cert, PriceList};
 use dual_bound::bound;
 use grid_base::{Edge, NoMemory};
 use grid_graph::{Design, Grid, Ground};
+use route_judge::forced_count;
 use std::alloc::Global;
 use std::thread::Threads;
 use tree_set::{Budget, Measure, Tree, measure_of};
@@ -35,17 +34,6 @@ fn open_prices(alloc: Global, grid: &Grid, prices: &[u32]) -> Result<PriceList, 
         }
     }
     Ok(PriceList::of(open))
-}
-
-/// How many of the grounds have choked edges.
-fn forced_count(grounds: &[Ground]) -> u32
-    requires { length grounds.now ≤ max_nets }
-    ensures { result ≡ count_by is_forced grounds.now }
-{
-    grounds
-        .iter()
-        .filter(|ground| matches!(**ground, Ground::WithChoked))
-        .count() as u32
 }
 
 /// The budget with the wirelength's price, which is the last one.
@@ -112,7 +100,7 @@ pub(crate) fn certificate<R: Threads + Sync>(
     )?;
     Ok(Cert {
         nets: design.nets.list().len() as u32,
-        forced: forced_count(grounds),
+        forced: forced_count(grounds) as u32,
         overflow: measure.overflow,
         wirelength: measure.wirelength,
         peak: measure.peak,
