@@ -46,3 +46,6 @@ pub use load_sums::LoadSums;
 pub use merging::merged;
 pub use run::Run;
 pub use spanned::run_between;
+
+#[cfg(test)]
+mod tests;
