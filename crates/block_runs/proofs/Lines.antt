@@ -180,3 +180,8 @@ pub piece_number-run : (s : Size) (run : Run) (i : ℕ) → piece_number s (run_
 piece_number-run s run i =
     let d = run.direction in
     piece_number-towards s d (run.first.0 + i * rise d s) ∙ line_number-on s d run.first.0 i
+
+-- each vertex of a run is one of the grid
+pub vertex_on_run : (s : Size) (run : Run) (i : ℕ) → IsRun s run → i ≤ run.count → run.first.0 + i * rise run.direction s < vertices s
+vertex_on_run s run i is within =
+    omega (arith, run_ends s run is, mul-le i (rise run.direction s) run.count (rise run.direction s) within (omega arith))

@@ -23,10 +23,11 @@ pub struct LineCounts<'a> {
 }
 
 impl<'a> LineCounts<'a> {
-    ghost use Rattle.std.specs.Prelude.{◌≡◌, IfOk};
+    ghost use Rattle.std.specs.Prelude.{◌≡◌, All, IfOk};
+    ghost use Rattle.std.specs.List.{list_any};
     ghost use Rattle.grid_graph.specs.Grids.{size_of};
-    ghost use Rattle.block_runs.specs.LineCounts.{kind_count};
-    ghost use Rattle.block_runs.specs.Runs.{IsRun, run_pieces};
+    ghost use Rattle.block_runs.specs.LineCounts.{is_of_kind, kind_count};
+    ghost use Rattle.block_runs.specs.Runs.{IsRun, pieces_of, run_pieces};
 
     /// The counts of all edges of a kind. Takes two passes over the vertices.
     pub fn of(alloc: Global, grid: &'a Grid, kind: Kind) -> Result<LineCounts<'a>, NoMemory>
@@ -53,6 +54,19 @@ impl<'a> LineCounts<'a> {
             Direction::North => self.count_on(&self.north, run),
             Direction::Up => 0,
         }
+    }
+
+    /// Whether one of some runs has an edge of the kind.
+    pub fn has_any(&self, runs: &[Run]) -> bool
+        requires { All (IsRun (size_of self.now.grid.now)) runs.now }
+        ensures { result ≡ list_any (is_of_kind self.now.grid.now self.now.kind) (pieces_of (size_of self.now.grid.now) runs.now) }
+    {
+        for run in runs {
+            if self.count(*run) > 0 {
+                return true;
+            }
+        }
+        false
     }
 
     // How many it has by the counts of its direction.
