@@ -1,3 +1,4 @@
+pub mod AllPieces
 pub mod AnyOfKind
 pub mod Added
 pub mod Between

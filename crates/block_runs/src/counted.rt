@@ -1,15 +1,19 @@
 //! How many pieces runs have.
 
-ghost use Rattle.std.specs.Prelude.{◌≡◌, ◌<◌, ◌^◌, length};
-ghost use Rattle.grid_base.specs.declared.size.Size.{Size};
-ghost use Rattle.block_runs.specs.Runs.{pieces_of};
+ghost use Rattle.std.specs.Prelude.{◌≡◌, ◌*◌, ◌≤◌, All, length};
+ghost use Rattle.grid_base.specs.Lists.{HasNoRepeats};
+ghost use Rattle.grid_base.specs.Numbers.{vertices};
+ghost use Rattle.block_runs.specs.Runs.{IsRun, pieces_of};
 
 use crate::run::Run;
+use grid_base::Size;
 
-/// How many pieces some runs have, each counted as often as runs have it.
-pub fn piece_count(runs: &[Run]) -> u64
-    requires { length runs.now < 2 ^ 32 }
-    ensures { (s : Size) → result ≡ length (pieces_of s runs.now) }
+/// How many pieces some disjoint runs have, which is at most that of all pieces of the size.
+pub fn piece_count(size: Size, runs: &[Run]) -> u64
+    requires runs { All (IsRun size) runs.now }
+    requires distinct { HasNoRepeats (pieces_of size runs.now) }
+    ensures value { result ≡ length (pieces_of size runs.now) }
+    ensures limit { result ≤ 3 * vertices size }
 {
     let mut count = 0;
     for run in runs {

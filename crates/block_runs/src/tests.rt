@@ -166,7 +166,7 @@ fn a_lattice_has_as_many_runs_as_lines(rt: HostRuntime) -> Result<(), Fail> {
     assert!(rt; are_runs(size, &runs));
     let lines = merged(rt.alloc(), size, runs)?;
     assert_eq!(rt; lines.len(), 16);
-    assert_eq!(rt; piece_count(&lines), 112);
+    assert_eq!(rt; piece_count(size, &lines), 112);
     assert_eq!(rt; lines[0], east(0, 7));
     assert_eq!(rt; lines[15], north(7, 7));
     Ok(())
