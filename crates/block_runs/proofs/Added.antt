@@ -1,20 +1,17 @@
 -- What the demand of a run changes of the loads along lines.
-use Rattle.std.proofs.Common.{◌≡◌, ◌≢◌, ℕ, zero, suc, ◌+◌, ◌-◌, ◌*◌, ◌/◌, ◌%◌, ◌^◌, ◌<◌, ◌≤◌, ◌⊎◌, ◌==◌, cond, Bool, true, false, Option, Some, None, List, length, get_or, map, slice_index, slice_set, refl, sym, ◌∙◌, ap, subst, ⊎_elim, arith, eq-eqb, ne_eqb}
-use Rattle.std.specs.List.{range_with_len, list_any}
-use Rattle.std.proofs.lemmas.Bool.{cases_Bool, cases_eq, cases_lt, false≢true}
+use Rattle.std.proofs.Common.{◌≡◌, ◌≢◌, ℕ, zero, suc, ◌+◌, ◌-◌, ◌*◌, ◌%◌, ◌^◌, ◌<◌, ◌≤◌, ◌==◌, cond, Bool, true, false, Some, None, List, length, get_or, slice_index, slice_set, refl, sym, ◌∙◌, ap, subst, ⊎_elim, arith, eq-eqb, ne_eqb}
+use Rattle.std.proofs.lemmas.Bool.{cases_Bool, cases_eq, false≢true}
 use Rattle.std.proofs.lemmas.List.{get_or-set_same, get_or-set_other, length-set}
 use Rattle.std.proofs.lemmas.List.Folds.{Any-from_list_any, list_any_at, list_any_none}
 use Rattle.std.proofs.lemmas.List.FromFn.{length-map-range_with_len, get_or-map-range_with_len}
 use Rattle.std.proofs.lemmas.Nat.{mul-le}
 use Rattle.grid_base.specs.declared.axis.Axis.{Axis}
 use Rattle.grid_base.specs.declared.axis.Axis.TheVariants.{X, Y}
-use Rattle.grid_base.specs.declared.edge.Edge.{Edge as EdgeNumber}
-use Rattle.grid_base.specs.declared.piece.Piece.{Piece}
-use Rattle.grid_base.specs.declared.piece.Piece.TheVariants.{Edge, Via}
+use Rattle.grid_base.specs.declared.piece.Piece.TheVariants.{Edge}
 use Rattle.grid_base.specs.declared.size.Size.{Size}
 use Rattle.grid_base.specs.Lines.{stride}
 use Rattle.grid_base.specs.Numbers.{vertices, edge_axis, edge_along, cols}
-use Rattle.grid_base.proofs.Pieces.{is_even, is_odd, edge-tells}
+use Rattle.grid_base.proofs.Pieces.{is_even, is_odd}
 use Rattle.tree_set.specs.Loads.{holds, is_edge_of}
 use Rattle.block_runs.specs.declared.direction.Direction.{Direction}
 use Rattle.block_runs.specs.declared.direction.Direction.TheVariants.{East, North, Up}

@@ -1,5 +1,5 @@
 -- All pieces of a grid, of which no list without repeats has more.
-use Rattle.std.proofs.Common.{◌≡◌, ℕ, suc, ◌+◌, ◌*◌, ◌<◌, ◌≤◌, All, List, [], ◌∷◌, ◌++◌, Contains, length, get_or, map, flat_map, sum_by, take, refl, sym, ◌∙◌, ap, subst, length-append, arith}
+use Rattle.std.proofs.Common.{◌≡◌, ℕ, ◌+◌, ◌*◌, ◌<◌, ◌≤◌, All, List, [], ◌∷◌, ◌++◌, Contains, length, get_or, map, sum_by, take, refl, sym, subst, length-append, arith}
 use Rattle.std.specs.List.{range_with_len}
 use Rattle.std.proofs.lemmas.List.Elements.{Contains-append_left, Contains-append_right}
 use Rattle.std.proofs.lemmas.List.Folds.{length-flat_map-take}
@@ -8,7 +8,7 @@ use Rattle.std.proofs.lemmas.List.Sums.{sum_by-cons}
 use Rattle.grid_base.specs.declared.piece.Piece.{Piece}
 use Rattle.grid_base.specs.declared.size.Size.{Size}
 use Rattle.grid_base.specs.Lists.{HasNoRepeats}
-use Rattle.grid_base.specs.Numbers.{IsPiece, vertices, start_of, to_next_col, to_next_row, to_next_layer}
+use Rattle.grid_base.specs.Numbers.{IsPiece, vertices, to_next_col, to_next_row, to_next_layer}
 use Rattle.grid_base.proofs.NoRepeats.{sum_by-within}
 use Rattle.grid_base.proofs.Pieces.{by_kind, start_of-to_next_col, start_of-to_next_row}
 use Rattle.block_runs.specs.declared.run.Run.{Run}

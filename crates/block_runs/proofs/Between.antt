@@ -14,8 +14,7 @@ use Rattle.block_runs.specs.declared.direction.Direction.TheVariants.{East, Nort
 use Rattle.block_runs.specs.declared.run.Run.{Run}
 use Rattle.block_runs.specs.Between.{IsRunBetween, RunsBetween, lowest_corner}
 use Rattle.block_runs.specs.Lines.{nth_piece}
-use Rattle.block_runs.specs.Runs.{IsRun, run_pieces}
-use Rattle.block_runs.proofs.Merges.{IsOfRun, in_run, of_run}
+use Rattle.block_runs.proofs.Merges.{in_run, of_run}
 
 -- one of so many pieces that follow each other in a direction from a vertex on
 abbrev pub IsOnLine : Size → Direction → ℕ → ℕ → Piece → Type 0

@@ -1,5 +1,5 @@
 -- Where runs end, and what their pieces are when all are counted line by line.
-use Rattle.std.proofs.Common.{◌≡◌, ℕ, zero, suc, ◌+◌, ◌-◌, ◌*◌, ◌/◌, ◌%◌, ◌<◌, ◌≤◌, ◌⊎◌, refl, sym, ◌∙◌, ap, subst, inl, inr, ⊎_elim, arith}
+use Rattle.std.proofs.Common.{◌≡◌, ℕ, ◌+◌, ◌-◌, ◌*◌, ◌/◌, ◌%◌, ◌<◌, ◌≤◌, ◌⊎◌, refl, ◌∙◌, ap, subst, inl, inr, ⊎_elim, arith}
 use Rattle.std.proofs.Math.Nat.{add-mul-mod_self_right, add-mul-div_right, mul-div_cancel, mod-add-div'}
 use Rattle.std.proofs.lemmas.Bool.{cases_lt, cases_eq}
 use Rattle.std.proofs.lemmas.Nat.{mul-le, div_below, mod_below}
@@ -8,7 +8,7 @@ use Rattle.grid_base.specs.declared.axis.Axis.TheVariants.{X, Y}
 use Rattle.grid_base.specs.declared.piece.Piece.{Piece}
 use Rattle.grid_base.specs.declared.piece.Piece.TheVariants.{Edge, Via}
 use Rattle.grid_base.specs.declared.size.Size.{Size}
-use Rattle.grid_base.specs.Numbers.{IsPiece, IsVertex, vertices, cols, rows, layers, start_of, end_of, edge_start, edge_axis}
+use Rattle.grid_base.specs.Numbers.{IsVertex, vertices, cols, rows, layers, start_of, end_of, edge_start, edge_axis}
 use Rattle.grid_base.proofs.Pieces.{is_even, is_odd, start_of-to_next_col, start_of-to_next_row, end_of-to_next_col, end_of-to_next_row, end_of-to_next_layer, end_of-vertex}
 use Rattle.block_runs.specs.declared.direction.Direction.{Direction}
 use Rattle.block_runs.specs.declared.direction.Direction.TheVariants.{East, North, Up}

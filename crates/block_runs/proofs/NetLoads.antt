@@ -1,10 +1,9 @@
 -- What a net uses of the edges of disjoint runs.
-use Rattle.std.proofs.Common.{◌≡◌, ◌≢◌, ℕ, zero, suc, ◌+◌, ◌-◌, ◌*◌, ◌<◌, ◌≤◌, ◌⊎◌, ◌==◌, ◌||◌, cond, Bool, true, false, Option, Some, None, All, List, [], ◌∷◌, ◌++◌, Contains, length, get_or, map, take, drop, flat_map, refl, sym, ◌∙◌, ap, subst, inl, inr, ⊎_elim, arith, eq-eqb, ne_eqb, add-one}
-use Rattle.std.specs.List.{list_any}
+use Rattle.std.proofs.Common.{◌≡◌, ◌≢◌, ℕ, suc, ◌+◌, ◌*◌, ◌<◌, ◌≤◌, ◌||◌, cond, Bool, true, false, Some, None, List, [], ◌∷◌, ◌++◌, Contains, length, get_or, take, drop, refl, sym, ◌∙◌, ap, subst, ⊎_elim, arith, ne_eqb}
 use Rattle.std.proofs.Math.Seq.{drop-cons}
 use Rattle.std.proofs.lemmas.Bool.{cases_Bool, cases_eq, false≢true}
 use Rattle.std.proofs.lemmas.Grind.{flat_map-append}
-use Rattle.std.proofs.lemmas.List.{get_or_default, take-append-drop, take_all, take_more}
+use Rattle.std.proofs.lemmas.List.{take-append-drop, take_all, take_more}
 use Rattle.std.proofs.lemmas.List.Elements.{Contains-append_right}
 use Rattle.std.proofs.lemmas.List.Folds.{Any-from_list_any, list_any-append}
 use Rattle.grid_base.specs.declared.axis.Axis.{Axis}
@@ -30,9 +29,9 @@ use Rattle.block_runs.specs.declared.run.Run.{Run}
 use Rattle.block_runs.specs.Differences.{AreDifferences}
 use Rattle.block_runs.specs.Lines.{axis_of, nth_piece, rise}
 use Rattle.block_runs.specs.LoadSums.{run_load}
-use Rattle.block_runs.specs.Runs.{IsRun, pieces_of, run_piece, run_pieces}
-use Rattle.block_runs.proofs.Added.{FindsRun, finds_run, no_edge_held, same_differences}
-use Rattle.block_runs.proofs.Merges.{IsOfRun, in_some_run, of_run, pieces_of-push}
+use Rattle.block_runs.specs.Runs.{IsRun, pieces_of, run_pieces}
+use Rattle.block_runs.proofs.Added.{finds_run, no_edge_held, same_differences}
+use Rattle.block_runs.proofs.Merges.{in_some_run, of_run, pieces_of-push}
 
 layer_moved : (axis : Axis) (i : ℕ) (p : Place) → (moved axis i p).layer ≡ p.layer
 layer_moved X i p = refl

@@ -1,14 +1,13 @@
 -- Runs of one line that overlap or adjoin.
-use Rattle.std.proofs.Common.{◌≡◌, ℕ, ◌+◌, ◌-◌, ◌*◌, ◌/◌, ◌%◌, ◌^◌, ◌<◌, ◌≤◌, refl, sym, ◌∙◌, ap, arith}
-use Rattle.std.proofs.Math.Nat.{mul-mod_left, mul-div_cancel, div-mul-le_self, mod-add-div'}
+use Rattle.std.proofs.Common.{◌≡◌, ℕ, ◌-◌, ◌*◌, ◌/◌, ◌%◌, ◌^◌, ◌<◌, ◌∙◌, ap, arith}
+use Rattle.std.proofs.Math.Nat.{mul-mod_left, mul-div_cancel}
 use Rattle.std.proofs.lemmas.Nat.{mul-le}
 use Rattle.grid_base.specs.declared.size.Size.{Size}
-use Rattle.grid_base.specs.Numbers.{vertices}
 use Rattle.block_runs.specs.declared.run.Run.{Run}
 use Rattle.block_runs.specs.Lines.{rise}
 use Rattle.block_runs.specs.Merging.{IsBehind}
 use Rattle.block_runs.specs.Runs.{IsRun}
-use Rattle.block_runs.proofs.Lines.{rise-positive, run_begins, run_ends}
+use Rattle.block_runs.proofs.Lines.{rise-positive, run_ends}
 
 -- how far a run begins behind another, from the numbers of their first vertices
 pub behind_by : (s : Size) (run next : Run) (apart : ℕ) → IsBehind s run next apart → ((next.first.0 - run.first.0) % rise run.direction s ≡ 0) × ((next.first.0 - run.first.0) / rise run.direction s ≡ apart)

@@ -1,8 +1,6 @@
 -- Loads of edges, kept as differences along lines.
-use Rattle.std.specs.Prelude.{ℕ, ◌+◌, ◌*◌, ◌%◌, ◌^◌, ◌<◌, ◌≡◌, cond, List, slice_index}
+use Rattle.std.specs.Prelude.{ℕ, cond}
 use Rattle.grid_base.specs.declared.size.Size.{Size}
-use Rattle.grid_base.specs.Lines.{stride}
-use Rattle.grid_base.specs.Numbers.{edge_axis, vertices}
 use Rattle.tree_set.specs.Loads.{holds}
 use Rattle.block_runs.specs.declared.load_sums.LoadSums.{LoadSums}
 use Rattle.block_runs.specs.declared.run.Run.{Run}

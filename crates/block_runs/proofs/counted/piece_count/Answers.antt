@@ -1,7 +1,6 @@
-use Rattle.std.proofs.Common.{◌≡◌, ◌∙◌, ◌++◌, ◌∷◌, [], ◌+◌, ◌*◌, ◌<◌, ◌≤◌, length, get_or, take, ap, length-append, arith}
+use Rattle.std.proofs.Common.{◌∙◌, length, get_or, take, ap, length-append, arith}
 use Rattle.std.proofs.lemmas.List.{take_all, take_more}
 use Rattle.std.proofs.lemmas.List.FromFn.{length-map-range_with_len}
-use Rattle.grid_base.specs.Numbers.{vertices}
 use Rattle.block_runs.specs.Runs.{pieces_of, run_piece, run_pieces}
 use Rattle.block_runs.specs.Touching.{no_run}
 use Rattle.block_runs.proofs.AllPieces.{few_in_runs, few_so_far}

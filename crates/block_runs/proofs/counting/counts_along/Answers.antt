@@ -1,10 +1,10 @@
-use Rattle.std.proofs.Common.{◌≡◌, ◌∙◌, ◌+◌, ◌-◌, ◌<◌, ◌≤◌, Bool, true, false, cond, length, slice_index, slice_set, refl, ap, subst, sym, arith}
+use Rattle.std.proofs.Common.{◌≡◌, ◌∙◌, ◌+◌, ◌-◌, ◌<◌, Bool, true, false, cond, length, slice_index, refl, ap, arith}
 use Rattle.std.proofs.lemmas.List.{get_or_default}
 use Rattle.grid_base.specs.Numbers.{vertices}
 use Rattle.grid_graph.specs.Grids.{size_of}
-use Rattle.block_runs.specs.Lines.{rise, piece_towards}
+use Rattle.block_runs.specs.Lines.{rise}
 use Rattle.block_runs.specs.LineCounts.{is_of_kind}
-use Rattle.block_runs.proofs.Counts.{IsCounting, counted, one_more}
+use Rattle.block_runs.proofs.Counts.{counted, one_more}
 use Rattle.block_runs.proofs.counting.counts_along.Goals as goal
 use mir.Val.{bool_byte}
 

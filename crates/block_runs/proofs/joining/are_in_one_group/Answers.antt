@@ -1,4 +1,4 @@
-use Rattle.std.proofs.Common.{◌<◌, ◌≤◌, length, arith}
+use Rattle.std.proofs.Common.{arith}
 use Rattle.grid_base.proofs.Joined.{JoinsList-from_one}
 use Rattle.block_runs.specs.Runs.{pieces_of}
 use Rattle.block_runs.specs.Touching.{first_of}

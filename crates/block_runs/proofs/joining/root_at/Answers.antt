@@ -1,4 +1,4 @@
-use Rattle.std.proofs.Common.{◌∙◌, ◌<◌, length, arith}
+use Rattle.std.proofs.Common.{◌∙◌}
 use Rattle.grid_base.specs.Walks.{InPieces}
 use Rattle.grid_base.proofs.Walks.{WalkBetween-sym, WalkBetween-trans}
 use Rattle.block_runs.specs.Runs.{pieces_of}

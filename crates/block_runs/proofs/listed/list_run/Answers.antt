@@ -1,10 +1,8 @@
-use Rattle.std.proofs.Common.{◌≡◌, ◌∙◌, ◌+◌, ◌*◌, ◌<◌, ◌≤◌, ◌++◌, ◌∷◌, [], ap, append_assoc, sym, arith}
+use Rattle.std.proofs.Common.{◌≡◌, ◌∙◌, ◌+◌, ◌*◌, ◌++◌, ◌∷◌, [], ap, append_assoc, sym, arith}
 use Rattle.std.specs.List.{range_with_len}
 use Rattle.std.proofs.Common.{map}
-use Rattle.std.proofs.lemmas.List.{append-nil}
 use Rattle.std.proofs.lemmas.List.FromFn.{map-range_with_len_more}
-use Rattle.grid_base.specs.Numbers.{vertices}
-use Rattle.block_runs.specs.Lines.{rise, piece_towards}
+use Rattle.block_runs.specs.Lines.{piece_towards}
 use Rattle.block_runs.specs.Runs.{run_piece}
 use Rattle.block_runs.proofs.Lines.{vertex_on_run}
 use Rattle.block_runs.proofs.listed.list_run.Goals as goal

@@ -1,5 +1,4 @@
 use Rattle.std.proofs.Common.{◌≡◌, ◌∙◌, ◌++◌, get_or, take, ap, sym, subst, List, Contains}
-use Rattle.std.specs.Prelude.{◌↔◌}
 use Rattle.std.proofs.lemmas.List.{take_all, take_more}
 use Rattle.grid_base.specs.declared.piece.Piece.{Piece}
 use Rattle.block_runs.specs.Runs.{pieces_of, run_pieces}

@@ -1,7 +1,6 @@
-use Rattle.std.proofs.Common.{◌≡◌, ◌-◌, ◌^◌, ◌/◌, ◌%◌, ◌*◌, ◌≤◌, ◌<◌, ap, ◌∙◌, arith}
+use Rattle.std.proofs.Common.{◌≡◌, ◌-◌, ◌^◌, ◌/◌, ◌%◌, ◌<◌, ap, ◌∙◌, arith}
 use Rattle.std.proofs.Math.Nat.{div-le_self}
-use Rattle.block_runs.specs.Lines.{rise}
-use Rattle.block_runs.proofs.Lines.{rise-positive, run_begins, run_ends}
+use Rattle.block_runs.proofs.Lines.{run_begins}
 use Rattle.block_runs.proofs.Together.{behind_by, count_within}
 use Rattle.block_runs.proofs.merging.count_together.Goals as goal
 use Rattle.block_runs.proofs.merging.count_together.Goals.{then-apart-rise-ne0-via-then-apart-rise-ne0, then-apart-rise-ne0-via-else-apart-rise-ne0+then-apart-rise}

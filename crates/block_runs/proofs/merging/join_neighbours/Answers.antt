@@ -1,4 +1,4 @@
-use Rattle.std.proofs.Common.{◌≡◌, ◌++◌, ◌∷◌, [], List, get_or, sym, subst, arith, ◌*◌, ◌≤◌, ◌<◌, length}
+use Rattle.std.proofs.Common.{◌≡◌, get_or, sym, subst, arith, ◌<◌, length}
 use Rattle.std.proofs.lemmas.List.{get_or_default}
 use Rattle.block_runs.specs.declared.direction.Direction.TheVariants.{East}
 use Rattle.block_runs.specs.declared.run.Run.{Run}

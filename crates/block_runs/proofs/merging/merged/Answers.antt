@@ -1,4 +1,4 @@
-use Rattle.std.proofs.Common.{◌≡◌, ◌∙◌, All, Global, List, Result, Ok, Err, Vec, sym, subst, rules, arith}
+use Rattle.std.proofs.Common.{All, Global, List, Result, Ok, Err, Vec, sym, subst, rules}
 use Rattle.std.specs.List.Sorted.{IsNonDecreasingBy, IsPermutation}
 use Rattle.std.specs.Prelude.{IfOk}
 use Rattle.grid_base.specs.declared.no_memory.NoMemory.{NoMemory}

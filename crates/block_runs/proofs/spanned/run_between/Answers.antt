@@ -1,11 +1,10 @@
-use Rattle.std.proofs.Common.{◌≡◌, ◌<◌, ℕ, Some, sym, subst, arith}
-use Rattle.std.specs.Int.{abs_diff}
+use Rattle.std.proofs.Common.{◌≡◌, ℕ, Some, sym, subst, arith}
 use Rattle.grid_base.specs.declared.place.Place.{Place}
 use Rattle.grid_base.specs.declared.size.Size.{Size}
 use Rattle.block_runs.specs.declared.direction.Direction.{Direction}
 use Rattle.block_runs.specs.declared.direction.Direction.TheVariants.{East, North, Up}
 use Rattle.block_runs.specs.declared.run.Run.{Run}
-use Rattle.block_runs.specs.Between.{IsRunBetween, lowest_corner}
+use Rattle.block_runs.specs.Between.{IsRunBetween}
 use Rattle.block_runs.proofs.Between.{across_run, along_run, through_run}
 use Rattle.block_runs.proofs.spanned.run_between.Goals as goal
 

@@ -1,8 +1,7 @@
-use Rattle.std.proofs.Common.{◌≡◌, ◌∙◌, ◌+◌, ◌-◌, ◌*◌, ◌<◌, ◌≤◌, length, ap, arith}
+use Rattle.std.proofs.Common.{◌-◌, ◌*◌, ◌<◌, length, arith}
 use Rattle.grid_base.specs.Numbers.{edge_axis, vertices}
 use Rattle.grid_base.proofs.Lines.{stride-positive}
-use Rattle.block_runs.specs.Differences.{edge_stride}
-use Rattle.block_runs.proofs.Sums.{IsSumming, none_summed, first_summed, next_summed}
+use Rattle.block_runs.proofs.Sums.{none_summed, first_summed, next_summed}
 use Rattle.block_runs.proofs.summing.sum_up.Goals as goal
 use Rattle.block_runs.proofs.summing.sum_up.Goals.{then-e-stride, else-e-stride}
 

@@ -1,4 +1,4 @@
-use Rattle.std.proofs.Common.{◌≡◌, ◌∙◌, ◌<◌, ◌≤◌, length, slice_index, ap, sym, arith}
+use Rattle.std.proofs.Common.{◌≡◌, ◌∙◌, ◌<◌, length, slice_index, ap, arith}
 use Rattle.std.proofs.lemmas.List.{get_or_default, length-set}
 use Rattle.grid_base.specs.Walks.{InPieces}
 use Rattle.grid_base.proofs.Walks.{WalkBetween-trans}

@@ -1,6 +1,6 @@
-use Rattle.std.proofs.Common.{◌≡◌, ◌<◌, length, max, min, slice_set, ap, sym, subst, arith}
+use Rattle.std.proofs.Common.{◌<◌, length, arith}
 use Rattle.grid_base.specs.Walks.{InPieces, WalkBetween}
-use Rattle.block_runs.proofs.Chained.{Chain, between_roots, down_between, with_parent}
+use Rattle.block_runs.proofs.Chained.{between_roots, down_between, with_parent}
 use Rattle.block_runs.proofs.groups.Groups.unite.Goals as goal
 
 pub returns-clause-chained : goal.returns-clause-chained

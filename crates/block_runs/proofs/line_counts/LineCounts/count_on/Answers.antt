@@ -1,4 +1,4 @@
-use Rattle.std.proofs.Common.{◌≡◌, ◌∙◌, ◌≤◌, slice_index, ap, arith}
+use Rattle.std.proofs.Common.{◌≡◌, ◌∙◌, slice_index, ap, arith}
 use Rattle.grid_graph.specs.Grids.{size_of}
 use Rattle.block_runs.specs.Runs.{run_end}
 use Rattle.block_runs.proofs.Counts.{counted_in_all}

@@ -1,4 +1,4 @@
-use Rattle.std.proofs.Common.{◌≡◌, ◌∙◌, ◌<◌, ◌≤◌, ℕ, sym, subst, arith}
+use Rattle.std.proofs.Common.{sym, arith}
 use Rattle.grid_graph.specs.Grids.{size_of}
 use Rattle.block_runs.specs.LineCounts.{is_of_kind}
 use Rattle.block_runs.proofs.AnyOfKind.{none_more, none_of_all, some_of_run}

@@ -1,4 +1,4 @@
-use Rattle.std.proofs.Common.{◌≡◌, ◌∙◌, ◌+◌, ◌<◌, ◌≤◌, ℕ, Some, None, get_or, length, ap, sym, subst, arith}
+use Rattle.std.proofs.Common.{◌≡◌, ◌∙◌, ◌+◌, ◌<◌, Some, None, get_or, length, ap, sym, subst}
 use Rattle.std.proofs.lemmas.List.{get_or_default}
 use Rattle.grid_base.specs.declared.edge.Edge.{Edge as EdgeNumber}
 use Rattle.grid_base.specs.Numbers.{edge_along}
@@ -8,7 +8,7 @@ use Rattle.block_runs.specs.declared.load_sums.LoadSums.{LoadSums}
 use Rattle.block_runs.specs.declared.run.Run.{Run}
 use Rattle.block_runs.specs.Lines.{axis_of}
 use Rattle.block_runs.specs.LoadSums.{AreLoadSums}
-use Rattle.block_runs.proofs.NetLoads.{all_added, none_added, sized_edges, sized_vias, so_far}
+use Rattle.block_runs.proofs.NetLoads.{all_added, sized_edges, sized_vias, so_far}
 use Rattle.block_runs.proofs.load_sums.LoadSums.add_net.Goals as goal
 use Rattle.block_runs.proofs.load_sums.LoadSums.add_net.Goals.{in-Some, in_default}
 

@@ -1,6 +1,4 @@
-use Rattle.std.proofs.Common.{◌≡◌, ◌+◌, ◌*◌, ◌<◌, ap, subst, sym, arith}
-use Rattle.grid_base.specs.Numbers.{IsVertex}
-use Rattle.block_runs.specs.Lines.{rise}
+use Rattle.std.proofs.Common.{◌*◌, ap, arith}
 use Rattle.block_runs.proofs.Lines.{run_ends}
 use Rattle.block_runs.proofs.run.Run.end.Goals as goal
 

@@ -1,6 +1,5 @@
-use Rattle.std.proofs.Common.{◌≡◌, ◌+◌, ◌-◌, ◌*◌, ◌/◌, ◌%◌, ◌≤◌, ◌∙◌, ap, leb-true, arith}
+use Rattle.std.proofs.Common.{◌≡◌, ◌-◌, ◌*◌, ◌/◌, ap, leb-true, arith}
 use Rattle.std.proofs.Math.Nat.{mod-add-div'}
-use Rattle.block_runs.specs.Lines.{rise}
 use Rattle.block_runs.proofs.run.Run.has_vertex.Goals as goal
 
 pub returns-then-apart-rise-eq0 : goal.returns-then-apart-rise-eq0
