@@ -1,0 +1,12 @@
+//! Whole runs of `make` and `trial`, the two commands that read no file.
+//!
+//! It stands on `router_cli`, `gr_desk` and `price_workers`. Nothing stands on it.
+
+#![tactic(auto)]
+
+#[cfg(test)]
+mod made_runs;
+#[cfg(test)]
+mod make_tests;
+#[cfg(test)]
+mod trial_tests;
