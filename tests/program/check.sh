@@ -118,6 +118,7 @@ routed() {
 routed one_net
 routed detour --phases 1
 routed three_layers --phases 1 --workers 1
+routed few_exits
 expect 'no rounds of repair' 0 "$(sed 's/^rounds 4$/rounds 0/' "$here/three_layers.report")" route three_layers.gr a.routes a.cert --phases 1 --rounds 0
 made 'routes without repair' a.routes "$examples/three_layers.routes"
 rm a.cert
@@ -429,7 +430,7 @@ judge 'want of memory' 8
 # ---- what all runs left
 
 ls -R . >"$room/said"
-printf '%s\n' .: along.gr detour.gr folder many.gr 'no nets.gr' one_net.gr three_layers.gr vast.gr '' ./folder: crlf.gr >"$room/wanted"
+printf '%s\n' .: along.gr detour.gr few_exits.gr folder many.gr 'no nets.gr' one_net.gr three_layers.gr vast.gr '' ./folder: crlf.gr >"$room/wanted"
 : >"$room/complained"
 got=0
 judge 'no other file was made' 0
