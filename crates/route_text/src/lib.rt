@@ -39,6 +39,7 @@ pub use laws::{
     no_bound_decides, runs_are_longest, segments_name_their_pieces, written_routes_read_back,
 };
 pub use point::Point;
+pub use points::put_point;
 pub use reading::read_routes;
 pub use route_error::RouteError;
 pub use routes::write_routes;
