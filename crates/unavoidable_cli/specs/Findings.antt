@@ -1,0 +1,91 @@
+-- What is found of a design, of blocks and of a certificate that the judge accepts.
+use Rattle.std.specs.Prelude.{◌≡◌, ◌≤◌, ◌<◌, ◌*◌, ◌⊎◌, ℕ, List, [], Option, Some, None}
+use Rattle.cert_text.specs.declared.cert.Cert.{Cert}
+use Rattle.cert_text.specs.Certs.{IsCertOf}
+use Rattle.cert_text.specs.CertText.{cert_text}
+use Rattle.dual_bound.specs.DesignBounds.{IsBoundOrNone}
+use Rattle.dual_bound.specs.LeastOverflow.{ShowsOverflow}
+use Rattle.edge_prices.specs.Weights.{AreEdgePrices}
+use Rattle.grid_base.specs.declared.piece.Piece.{Piece}
+use Rattle.grid_graph.specs.declared.design.Design.{Design}
+use Rattle.grid_graph.specs.declared.ground.Ground.{Ground}
+use Rattle.judge_laws.specs.OpenPrices.{with_prices}
+use Rattle.route_judge.specs.Judgements.{IsJudged, StatesBound}
+use Rattle.route_judge.specs.NetSets.{AreSetsOf}
+use Rattle.route_text.specs.declared.block.Block.{Block}
+use Rattle.tree_set.specs.declared.fraction.Fraction.{Fraction}
+use Rattle.tree_set.specs.Loads.{load}
+use Rattle.tree_set.specs.Measures.{overflow}
+use Rattle.tree_set.specs.Routings.{IsRouting}
+use Rattle.unavoidable_cli.specs.declared.finding.Finding.{Finding}
+use Rattle.unavoidable_cli.specs.declared.priced_edge.PricedEdge.{PricedEdge}
+use Rattle.unavoidable_cli.specs.PricedEdges.{priced_edges}
+
+-- ---- the new certificate
+
+-- a bound is above another, by cross products; none is below every fraction
+abbrev pub IsAbove : Option Fraction → Option Fraction → Type 0
+IsAbove None other = ⊥
+IsAbove (Some f) None = Unit {0}
+IsAbove (Some f) (Some other) = other.num * f.den < f.num * other.den
+
+-- the new certificate has a greater bound than the old one, which the prices of these edges show: it is the bound of the design
+-- at a price list, where a wirelength that is to be kept costs nothing, and but for bound, prices and the price of the wirelength
+-- the two are equal
+pub record IsBetter (d : Design) (old new : Cert) (edges : List PricedEdge) (least : ℕ) : Type 0 where
+  pub prices : List ℕ
+  pub are_prices : AreEdgePrices d.grid prices
+  pub is_new : new ≡ with_prices d.grid old prices new.bound
+  pub is_bound : IsBoundOrNone d prices new.budget new.bound
+  pub above : IsAbove new.bound old.bound
+  pub edges_are : edges ≡ priced_edges d.grid prices
+  -- the overflow that these prices show is at most the one that is found
+  pub shows : (shown : ℕ) × ShowsOverflow d prices shown × (shown ≤ least)
+
+-- or it is the old one, and no edges are named
+abbrev pub IsSameOrBetter : Design → Cert → Cert → List PricedEdge → ℕ → Type 0
+IsSameOrBetter d old new edges least = (new ≡ old) × (edges ≡ []) ⊎ IsBetter d old new edges least
+
+-- the judge says yes to the certificate, its text reads back, and every mixture of routings uses some resource at its bound or more
+pub record IsAcceptedCert (d : Design) (over : List Ground) (blocks : List Block) (cert : Cert) : Type 0 where
+  pub judged : IsJudged d over blocks cert None
+  pub reads_back : IsCertOf (cert_text cert) cert
+  pub bounds : StatesBound d cert
+
+-- ---- the least overflow
+
+-- a price list shows so much overflow, which is some, and these edges have the prices
+pub record IsShownBy (d : Design) (least : ℕ) (edges : List PricedEdge) : Type 0 where
+  pub prices : List ℕ
+  pub are_prices : AreEdgePrices d.grid prices
+  pub shows : ShowsOverflow d prices least
+  pub some : 0 < least
+  pub edges_are : edges ≡ priced_edges d.grid prices
+
+-- or none is shown, and no edges are named
+abbrev pub IsNoneOrShown : Design → ℕ → List PricedEdge → Type 0
+IsNoneOrShown d least edges = (least ≡ 0) × (edges ≡ []) ⊎ IsShownBy d least edges
+
+-- no routing of whole routes has less overflow
+abbrev pub IsUnavoidable : Design → ℕ → Type 0
+IsUnavoidable d least = (trees : List (List Piece)) → IsRouting d.grid d.nets trees → least ≤ overflow d.grid (load d.grid d.nets trees)
+
+-- the overflow of the sets that the blocks give the nets
+abbrev pub IsOverflowOfBlocks : Design → List Block → ℕ → Type 0
+IsOverflowOfBlocks d blocks found =
+    (trees : List (List Piece)) × AreSetsOf d blocks trees × (found ≡ overflow d.grid (load d.grid d.nets trees))
+
+-- ---- all of it
+
+-- the finding is true of its design, of blocks and of a certificate
+pub record IsFinding (over : List Ground) (blocks : List Block) (cert : Cert) (f : Finding) : Type 0 where
+  -- the new certificate is the old one, or one with a greater bound
+  pub new : IsSameOrBetter f.design cert f.new f.bottleneck.items f.overflow
+  -- either way the judge accepts it
+  pub accepted : IsAcceptedCert f.design over blocks f.new
+  -- a price list shows the overflow
+  pub shown : IsNoneOrShown f.design f.overflow f.cut.items
+  -- no routing has less
+  pub unavoidable : IsUnavoidable f.design f.overflow
+  -- and the routes have so much
+  pub of_routes : IsOverflowOfBlocks f.design blocks f.routes

@@ -1,0 +1,36 @@
+-- What the program `unavoidable` promises: `run_unavoidable`, which its `main` calls, ensures `IsWholeRun` and nothing else.
+--
+-- Read in this order:
+--   FoundHeadline   what a run that ends with status 0 has written and reported
+--   Findings        what is true of it
+--   UnavoidableRun  what a run leaves on each status
+--   Words           which words are a command, and what they ask for
+--   Report          the report, and
+--   PricedEdges     its lines for edges
+-- and in the crates below: `JudgeRun`, `AnsweredRun`, `Refusals`, `Traces` and `Outputs` of `judge_cli` for what a run shares with
+-- one of `judge`, `LeastOverflow` of `dual_bound` for what a price list shows.
+use Rattle.std.specs.Prelude.{◌≡◌, ℕ, List, [], map, string_bytes, take, true, false}
+use Rattle.std.specs.declared.string.String.{String}
+use Rattle.gr_desk.specs.Told.{Told}
+use Rattle.judge_cli.specs.Traces.{ReportGains, TouchesOnly, OutputFailed}
+use Rattle.unavoidable_cli.specs.UnavoidableRun.{IsUnavoidableRun}
+use Rattle.unavoidable_cli.specs.Words.{are_four_names, unavoidable_task_of_words, usage_status, usage_text}
+
+-- a run on words that are no command
+pub record IsUsageRun (before after : Told) (status : ℕ) : Type 0 where
+  pub status_is : status ≡ usage_status
+  -- the report says how to call the program, as far as it can be written, and all of it where no write failed
+  pub count : ℕ
+  pub part : ReportGains before after (take count usage_text)
+  pub whole : ¬ OutputFailed before after → ReportGains before after usage_text
+  -- nothing is opened, created or read
+  pub touches : TouchesOnly [] [] before after
+  pub unread : after.in_faults ≡ before.in_faults
+  -- no call comes out of order
+  pub in_order : after.strayed ≡ before.strayed
+
+-- a run of the program: on which words it began, what the desk told before and after it, and the status that it ended with
+pub record IsWholeRun {Z : Type 0} (words : List (String Z)) (before after : Told) (status : ℕ) : Type 0 where
+  pub no_command : are_four_names (map string_bytes words) ≡ false → IsUsageRun before after status
+  pub command : are_four_names (map string_bytes words) ≡ true
+      → IsUnavoidableRun (unavoidable_task_of_words (map string_bytes words)) before after status

@@ -1,0 +1,43 @@
+-- Which words are a command of the program, and what they ask for. Words are its arguments without its own name, each a list of
+-- bytes.
+use Rattle.std.specs.Prelude.{◌==◌, ◌&&◌, ℕ, Bool, List, [], length, codes, slice_index_or}
+use Rattle.std.specs.List.{list_all}
+use Rattle.command_words.specs.CommandLine.{all_differ, is_file_name}
+use Rattle.judge_cli.specs.JudgeRun.{JudgeTask}
+use Rattle.unavoidable_cli.specs.declared.names.Names.{Names}
+
+-- four names of files, no two of them equal
+abbrev pub are_four_names : List (List ℕ) → Bool
+are_four_names words = (length words == 4) && (list_all is_file_name words && all_differ words)
+
+-- the names of the design, of the routes, of the certificate, and of the new certificate
+pub record UnavoidableTask : Type 0 where
+  pub input : List ℕ
+  pub routes : List ℕ
+  pub cert : List ℕ
+  pub new : List ℕ
+
+-- what names ask for
+abbrev pub unavoidable_task_of : Names → UnavoidableTask
+unavoidable_task_of n = record { input = n.input.now; routes = n.routes.now; cert = n.certificate.now; new = n.new_certificate.now }
+
+-- what words ask for
+abbrev pub unavoidable_task_of_words : List (List ℕ) → UnavoidableTask
+unavoidable_task_of_words words = record {
+  input = slice_index_or words 0 [];
+  routes = slice_index_or words 1 [];
+  cert = slice_index_or words 2 [];
+  new = slice_index_or words 3 [];
+}
+
+-- what `judge` is asked of the same design, routes and certificate
+abbrev pub judged_part : UnavoidableTask → JudgeTask
+judged_part q = record { input = q.input; routes = q.routes; cert = q.cert }
+
+-- what is said where the words are no command
+abbrev pub usage_text : List ℕ
+usage_text = codes "refused 2\nusage: unavoidable IN ROUTES CERT NEW\n"
+
+-- and the status
+abbrev pub usage_status : ℕ
+usage_status = 2

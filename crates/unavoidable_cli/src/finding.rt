@@ -1,0 +1,21 @@
+//! What is found of routes and a certificate that the judge accepts.
+
+use crate::priced_edge::PricedEdge;
+use cert_text::Cert;
+use grid_graph::Design;
+
+/// What no router avoids, and what shows it.
+#[derive(Drop)]
+pub struct Finding {
+    pub design: Design,
+    /// The given certificate, or one with a greater bound, and prices that show it.
+    pub new: Cert,
+    /// The edges that the new certificate prices above 0, in rising order; none where it is the given one.
+    pub bottleneck: Vec<PricedEdge>,
+    /// Every routing has at least so much overflow.
+    pub overflow: u64,
+    /// The edges whose prices show it, in rising order; none where there need not be any overflow.
+    pub cut: Vec<PricedEdge>,
+    /// The overflow of the routes.
+    pub routes: u64,
+}

@@ -1,0 +1,86 @@
+//! What is found of routes and a certificate that the judge accepts.
+
+ghost use Rattle.std.specs.Prelude.{◌≡◌, None, IfOk};
+ghost use Rattle.cert_text.specs.Certs.{IsCertWithin};
+ghost use Rattle.edge_prices.specs.Weights.{AreEdgePrices};
+ghost use Rattle.grid_graph.specs.Grounds.{AreGrounds};
+ghost use Rattle.route_judge.specs.Judgements.{IsJudged, StatesBound};
+ghost use Rattle.route_judge.specs.Limits.{AreBlocks};
+ghost use Rattle.route_judge.specs.Orders.{AreRoutes};
+ghost use Rattle.unavoidable_cli.specs.Findings.{IsFinding, IsNoneOrShown, IsOverflowOfBlocks};
+ghost use Rattle.unavoidable_cli.specs.ShownLists.{IsShownList};
+
+use crate::finding::Finding;
+use crate::improved::improve;
+use crate::lists::priced_edges;
+use crate::loads::loads_of_blocks;
+use crate::priced_edge::PricedEdge;
+use crate::shown_list::{ShownList, best_for_bound, best_for_overflow, shown_lists};
+use cert_text::Cert;
+use grid_base::NoMemory;
+use grid_graph::Design;
+use hot_cuts::{HotCuts, hot_cuts};
+use judge_cli::GroundedDesign;
+use route_text::Block;
+use std::alloc::Global;
+use std::thread::Threads;
+
+/// How often nets and prices answer each other on a cut. More rounds prove hardly more.
+const ROUNDS: u32 = 20;
+
+/// Price lists on the fullest tile edges of routes. The routes' sets and loads are let go.
+fn cuts_of(alloc: Global, design: &Design, blocks: &[Block]) -> Result<HotCuts, NoMemory>
+    requires blocks { AreBlocks blocks.now }
+    requires routes { AreRoutes design.now blocks.now }
+    ensures for_bound { IfOk result (λ cuts. AreEdgePrices design.now.grid cuts.for_bound.items) }
+    ensures for_overflow { IfOk result (λ cuts. AreEdgePrices design.now.grid cuts.for_overflow.items) }
+{
+    let loads = loads_of_blocks(alloc, design, blocks)?;
+    hot_cuts(alloc, design, loads.as_slice(), ROUNDS)
+}
+
+/// The edges whose prices show the list's overflow; none where this is 0.
+fn cut_of(alloc: Global, design: &Design, list: ShownList<'_>) -> Result<Vec<PricedEdge>, NoMemory>
+    requires { IsShownList design.now list }
+    ensures { IfOk result (λ edges. IsNoneOrShown design.now list.entry.shown.overflow edges.items) }
+{
+    if list.shown.overflow == 0 {
+        return Ok(Vec::new(alloc));
+    }
+    priced_edges(alloc, &design.grid, list.prices)
+}
+
+/// What is found of a design, and of blocks with so much overflow and a certificate that are accepted: two price lists are made,
+/// and each serves where it shows more.
+pub(crate) fn finding_of<R: Threads + Sync>(
+    rt: &R,
+    alloc: Global,
+    grounded: GroundedDesign,
+    blocks: &[Block],
+    cert: Cert,
+    overflow: u64,
+) -> Result<Finding, NoMemory>
+    requires grounds { AreGrounds grounded.design.grid grounded.design.nets grounded.grounds.items }
+    requires blocks { AreBlocks blocks.now }
+    requires cert { IsCertWithin cert }
+    requires judged { IsJudged grounded.design grounded.grounds.items blocks.now cert None }
+    requires bounds { StatesBound grounded.design cert }
+    requires overflow { IsOverflowOfBlocks grounded.design blocks.now overflow }
+    ensures finding { IfOk result (IsFinding grounded.grounds.items blocks.now cert) }
+    ensures design { IfOk result (λ finding. finding.design ≡ grounded.design) }
+{
+    let GroundedDesign { design, grounds } = grounded;
+    let cuts = cuts_of(alloc, &design, blocks)?;
+    let (first, second) = shown_lists(rt, alloc, &design, grounds.as_slice(), &cuts)?;
+    let most = best_for_overflow(first, second);
+    let cut = cut_of(alloc, &design, most)?;
+    let better = improve(alloc, &design, cert, best_for_bound(first, second))?;
+    Ok(Finding {
+        design,
+        new: better.cert,
+        bottleneck: better.edges,
+        overflow: most.shown.overflow,
+        cut,
+        routes: overflow,
+    })
+}

@@ -1,0 +1,50 @@
+//! What no router avoids of a design: price lists that show how full some edge is in every routing, and how much overflow every
+//! routing has.
+//!
+//! ```text
+//! let status = run_unavoidable(&rt, alloc, &words, desk);    // words: box.gr box.routes box.cert box.new
+//! // bound 3/2
+//! // bottleneck 2
+//! // (15,5,1)-(25,5,1) 32768
+//! // (15,15,1)-(25,15,1) 32768
+//! // overflow 2
+//! // cut 2
+//! // (15,5,1)-(25,5,1) 32768
+//! // (15,15,1)-(25,15,1) 32768
+//! // routes 2
+//! ```
+//!
+//! The routes and the certificate are any router's, and have to be accepted by the judge. Their loads show where the design is
+//! full; prices there, and 0 elsewhere, show what can't be avoided, whoever made them. The new certificate has the greater bound
+//! and the prices that show it, so anybody can judge it again.
+//!
+//! It stands on `judge_cli` and `route_judge` to read and to judge, on `hot_cuts` for price lists, on `dual_bound` for what they
+//! show, on `judge_laws` for the law that the new certificate is accepted, on `route_text` and `cert_text` for texts, on
+//! `tree_set`, `edge_prices`, `grid_graph` and `grid_base`, on `command_words` for what a name of a file is, and on `gr_desk`.
+//!
+//! Promised, in the words of `specs/UnavoidableRuns.antt`, which is the page to begin with: where the status is 0, the judge
+//! accepts the new certificate, whose bound is not below the given one and holds of every routing, whole or mixed; no routing of
+//! whole routes has less overflow than is reported; and the printed edges and prices show both. Every other status but 8, want
+//! of memory, has its cause, and the new file is created only when all is found.
+
+#![tactic(auto)]
+
+mod finding;
+mod found;
+mod improved;
+mod judged;
+mod lists;
+mod loads;
+mod names;
+mod outcome;
+mod priced_edge;
+mod report;
+mod show;
+mod shown_list;
+mod top;
+mod usage;
+mod words;
+
+pub use finding::Finding;
+pub use priced_edge::PricedEdge;
+pub use top::run_unavoidable;
