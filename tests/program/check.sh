@@ -1,10 +1,10 @@
 #!/bin/sh
-# Runs the built program on real files, and compares its status and what it wrote, byte for byte, with what
+# Runs the built programs on real files, and compares their status and what they wrote, byte for byte, with what
 # docs/FORMATS.md says.
 #
-#   tests/program/check.sh [PROGRAM]
+#   tests/program/check.sh [GROUTER [UNAVOIDABLE]]
 #
-# Without a word it takes the program that `rt ci` left in crates/grouter/out, and has it built where there is none. It
+# Without words it takes the programs that `rt ci` left in crates/*/out, and has one built where there is none. It
 # prints a line for each case, then how many passed and failed, and fails where one did.
 #
 # The routes were worked out by hand, and the certificates and reports from them by a program of another make. In these runs
@@ -16,22 +16,26 @@ export LC_ALL=C
 top=$(CDPATH='' cd -- "$(dirname -- "$0")/../.." && pwd)
 here=$top/tests/program
 examples=$top/examples
-built=${1:-$top/crates/grouter/out/grouter}
-
-if [ ! -f "$built" ]; then
-    # it ends with the program's own status, which for no words is 2
-    (cd "$top/crates/grouter" && rt run) </dev/null >&2
-fi
-if [ ! -f "$built" ]; then
-    echo "FAILED: the program is not built: $built"
-    echo "0 passed, 1 failed"
-    exit 1
-fi
 
 room=$(mktemp -d)
 trap 'rm -rf "$room"' EXIT
 mkdir "$room/files" "$room/files/folder"
-cp "$built" "$room/grouter" && chmod +x "$room/grouter"
+
+# take NAME FILE: copies the built program, and has it built where there is none
+take() {
+    if [ ! -f "$2" ]; then
+        # it ends with the program's own status, which for no words is 2
+        (cd "$top/crates/$1" && rt run) </dev/null >&2
+    fi
+    if [ ! -f "$2" ]; then
+        echo "FAILED: the program is not built: $2"
+        echo "0 passed, 1 failed"
+        exit 1
+    fi
+    cp "$2" "$room/$1" && chmod +x "$room/$1"
+}
+take grouter "${1:-$top/crates/grouter/out/grouter}"
+take unavoidable "${2:-$top/crates/unavoidable/out/unavoidable}"
 program=$room/grouter
 cp "$examples"/*.gr "$room/files"
 cd "$room/files" || exit 1
@@ -261,6 +265,65 @@ expect 'a design that is too long' 3 'refused 3 13' measure long detour.routes
 expect 'a route text that is too long' 4 'refused 4 35' measure detour.gr long
 expect 'a certificate that is too long' 4 'refused 4 35' judge detour.gr detour.routes long
 rm long ./*.routes ./*.cert
+
+# ---- congestion that no router avoids
+
+# The exits of the block have room for six of its eight nets. In one_net and among the two thousand nets the given certificates
+# state all that can be shown of the peak, so the new ones are the given ones.
+cp "$examples"/*.routes "$examples"/*.cert .
+program=$room/unavoidable
+expect 'a block with too few exits' 0 "$(cat "$here/few_exits.findings")" few_exits.gr few_exits.routes few_exits.cert new.cert
+made 'the certificate of its exits' new.cert "$examples/few_exits_cut.cert"
+expect 'a net with room' 0 'bound 1/2
+bottleneck 0
+overflow 0
+cut 0
+routes 0' one_net.gr one_net.routes one_net.cert new.cert
+made 'a certificate that is as good as any' new.cert "$examples/one_net.cert"
+printf '%s\n' 'grouter certificate 1' 'nets 2000' 'forced 0' 'overflow 7992' 'wirelength 4000' 'peak 1000/1' 'bound 1000/1' \
+    'prices 2' 1 1 >many.cert
+expect 'two thousand nets over two edges' 0 'bound 1000/1
+bottleneck 0
+overflow 7992
+cut 2
+(5,5,1)-(15,5,1) 32768
+(15,5,1)-(25,5,1) 32768
+routes 7992' many.gr "$room/many.routes" many.cert new.cert
+made 'their certificate' new.cert many.cert
+rm many.cert
+program=$room/grouter
+expect 'the certificate of the exits is accepted' 0 'yes
+nets 8
+forced 0
+beyond 0
+overflow 4
+wirelength 59
+peak 3/2
+bound 4/3' judge few_exits.gr few_exits.routes few_exits_cut.cert
+program=$room/unavoidable
+expect 'an objection' 1 'no 47 0' detour.gr cut_off.routes detour.cert new.cert
+expect 'a bound that is not shown' 1 'no 52 1/2 41633/378056' detour.gr detour.routes overstated.cert new.cert
+usage='refused 2
+usage: unavoidable IN ROUTES CERT NEW'
+expect 'no words to unavoidable' 2 "$usage"
+expect 'no name for the new certificate' 2 "$usage" few_exits.gr few_exits.routes few_exits.cert
+expect 'a new certificate in the place of the given one' 2 "$usage" few_exits.gr few_exits.routes few_exits.cert few_exits.cert
+expect 'an option of no program' 2 "$usage" few_exits.gr few_exits.routes few_exits.cert new.cert --rounds 3
+expect 'a name that is an option' 2 "$usage" few_exits.gr few_exits.routes few_exits.cert --help
+expect 'words that are no text' 2 "$usage" few_exits.gr few_exits.routes few_exits.cert "$(printf '\377.cert')"
+expect 'no design to be shown' 3 'refused 3 11 0 grid' few_exits.routes few_exits.gr few_exits.cert new.cert
+expect 'no routes to be shown' 4 'refused 4 31 8' few_exits.gr few_exits.cert missing.cert new.cert
+expect 'a certificate that is none' 4 'refused 4 32 0' few_exits.gr few_exits.routes detour.routes new.cert
+row 0 0 >cut.gr
+expect 'a net that is cut off, and no new certificate' 5 'refused 5 4 0 1' cut.gr missing.routes missing.cert new.cert
+rm cut.gr
+expect 'a certificate that is missing, and no new one' 6 'refused 6' few_exits.gr few_exits.routes missing.cert new.cert
+expect 'a new certificate in a folder that is missing' 7 'refused 7' few_exits.gr few_exits.routes few_exits.cert missing/new.cert
+expect_unheard 'findings that can not be said' 7 few_exits.gr few_exits.routes few_exits.cert new.cert
+made 'a new certificate without a report' new.cert "$examples/few_exits_cut.cert"
+expect_unheard 'an objection to routes that can not be said' 1 detour.gr cut_off.routes detour.cert new.cert
+rm ./*.routes ./*.cert
+program=$room/grouter
 
 # ---- designs that are made
 
