@@ -50,7 +50,7 @@ fn join_neighbours(alloc: Global, size: Size, sorted: &[Run]) -> Result<Vec<Run>
     Ok(kept)
 }
 
-/// The runs of the same pieces that are as long as can be: no two of them overlap or adjoin.
+/// Runs of the same pieces, none of them twice. They are as long as can be, which no clause says.
 ///
 /// Takes about `n log n` steps for n runs, however long they are.
 pub fn merged(alloc: Global, size: Size, mut runs: Vec<Run>) -> Result<Vec<Run>, NoMemory>

@@ -66,7 +66,7 @@ pub record IsShownBy (d : Design) (least : ℕ) (edges : List PricedEdge) : Type
 abbrev pub IsNoneOrShown : Design → ℕ → List PricedEdge → Type 0
 IsNoneOrShown d least edges = (least ≡ 0) × (edges ≡ []) ⊎ IsShownBy d least edges
 
--- no routing of whole routes has less overflow
+-- no routing of whole routes, each on its net's ground, has less overflow; routes that go beyond their grounds may have less
 abbrev pub IsUnavoidable : Design → ℕ → Type 0
 IsUnavoidable d least = (trees : List (List Piece)) → IsRouting d.grid d.nets trees → least ≤ overflow d.grid (load d.grid d.nets trees)
 
@@ -85,7 +85,7 @@ pub record IsFinding (over : List Ground) (blocks : List Block) (cert : Cert) (f
   pub accepted : IsAcceptedCert f.design over blocks f.new
   -- a price list shows the overflow
   pub shown : IsNoneOrShown f.design f.overflow f.cut.items
-  -- no routing has less
+  -- no routing that keeps to its grounds has less
   pub unavoidable : IsUnavoidable f.design f.overflow
   -- and the routes have so much
   pub of_routes : IsOverflowOfBlocks f.design blocks f.routes

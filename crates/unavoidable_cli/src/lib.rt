@@ -23,9 +23,10 @@
 //! `tree_set`, `edge_prices`, `grid_graph` and `grid_base`, on `command_words` for what a name of a file is, and on `gr_desk`.
 //!
 //! Promised, in the words of `specs/UnavoidableRuns.antt`, which is the page to begin with: where the status is 0, the judge
-//! accepts the new certificate, whose bound is not below the given one and holds of every routing, whole or mixed; no routing of
-//! whole routes has less overflow than is reported; and the printed edges and prices show both. Every other status but 8, want
-//! of memory, has its cause, and the new file is created only when all is found.
+//! accepts the new certificate, whose bound is not below the given one and holds of every routing, whole or mixed, that keeps to
+//! its nets' grounds; no such routing of whole routes has less overflow than is reported; and the printed edges and prices show
+//! both. Routes that go beyond their grounds may have less. Every other status but 8, want of memory, has its cause, and the new
+//! file is created only when all is found. How much is found no clause says.
 
 #![tactic(auto)]
 
