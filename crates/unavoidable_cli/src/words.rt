@@ -43,7 +43,7 @@ fn are_differing_names(words: &[String]) -> bool
     true
 }
 
-/// The files that the words name. `None` is words that are no command: it has four names, no two of them equal.
+/// The files that the words name; `None` where they are no command. A command is four names of files, no two of them equal.
 pub(crate) fn names_of(words: &[String]) -> Option<Names<'_>>
     ensures { MatchOption result (are_four_names (map string_bytes words.now) ≡ false)
         (λ names. (are_four_names (map string_bytes words.now) ≡ true) × (unavoidable_task_of names ≡ unavoidable_task_of_words (map string_bytes words.now))) }
