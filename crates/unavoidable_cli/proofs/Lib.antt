@@ -1,4 +1,5 @@
 pub mod Above
+pub mod Joining
 pub mod Kept
 pub mod FindingParts
 pub mod MadeAndSaid

@@ -2,7 +2,7 @@ use Rattle.std.proofs.Common.{List, length, All, sym, ◌∙◌, ap, subst}
 use Rattle.grid_base.specs.declared.piece.Piece.{Piece}
 use Rattle.grid_graph.specs.Grids.{size_of}
 use Rattle.tree_set.specs.Routings.{ArePieces}
-use Rattle.route_judge.proofs.Joining.{joining_long, without_walls, all_pieces}
+use Rattle.unavoidable_cli.proofs.Joining.{joining_long, without_walls, all_pieces}
 use Rattle.unavoidable_cli.proofs.loads.loads_of_blocks.Goals as goal
 
 pub add_loads-requires-clause-one_each : goal.add_loads-requires-clause-one_each
