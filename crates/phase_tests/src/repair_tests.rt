@@ -344,6 +344,8 @@ fn two_workers_repair_at_once(rt: HostRuntime) -> Result<(), Fail> {
     };
     let design = design(rt.alloc(), 119, 144, THREE_NETS)?;
     let (routed, _) = repaired_by(&rt, rt.alloc(), &design, 2, 1, 1, 0, &gate)?;
+    assert_eq!(rt; gate.first.load(Ordering::SeqCst), 1);
+    assert_eq!(rt; gate.second.load(Ordering::SeqCst), 1);
     assert_eq!(rt; gate.late.load(Ordering::SeqCst), 0);
     assert_eq!(rt; (routed.rounded, routed.rounds), (4, 1));
     Ok(())

@@ -276,6 +276,8 @@ fn a_worker_sees_what_another_one_has_loaded_in_its_phase(rt: HostRuntime) -> Re
     let sets = shared.phases.list().first().ok_or("phase")?.list();
     let first = sets.first().ok_or("first net")?.pieces();
     let third = sets.get(2).ok_or("third net")?.pieces();
+    assert_eq!(rt; gate.first_routed.load(Ordering::SeqCst), 1);
+    assert_eq!(rt; gate.second_routed.load(Ordering::SeqCst), 1);
     assert_eq!(rt; gate.late.load(Ordering::SeqCst), 0);
     assert_eq!(rt; (first.len(), third.len()), (2, 2));
     assert!(rt; !meet(first, third));
