@@ -151,6 +151,12 @@ abbrev pub AreAcceptedIfTold : (List ℕ → Option (List ℕ)) → List Source 
 AreAcceptedIfTold files [] = Unit {0}
 AreAcceptedIfTold files (s ∷ later) = IsAcceptedIfTold files s × AreAcceptedIfTold files later
 
+-- then none of them has to be refused
+pub accepted-not_due : (files : List ℕ → Option (List ℕ)) (sources : List Source) (r : Refusal) → AreAcceptedIfTold files sources → HasToBeRefused files sources r → ⊥
+accepted-not_due files [] r all due = due
+accepted-not_due files (s ∷ later) r all (bytes, under, inl now) = not_refused_at s.port bytes r (all.0 bytes under) now
+accepted-not_due files (s ∷ later) r all (bytes, under, inr more) = accepted-not_due files later r all.1 more.1
+
 -- memory may be wanting before the first file is opened
 cause-unopened : (sources : List Source) (a b : Told) → AreUnopened sources a b → IsCause sources a b NoMemory
 cause-unopened [] a b kept = refl

@@ -5,6 +5,9 @@ pub mod Traces
 pub mod Causes
 pub mod ReadFiles
 pub mod RefusedRuns
+pub mod MadeFiles
+pub mod FilePorts
+pub mod LeftOutcomes
+pub mod EndedRuns
 pub mod AnsweredRuns
 pub mod JudgedRuns
-pub mod MadeFiles

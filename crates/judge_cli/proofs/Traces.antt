@@ -93,3 +93,18 @@ touches-none a c text writes = record {
   in_count = omega (arith, writes.still);
   out_count = writes.later;
 }
+
+-- where no file is made, more might have been
+pub touches-more : (read made : List Port) (a c : Told) → ((p : Port) → Contains made p → ¬ Contains read p) → ((p : Port) → Contains made p → p ≢ Report)
+    → TouchesOnly read [] a c → TouchesOnly read made a c
+touches-more read made a c apart written touches = record {
+  files = touches.files;
+  inputs = touches.inputs;
+  outputs = λ p at.
+      let same : c.ports p ≡ a.ports p = touches.others p (apart p at) (none_in p) (written p at) in
+      but_for_output-of (a.ports p) (c.ports p) (ap (λ (x : PortTold). x.rest) same) (ap (λ (x : PortTold). x.expected) same);
+  report = touches.report;
+  others = λ p unread unmade not_report. touches.others p unread (none_in p) not_report;
+  in_count = touches.in_count;
+  out_count = touches.out_count;
+}

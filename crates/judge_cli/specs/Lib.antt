@@ -28,9 +28,9 @@ pub mod Lines
 pub mod AnswerLines
 pub mod Traces
 pub mod Steps
-pub mod Saying
 pub mod Outputs
-pub mod WantOfMemory
+pub mod CommandRun
 pub mod AnsweredRun
+pub mod Saying
 pub mod MeasureRun
 pub mod JudgeRun

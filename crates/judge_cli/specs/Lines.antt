@@ -8,7 +8,7 @@ use Rattle.ispd_reader.specs.Faults.{input_fault_number, fields_of, wanted_of}
 use Rattle.ispd_reader.specs.Words.{spelling}
 use Rattle.judge_cli.specs.declared.refusal.Refusal.{Refusal}
 use Rattle.judge_cli.specs.declared.refusal.Refusal.TheVariants.{NoCommand, Input, Unreachable, Text, Unread, NoMemory}
-use Rattle.judge_cli.specs.TextFaults.{text_fault_number, text_fault_place}
+use Rattle.judge_cli.specs.TextFaults.{text_fault_fields}
 
 -- numbers, each behind a space
 abbrev pub fields : List ℕ → List ℕ
@@ -49,16 +49,11 @@ status_of (Unreachable net) = 5
 status_of Unread = 6
 status_of NoMemory = 8
 
--- the place of a fault, where it has one
-abbrev pub place_numbers : Option ℕ → List ℕ
-place_numbers None = []
-place_numbers (Some at) = at ∷ []
-
 -- the numbers behind the status: the fault's number, where there is a fault, and what the fault names
 abbrev pub numbers_of : Refusal → List ℕ
 numbers_of (Input fault) = input_fault_number fault ∷ fields_of fault
 numbers_of (Unreachable net) = unreachable_number ∷ net.id ∷ net.terminal ∷ []
-numbers_of (Text fault) = text_fault_number fault ∷ place_numbers (text_fault_place fault)
+numbers_of (Text fault) = text_fault_fields fault
 numbers_of _ = []
 
 -- what stands behind the numbers: the word that was wanted, and the line's end; and how the program is called

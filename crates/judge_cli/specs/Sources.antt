@@ -1,16 +1,16 @@
--- The files that a command reads.
+-- The files that a command reads, and those that it makes.
 use Rattle.std.specs.Prelude.{ℕ, List, [], ◌∷◌, map}
 use Rattle.gr_desk.specs.declared.port.Port.{Port}
 use Rattle.gr_desk.specs.declared.port.Port.TheVariants.{In}
-use Rattle.gr_desk.specs.Calls.{IsOrderlyOpen}
+use Rattle.gr_desk.specs.Calls.{IsOrderlyOpen, IsOrderlyCreate}
 use Rattle.gr_desk.specs.Told.{Told}
 
--- a file that is read: at which port, and under which name
+-- a file that is read, or one that is made: at which port, and under which name
 pub record Source : Type 0 where
   pub port : Port
   pub name : List ℕ
 
--- the ports of files that are read
+-- the ports of files
 abbrev pub ports_of : List Source → List Port
 ports_of sources = map (λ s. s.port) sources
 
@@ -22,3 +22,8 @@ design_source name = record { port = In; name = name } ∷ []
 abbrev pub AreOrderlyOpens : Told → List Source → Type 0
 AreOrderlyOpens told [] = Unit {0}
 AreOrderlyOpens told (s ∷ later) = IsOrderlyOpen told s.port s.name × AreOrderlyOpens told later
+
+-- or created
+abbrev pub AreOrderlyCreates : Told → List Source → Type 0
+AreOrderlyCreates told [] = Unit {0}
+AreOrderlyCreates told (f ∷ later) = IsOrderlyCreate told f.port f.name × AreOrderlyCreates told later

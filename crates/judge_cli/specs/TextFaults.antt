@@ -1,20 +1,12 @@
 -- What a fault of a route text or of a certificate says.
-use Rattle.std.specs.Prelude.{ℕ, Option, Some, None}
+use Rattle.std.specs.Prelude.{ℕ, List, [], ◌∷◌}
 use Rattle.judge_cli.specs.declared.text_fault.TextFault.{TextFault}
 use Rattle.judge_cli.specs.declared.text_fault.TextFault.TheVariants.{Routes, Certificate, Price, Number, TooLong}
 
--- its number
-abbrev pub text_fault_number : TextFault → ℕ
-text_fault_number (Routes at) = 31
-text_fault_number (Certificate at) = 32
-text_fault_number (Price at) = 33
-text_fault_number (Number at) = 34
-text_fault_number TooLong = 35
-
--- its place; none where the whole text is refused
-abbrev pub text_fault_place : TextFault → Option ℕ
-text_fault_place (Routes at) = Some at
-text_fault_place (Certificate at) = Some at
-text_fault_place (Price at) = Some at
-text_fault_place (Number at) = Some at
-text_fault_place TooLong = None
+-- its number, and then its place; none where the whole text is refused
+abbrev pub text_fault_fields : TextFault → List ℕ
+text_fault_fields (Routes at) = 31 ∷ at ∷ []
+text_fault_fields (Certificate at) = 32 ∷ at ∷ []
+text_fault_fields (Price at) = 33 ∷ at ∷ []
+text_fault_fields (Number at) = 34 ∷ at ∷ []
+text_fault_fields TooLong = 35 ∷ []

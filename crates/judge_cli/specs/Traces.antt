@@ -6,7 +6,7 @@ use Rattle.gr_desk.specs.declared.port.Port.TheVariants.{Report}
 use Rattle.gr_desk.specs.Causes.{Rose}
 use Rattle.gr_desk.specs.Told.{Told, PortTold}
 use Rattle.judge_cli.specs.declared.refusal.Refusal.{Refusal}
-use Rattle.judge_cli.specs.Lines.{lines_of}
+use Rattle.judge_cli.specs.Lines.{lines_of, unwritten_line}
 
 -- an open or a read failed in the run
 abbrev pub InputFailed : Told → Told → Type 0
@@ -20,11 +20,21 @@ OutputFailed before after = Rose before.out_faults after.out_faults
 abbrev pub ReportGains : Told → Told → List ℕ → Type 0
 ReportGains before after bytes = Appends (before.ports Report).written (after.ports Report).written bytes
 
--- the run said why it is refused: a part of the refusal's lines from their front, and all of them where no write failed
-pub record ReportsRefusal (before after : Told) (refusal : Refusal) : Type 0 where
+-- the report gained a part of the text from its front, and all of it where no create or write failed since the count of these
+-- stood at so many
+pub record ReportsSince (since : ℕ) (before after : Told) (text : List ℕ) : Type 0 where
   pub count : ℕ
-  pub part : ReportGains before after (take count (lines_of refusal))
-  pub whole : ¬ OutputFailed before after → ReportGains before after (lines_of refusal)
+  pub part : ReportGains before after (take count text)
+  pub whole : ¬ Rose since after.out_faults → ReportGains before after text
+
+-- the run said why it is refused
+abbrev pub ReportsRefusal : Told → Told → Refusal → Type 0
+ReportsRefusal before after refusal = ReportsSince before.out_faults before after (lines_of refusal)
+
+-- a create or a write of a file failed, and then the run said so
+abbrev pub ReportsUnwritten : Told → Told → Type 0
+ReportsUnwritten before after =
+    (since : ℕ) × Rose before.out_faults since × ReportsSince since before after unwritten_line
 
 -- a port but for what may have become of a file that was created there
 abbrev pub but_for_output : PortTold → PortTold → PortTold

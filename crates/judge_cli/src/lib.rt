@@ -19,7 +19,7 @@
 //! write to, `text_scan`, and `itoa`. It knows nothing of how routes are found, so whoever trusts `judge` alone reads these
 //! crates and no others.
 //!
-//! Promised, in the words of `specs/MeasureRun.antt`, `specs/JudgeRun.antt` and `specs/AnsweredRun.antt`: where the status is 0,
+//! Promised, in the words of `specs/MeasureRun.antt`, `specs/JudgeRun.antt` and `specs/CommandRun.antt`: where the status is 0,
 //! nothing can be objected to what was read, and the report says what is measured of it; where it is 1, the report has the first
 //! objection that applies; every other status but 8, want of memory, has its cause, and no file is ever touched. The bound of a
 //! certificate that was accepted holds of every routing, whole or mixed.

@@ -5,6 +5,7 @@ ghost use Rattle.gr_desk.specs.declared.port.Port.TheVariants.{Report};
 ghost use Rattle.gr_desk.specs.Runs.{Adds};
 ghost use Rattle.judge_cli.specs.Lines.{unwritten_status, unwritten_line};
 ghost use Rattle.judge_cli.specs.Saying.{Says};
+ghost use Rattle.judge_cli.specs.Traces.{OutputFailed};
 
 use crate::answer::Answer;
 use crate::answer_lines::write_answer;
@@ -26,6 +27,8 @@ pub fn say<D: Desk>(desk: &mut D, answer: Answer) -> u8
 pub fn say_unwritten<D: Desk>(desk: &mut D) -> u8
     ensures status { result ≡ unwritten_status }
     ensures part { (n : ℕ) × Adds (D.told desk.old) (D.told desk.new) Report (take n unwritten_line) }
+    ensures whole { ¬ OutputFailed (D.told desk.old) (D.told desk.new)
+        → Adds (D.told desk.old) (D.told desk.new) Report unwritten_line }
 {
     let _ = write_unwritten(desk, UNWRITTEN);
     UNWRITTEN

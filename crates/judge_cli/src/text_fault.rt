@@ -1,7 +1,7 @@
 //! Why a text that is judged is refused.
 
-ghost use Rattle.std.specs.Prelude.{◌≡◌};
-ghost use Rattle.judge_cli.specs.TextFaults.{text_fault_number, text_fault_place};
+ghost use Rattle.std.specs.Prelude.{◌≡◌, slice_get, slice_index};
+ghost use Rattle.judge_cli.specs.TextFaults.{text_fault_fields};
 
 use thiserror::Error;
 
@@ -29,7 +29,7 @@ pub enum TextFault {
 impl TextFault {
     /// The number of the refusal.
     pub fn number(self) -> u32
-        ensures { result ≡ text_fault_number self }
+        ensures { result ≡ slice_index (text_fault_fields self) 0 }
     {
         match self {
             TextFault::Routes { .. } => 31,
@@ -42,7 +42,7 @@ impl TextFault {
 
     /// The place; none where the whole text is refused.
     pub fn place(self) -> Option<usize>
-        ensures { result ≡ text_fault_place self }
+        ensures { result ≡ slice_get (text_fault_fields self) 1 }
     {
         match self {
             TextFault::Routes { at }
