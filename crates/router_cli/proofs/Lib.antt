@@ -1,7 +1,4 @@
 pub mod Routed
-pub mod RouteTraces
-pub mod Finishing
-pub mod RouteRuns
 pub mod Tasks
 pub mod OpenPrices
 pub mod ReadBack
@@ -11,7 +8,5 @@ pub mod RisingRuns
 pub mod ListedBack
 pub mod TrueTexts
 pub mod InMemory
+pub mod RouteFiles
 pub mod CommandRuns
-pub mod TrialRuns
-pub mod MakeRuns
-pub mod MadeRuns

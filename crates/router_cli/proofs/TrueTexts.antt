@@ -44,7 +44,7 @@ use Rattle.judge_laws.proofs.OneBound.{same_grounds}
 use Rattle.judge_laws.proofs.TrueClaims.{true_claims_meet}
 use Rattle.judge_laws.proofs.WrittenBlocks.{AreRoutedSets, written_are_routes, written_sets}
 use Rattle.judge_laws.proofs.WrittenRanges.{written_can_be_judged}
-use Rattle.router_cli.specs.Certified.{IsCertified, IsForcedCount, priced_budget}
+use Rattle.router_cli.specs.Certified.{IsCertified, priced_budget}
 use Rattle.router_cli.specs.Headline.{IsTrueOf}
 use Rattle.router_cli.specs.TextsMeet.{TextsMeet}
 use Rattle.router_cli.proofs.ListedBack.{listed_back, listed_count, listed_within}
@@ -67,10 +67,6 @@ routing_joins g (n ∷ nets) [] routing = absurd routing
 
 -- ---- what the certificate claims
 
-forced_is : (d : Design) (over : List Ground) (count : ℕ) → AreGrounds d.grid d.nets over → IsForcedCount d count → count ≡ forced_count over
-forced_is d over count grounds forced =
-    forced.counted ∙ ap forced_count (same_grounds d.grid d.nets forced.grounds over forced.are_grounds grounds)
-
 most_is : (g : Grid) (prices : List ℕ) (budget : Option ℕ) → most_of (priced_budget g prices budget) ≡ budget
 most_is g prices None = refl
 most_is g prices (Some most) = refl
@@ -87,7 +83,7 @@ claims_truly d budget over trees prices cert grounds fits are certified some =
     let listed : take (edge_numbers d.grid) prices ≡ listed_prices d.grid cert.prices = listed_back d.grid prices are ∙ ap (listed_prices d.grid) (sym certified.prices_are) in
     record {
       nets = certified.nets;
-      forced = forced_is d over cert.forced grounds certified.forced;
+      forced = certified.forced ∙ ap forced_count (same_grounds d.grid d.nets certified.grounds over certified.are_grounds grounds);
       prices = ap length certified.prices_are ∙ listed_count d.grid prices;
       overflow_is = certified.overflow_is;
       wirelength_is = certified.wirelength_is;

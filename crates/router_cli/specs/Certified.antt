@@ -16,12 +16,6 @@ use Rattle.dual_bound.specs.DesignBounds.{IsBoundOrNone}
 use Rattle.cert_text.specs.declared.cert.Cert.{Cert}
 use Rattle.route_judge.specs.Counts.{forced_count}
 
--- so many nets of the design are forced
-pub record IsForcedCount (d : Design) (count : ℕ) : Type 0 where
-  pub grounds : List Ground
-  pub are_grounds : AreGrounds d.grid d.nets grounds
-  pub counted : count ≡ forced_count grounds
-
 -- the open edges, in rising order
 abbrev pub open_edges : Grid → List ℕ
 open_edges g = filter (is_open g) (range_with_len 0 (edge_numbers g))
@@ -37,7 +31,9 @@ priced_budget g prices budget = option_map (λ most. record { most = most; price
 -- the certificate says what is measured of these sets, one per net, and the bound at these prices
 pub record IsCertified (d : Design) (budget : Option ℕ) (trees : List (List Piece)) (prices : List ℕ) (c : Cert) : Type 0 where
   pub nets : c.nets ≡ length d.nets
-  pub forced : IsForcedCount d c.forced
+  pub grounds : List Ground
+  pub are_grounds : AreGrounds d.grid d.nets grounds
+  pub forced : c.forced ≡ forced_count grounds
   pub overflow_is : c.overflow ≡ overflow d.grid (load d.grid d.nets trees)
   pub wirelength_is : c.wirelength ≡ wirelength trees
   pub peak : IsPeakWith d.grid (load d.grid d.nets trees) (wirelength trees) budget c.peak

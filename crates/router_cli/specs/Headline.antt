@@ -5,7 +5,7 @@
 -- net's set joins its terminals in its ground, `IsRouterRun` beside this file is a run of phases, picks and rounds of repair,
 -- `IsCertified` what is measured of the sets and the bound at the printed prices, `BoundsDesign` of `dual_bound` that every
 -- mixture of routings uses some resource at least so much, and `routes_text`, `cert_text` and `report_text` are the three texts.
-use Rattle.std.specs.Prelude.{◌≡◌, ℕ, List, Some, IfSome, IsSome}
+use Rattle.std.specs.Prelude.{◌≡◌, ℕ, false, List, [], ◌∷◌, Some, IfSome, IsSome}
 use Rattle.grid_base.specs.declared.piece.Piece.{Piece}
 use Rattle.gr_desk.specs.Told.{Told}
 use Rattle.grid_graph.specs.declared.design.Design.{Design}
@@ -16,6 +16,8 @@ use Rattle.cert_text.specs.CertText.{cert_text}
 use Rattle.dual_bound.specs.Bounds.{BoundsDesign, IsResource}
 use Rattle.route_text.specs.RouteText.{routes_text}
 use Rattle.tree_set.specs.Routings.{IsRouting}
+use Rattle.judge_cli.specs.CommandRun.{RunOutcome}
+use Rattle.router_cli.specs.declared.routed_design.RoutedDesign.{RoutedDesign}
 use Rattle.router_cli.specs.Certified.{IsCertified}
 use Rattle.router_cli.specs.ReportLines.{report_text}
 use Rattle.router_cli.specs.RouterRuns.{IsRouterRun}
@@ -34,22 +36,21 @@ pub record IsTrueOf (d : Design) (s : Settings) (trees : List (List Piece)) (pri
   -- where there is a resource, an open edge or a budget, a bound is stated
   pub some : (r : ℕ) → IsResource d.grid s.budget r → IsSome c.bound
 
--- the three texts of a run
-pub record Texts : Type 0 where
-  pub routes : List ℕ
-  pub cert : List ℕ
-  pub report : List ℕ
+-- what the certificate and the two numbers of a routed design say is true
+abbrev pub IsRoutedDesign : Settings → RoutedDesign → Type 0
+IsRoutedDesign s r = IsTrueOf r.design s r.trees r.prices.items r.rounded r.rounds r.cert
+
+-- what it is written and reported as: the file of the routes, that of the certificate, and the report
+abbrev pub routed_outcome : RoutedDesign → RunOutcome
+routed_outcome r = record {
+  texts = routes_text r.design.grid r.design.nets r.trees ∷ cert_text r.cert ∷ [];
+  report = report_text r.rounded r.rounds r.cert;
+  objects = false;
+}
 
 -- the texts are those of the design that the bytes under the name are the text of, where the desk tells these bytes
-pub record AreTexts (input : List ℕ) (s : Settings) (told : Told) (texts : Texts) : Type 0 where
-  pub design : Design
-  pub named : (bytes : List ℕ) → told.files input ≡ Some bytes → IsDesignOfText bytes design
-  pub trees : List (List Piece)
-  pub prices : List ℕ
-  pub rounded : ℕ
-  pub rounds : ℕ
-  pub cert : Cert
-  pub is_true : IsTrueOf design s trees prices rounded rounds cert
-  pub routes_are : texts.routes ≡ routes_text design.grid design.nets trees
-  pub cert_is : texts.cert ≡ cert_text cert
-  pub report_is : texts.report ≡ report_text rounded rounds cert
+pub record IsRouteOutcome (input : List ℕ) (s : Settings) (told : Told) (outcome : RunOutcome) : Type 0 where
+  pub routed : RoutedDesign
+  pub named : (bytes : List ℕ) → told.files input ≡ Some bytes → IsDesignOfText bytes routed.design
+  pub is_true : IsRoutedDesign s routed
+  pub outcome_is : outcome ≡ routed_outcome routed

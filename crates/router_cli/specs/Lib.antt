@@ -46,7 +46,7 @@ pub use Rattle.judge_cli.specs.Traces
 pub use Rattle.judge_cli.specs.Steps
 pub use Rattle.judge_cli.specs.Saying
 pub use Rattle.judge_cli.specs.Outputs
-pub use Rattle.judge_cli.specs.WantOfMemory
+pub use Rattle.judge_cli.specs.CommandRun
 pub use Rattle.judge_cli.specs.AnsweredRun
 pub use Rattle.judge_cli.specs.MeasureRun
 pub use Rattle.judge_cli.specs.JudgeRun
@@ -58,8 +58,6 @@ pub mod ReportLines
 pub mod RouteRun
 pub mod Tasks
 pub mod OptionValues
-pub mod Routed
-pub mod Finishing
 pub mod TextsMeet
 pub mod MakeRun
 pub mod TrialRun

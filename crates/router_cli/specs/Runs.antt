@@ -4,17 +4,17 @@
 --   Headline     what a run of `route` that ends with status 0 has written and reported
 --   RouterRuns   where the routes and the prices come from
 --   Certified    what the certificate says of them
---   RouteRun     what a run of `route` leaves on each status
+--   RouteRun     which files a run of `route` reads and makes
 --   Tasks        what its words ask for, and OptionValues what words say of options
---   MakeRun      what a run of `make` leaves, and
---   TrialRun     what a run of `trial` does: it never finds a no, and TextsMeet says what the judge has to say of its texts
+--   MakeRun      what a run of `make` has to leave, and
+--   TrialRun     what a run of `trial` has: it never finds a no, and TextsMeet says what the judge has to say of its texts
 --   ReportLines  the lines that `route` and `trial` report, byte for byte
 -- then in `judge_cli`, where no word says how routes are found:
+--   CommandRun   what a run of any of the five commands leaves on each status
 --   MeasureRun   what a run of `measure` says of routes, and
 --   JudgeRun     what a run of `judge` says of routes and a certificate
---   AnsweredRun  what a run of these two leaves on each status
---   WantOfMemory the one other way in which a run of `make` or `trial` ends
---   Sources      the files that a command reads
+--   AnsweredRun  what these two have to leave
+--   Sources      the files that a command reads or makes
 --   JudgedTexts  what the texts say that are judged
 --   Refusals     why a run can be refused, and what it then says
 --   Lines        the lines of refusals, byte for byte, and
@@ -24,7 +24,8 @@
 -- and in the crates below, as the names there lead: `CommandLine` of `command_words` for which words are a command, `Told` of
 -- `gr_desk` for what a desk tells of itself.
 --
--- Each command has a record with one field for each of its promises, and a field of `IsRun` that ties the record to the words.
+-- A run of a command is one record (`IsCommandRun`) with one field for each of its promises: it says which files the command
+-- reads and makes, and what outcome is right. A field of `IsRun` ties it to the words.
 use Rattle.std.specs.Prelude.{◌≡◌, ◌⊎◌, ℕ, List, [], map, string_bytes, true, false}
 use Rattle.std.specs.declared.string.String.{String}
 use Rattle.gr_desk.specs.Told.{Told}

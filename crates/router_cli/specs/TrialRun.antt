@@ -1,5 +1,5 @@
 -- The promise of the command `trial`.
-use Rattle.std.specs.Prelude.{◌≡◌, ◌≢◌, ◌⊎◌, ◌++◌, ℕ, List, [], None, codes, take, map, slice_index_or}
+use Rattle.std.specs.Prelude.{◌≡◌, ◌++◌, ℕ, false, List, [], None, codes, map, slice_index_or}
 use Rattle.std.specs.Str.Parse.{digits_value}
 use Rattle.cert_text.specs.declared.cert.Cert.{Cert}
 use Rattle.cert_text.specs.CertText.{cert_text}
@@ -8,21 +8,17 @@ use Rattle.command_words.specs.declared.trial_request.TrialRequest.{TrialRequest
 use Rattle.gr_desk.specs.Told.{Told}
 use Rattle.gr_make.specs.declared.shape.Shape.{Shape}
 use Rattle.gr_make.specs.MadeText.{made_text}
-use Rattle.grid_base.specs.declared.piece.Piece.{Piece}
-use Rattle.grid_graph.specs.declared.design.Design.{Design}
 use Rattle.grid_graph.specs.declared.ground.Ground.{Ground}
 use Rattle.grid_graph.specs.Grounds.{AreGrounds}
 use Rattle.ispd_reader.specs.Designs.{IsDesignOfText}
 use Rattle.price_workers.specs.declared.settings.Settings.{Settings}
 use Rattle.route_text.specs.RouteText.{routes_text}
-use Rattle.judge_cli.specs.declared.refusal.Refusal.TheVariants.{NoMemory}
-use Rattle.router_cli.specs.Headline.{IsTrueOf}
+use Rattle.judge_cli.specs.CommandRun.{RunOutcome, IsCommandRun}
+use Rattle.router_cli.specs.declared.routed_design.RoutedDesign.{RoutedDesign}
+use Rattle.router_cli.specs.Headline.{IsRoutedDesign}
 use Rattle.router_cli.specs.OptionValues.{shape_in}
 use Rattle.router_cli.specs.ReportLines.{report_text}
-use Rattle.judge_cli.specs.Lines.{done_status, unwritten_status, status_of}
 use Rattle.router_cli.specs.TextsMeet.{TextsMeet}
-use Rattle.judge_cli.specs.Traces.{ReportGains, TouchesOnly, OutputFailed}
-use Rattle.judge_cli.specs.WantOfMemory.{IsWantOfMemory}
 
 -- ---- what its words ask for
 
@@ -46,56 +42,28 @@ trial_task_of_words words = record {
 abbrev pub trial_settings : ℕ → Settings
 trial_settings seed = record { workers = 1; phases = 4; rounds = 4; seed = seed; budget = None }
 
--- ---- how a run ends
+-- ---- what it leaves
 
 -- the lines of `route`, and that the judge accepts the texts
 abbrev pub trial_text : ℕ → ℕ → Cert → List ℕ
 trial_text rounded rounds cert = report_text rounded rounds cert ++ codes "judge yes\n"
 
+-- what a run has to leave that routed this design
+abbrev pub tried_outcome : RoutedDesign → RunOutcome
+tried_outcome r = record { texts = []; report = trial_text r.rounded r.rounds r.cert; objects = false }
+
 -- the text reports a run of the router on the design that is made from the seed, and that the judge accepts its texts, which is so
-pub record ReportsTrial (q : TrialTask) (text : List ℕ) : Type 0 where
-  pub design : Design
-  pub named : IsDesignOfText (made_text q.seed q.shape) design
-  pub trees : List (List Piece)
-  pub prices : List ℕ
-  pub rounded : ℕ
-  pub rounds : ℕ
-  pub cert : Cert
-  pub is_true : IsTrueOf design (trial_settings q.seed) trees prices rounded rounds cert
+pub record IsTrialOutcome (q : TrialTask) (outcome : RunOutcome) : Type 0 where
+  pub routed : RoutedDesign
+  pub named : IsDesignOfText (made_text q.seed q.shape) routed.design
+  pub is_true : IsRoutedDesign (trial_settings q.seed) routed
   pub grounds : List Ground
-  pub are_grounds : AreGrounds design.grid design.nets grounds
-  pub meet : TextsMeet design grounds (routes_text design.grid design.nets trees) (cert_text cert) cert
-  pub text_is : text ≡ trial_text rounded rounds cert
-
--- all of such a text was written on the report, and no write failed
-pub record IsTried (q : TrialTask) (before after : Told) : Type 0 where
-  pub text : List ℕ
-  pub is : ReportsTrial q text
-  pub report : ReportGains before after text
-  pub quiet : after.out_faults ≡ before.out_faults
-
--- a write failed, and some part of such a text from its front was written
-pub record IsTriedInPart (q : TrialTask) (before after : Told) : Type 0 where
-  pub text : List ℕ
-  pub is : ReportsTrial q text
-  pub count : ℕ
-  pub report : ReportGains before after (take count text)
-  pub failed : OutputFailed before after
+  pub are_grounds : AreGrounds routed.design.grid routed.design.nets grounds
+  pub meet : TextsMeet routed.design grounds (routes_text routed.design.grid routed.design.nets routed.trees) (cert_text routed.cert) routed.cert
+  pub outcome_is : outcome ≡ tried_outcome routed
 
 -- ---- the promise
 
--- a run of `trial` with this task
-pub record IsTrialRun (q : TrialTask) (before after : Told) (status : ℕ) : Type 0 where
-  -- a run that is done has reported what it did
-  pub tried : status ≡ done_status → IsTried q before after
-  -- a run that is unwritten could not report it whole
-  pub cut_short : status ≡ unwritten_status → IsTriedInPart q before after
-  -- every other run wanted memory: the design that is made is never refused, and no objection to the texts applies
-  pub refused : status ≢ done_status → status ≢ unwritten_status → IsWantOfMemory before after status
-  -- where no write failed, only want of memory keeps the run from its end
-  pub complete : ¬ OutputFailed before after → (status ≡ done_status) ⊎ (status ≡ status_of NoMemory)
-  -- nothing is opened, read, created or written but the report
-  pub touches : TouchesOnly [] [] before after
-  pub unread : after.in_faults ≡ before.in_faults
-  -- no call comes out of order
-  pub in_order : after.strayed ≡ before.strayed
+-- a run of `trial` with this task: it reads and makes no file, and the design that is made is never refused
+abbrev pub IsTrialRun : TrialTask → Told → Told → ℕ → Type 0
+IsTrialRun q before after status = IsCommandRun [] [] (IsTrialOutcome q) before after status

@@ -4,7 +4,7 @@ ghost use Rattle.std.specs.Prelude.{◌≡◌, ℕ, List, Some, IfOk};
 ghost use Rattle.grid_graph.specs.Grounds.{AreGrounds};
 ghost use Rattle.ispd_reader.specs.Designs.{IsDesignOfText};
 ghost use Rattle.price_workers.specs.Settings.{AreSettings};
-ghost use Rattle.router_cli.specs.Routed.{IsRoutedDesign};
+ghost use Rattle.router_cli.specs.Headline.{IsRoutedDesign};
 ghost use Rattle.judge_cli.specs.Sources.{design_source};
 ghost use Rattle.judge_cli.specs.Steps.{ReadsSources};
 

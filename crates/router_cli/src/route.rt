@@ -1,15 +1,13 @@
 //! The command `route`.
 
-ghost use Rattle.std.specs.Prelude.{◌≡◌, ◌⊎◌, ℕ, take};
-ghost use Rattle.gr_desk.specs.declared.port.Port.TheVariants.{Report};
-ghost use Rattle.gr_desk.specs.Runs.{Adds};
+ghost use Rattle.std.specs.Prelude.{◌≡◌, [], ◌∷◌};
+ghost use Rattle.cert_text.specs.CertText.{cert_text};
+ghost use Rattle.gr_desk.specs.declared.port.Port.TheVariants.{CertOut};
+ghost use Rattle.judge_cli.specs.Saying.{Leaves, SaysDone};
 ghost use Rattle.price_workers.specs.Settings.{AreSettings};
-ghost use Rattle.router_cli.specs.Finishing.{texts_of, MakesFiles, Finishes};
-ghost use Rattle.judge_cli.specs.Lines.{done_status, unwritten_status};
-ghost use Rattle.router_cli.specs.Routed.{IsRoutedDesign};
-ghost use Rattle.router_cli.specs.RouteRun.{IsRouteRun};
+ghost use Rattle.router_cli.specs.Headline.{IsRoutedDesign, routed_outcome};
+ghost use Rattle.router_cli.specs.RouteRun.{IsRouteRun, route_files};
 ghost use Rattle.router_cli.specs.Tasks.{settings_of, task_of};
-ghost use Rattle.judge_cli.specs.Traces.{OutputFailed};
 
 use crate::outputs::make_routes;
 use crate::prepared::prepare;
@@ -53,37 +51,33 @@ pub(crate) fn route<R: Threads + Sync, D: Desk, G: Gate>(
     }
 }
 
-/// Makes the files and writes the report, and answers the status.
+/// Makes the file of the routes, and then what follows it, and answers the status.
 fn finish<D: Desk>(desk: &mut D, request: &RouteRequest<'_>, routed: &RoutedDesign) -> u8
     requires routed { IsRoutedDesign (settings_of request.now) routed.now }
-    ensures { Finishes (task_of request.now) (texts_of routed.now) (D.told desk.old) (D.told desk.new) result }
+    ensures { Leaves (route_files (task_of request.now)) (routed_outcome routed.now)
+        (D.told desk.old) (D.told desk.new) result }
 {
-    match make_files(desk, request, routed) {
+    match make_routes(desk, request.routes, &routed.design, routed.trees.list()) {
+        Ok(()) => certify(desk, request, routed),
+        Err(Failed) => say_unwritten(desk),
+    }
+}
+
+/// Makes the file of the certificate, and then writes the report, and answers the status.
+fn certify<D: Desk>(desk: &mut D, request: &RouteRequest<'_>, routed: &RoutedDesign) -> u8
+    ensures { Leaves (record { port = CertOut; name = request.now.certificate.now } ∷ [])
+        (record (routed_outcome routed.now) { texts = cert_text routed.now.cert ∷ [] })
+        (D.told desk.old) (D.told desk.new) result }
+{
+    match make_cert(desk, request.certificate, &routed.cert) {
         Ok(()) => report(desk, routed),
         Err(Failed) => say_unwritten(desk),
     }
 }
 
-/// Makes the file of the routes, and then that of the certificate.
-fn make_files<D: Desk>(
-    desk: &mut D,
-    request: &RouteRequest<'_>,
-    routed: &RoutedDesign,
-) -> Result<(), Failed>
-    requires routed { IsRoutedDesign (settings_of request.now) routed.now }
-    ensures { MakesFiles (task_of request.now) (texts_of routed.now) (D.told desk.old) (D.told desk.new) result }
-{
-    make_routes(desk, request.routes, &routed.design, routed.trees.list())?;
-    make_cert(desk, request.certificate, &routed.cert)
-}
-
 /// Writes the report, and answers the status.
 fn report<D: Desk>(desk: &mut D, routed: &RoutedDesign) -> u8
-    ensures whole { result ≡ done_status → Adds (D.told desk.old) (D.told desk.new) Report (texts_of routed.now).report }
-    ensures part { result ≡ unwritten_status → (n : ℕ) × Adds (D.told desk.old) (D.told desk.new) Report (take n (texts_of routed.now).report) }
-    ensures statuses { (result ≡ done_status) ⊎ (result ≡ unwritten_status) }
-    ensures cause { result ≡ unwritten_status → OutputFailed (D.told desk.old) (D.told desk.new) }
-    ensures quiet { result ≡ done_status → (D.told desk.new).out_faults ≡ (D.told desk.old).out_faults }
+    ensures { SaysDone (routed_outcome routed.now).report (D.told desk.old) (D.told desk.new) result }
 {
     match write_report(desk, routed.rounded, routed.rounds, &routed.cert) {
         Ok(()) => DONE,

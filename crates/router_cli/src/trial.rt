@@ -8,7 +8,7 @@ ghost use Rattle.gr_make.specs.Shapes.{IsShape};
 ghost use Rattle.price_workers.specs.Settings.{AreSettings};
 ghost use Rattle.judge_cli.specs.declared.refusal.Refusal.{Refusal};
 ghost use Rattle.judge_cli.specs.Saying.{SaysDone};
-ghost use Rattle.router_cli.specs.TrialRun.{IsTrialRun, ReportsTrial, trial_settings, trial_task_of, trial_text};
+ghost use Rattle.router_cli.specs.TrialRun.{IsTrialRun, IsTrialOutcome, trial_settings, trial_task_of, trial_text, tried_outcome};
 
 use crate::prepared::route_design;
 use crate::report::put_report;
@@ -76,7 +76,7 @@ fn tried<R: Threads + Sync, G: Gate>(
     gate: &G,
 ) -> Result<RoutedDesign, Refusal>
     requires ranges { HasTrialRanges request.now }
-    ensures reports { IfOk result (λ r. ReportsTrial (trial_task_of request.now) (trial_text r.rounded r.rounds r.cert)) }
+    ensures outcome { IfOk result (λ r. IsTrialOutcome (trial_task_of request.now) (tried_outcome r)) }
     ensures refused { (r : Refusal) → IsErrOf result r → r ≡ Refusal.NoMemory }
 {
     let GroundedDesign { design, grounds } = made_design(alloc, request.seed, shape_of(request))?;

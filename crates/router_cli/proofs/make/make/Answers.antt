@@ -1,27 +1,50 @@
-use Rattle.std.proofs.Common.{refl, subst}
+use Rattle.std.proofs.Common.{◌≡◌, [], false, refl, subst}
 use Rattle.gr_desk.specs.declared.port.Port.TheVariants.{DesignOut}
 use Rattle.gr_make.specs.declared.shape.Shape.{Shape}
 use Rattle.gr_make.specs.MadeText.{made_text}
-use Rattle.router_cli.specs.MakeRun.{make_task_of, made_line}
 use Rattle.judge_cli.specs.Outputs.{Makes}
-use Rattle.judge_cli.specs.Saying.{SaysDone}
-use Rattle.router_cli.proofs.MakeRuns.{run-made, run-unmade}
+use Rattle.judge_cli.specs.Saying.{Leaves, SaysDone}
+use Rattle.judge_cli.proofs.EndedRuns.{run-left}
+use Rattle.judge_cli.proofs.LeftOutcomes.{leaves-file, leaves-text, leaves-unmade}
+use Rattle.judge_cli.proofs.ReadFiles.{reads-nothing}
+use Rattle.router_cli.specs.MakeRun.{make_files, make_task_of, made_line, made_outcome}
+use Rattle.router_cli.proofs.RouteFiles.{make-outputs}
 use Rattle.router_cli.proofs.make.make.Goals as goal
 
 pub returns-in-Ok : goal.returns-in-Ok
 returns-in-Ok g c =
     let told = g.D.Desk.told in
+    let a = told c.args.desk.now in
+    let b = told c.make_design.new.desk in
+    let d = told c.say_made.new.desk in
     let q = make_task_of c.args.request.now in
+    let text = made_text q.seed q.shape in
+    let line = made_line q.shape.nets in
     let shape = c.shape_of-shape.ensures.shape in
-    let makes = subst (λ (s : Shape). Makes (told c.args.desk.now) (told c.make_design.new.desk) DesignOut q.output (made_text q.seed s) c.make_design.result) shape c.make_design.ensures in
-    let says = subst (λ (s : Shape). SaysDone (made_line s.nets) (told c.make_design.new.desk) (told c.say_made.new.desk) c.say_made.result) shape c.say_made.ensures in
-    run-made q (told c.args.desk.now) (told c.make_design.new.desk) (told c.say_made.new.desk) c.say_made.result c.make_design.result makes (rw c.in-Ok.is refl) says
+    let makes = subst (λ (s : Shape). Makes a b DesignOut q.output (made_text q.seed s) c.make_design.result) shape
+        c.make_design.ensures in
+    let says = subst (λ (s : Shape). SaysDone (made_line s.nets) b d c.say_made.result) shape c.say_made.ensures in
+    let leaves : Leaves (make_files q) (made_outcome q) a d c.say_made.result =
+    leaves-file (record { port = DesignOut; name = q.output }) [] text (record { texts = []; report = line; objects = false })
+        a b d c.say_made.result c.make_design.result
+    (make-outputs q) (rw c.in-Ok.is refl) makes (leaves-text line b d c.say_made.result says) in
+    run-left [] (make_files q) (λ outcome. outcome ≡ made_outcome q) a a d c.say_made.result (made_outcome q) tt
+        (make-outputs q) tt refl (reads-nothing [] a) refl leaves
 
 pub returns-in-Err : goal.returns-in-Err
 returns-in-Err g c =
     let told = g.D.Desk.told in
+    let a = told c.args.desk.now in
+    let b = told c.make_design.new.desk in
+    let d = told c.say_unwritten.new.desk in
     let q = make_task_of c.args.request.now in
-    let part = c.say_unwritten.ensures.part in
-    let makes = subst (λ (s : Shape). Makes (told c.args.desk.now) (told c.make_design.new.desk) DesignOut q.output (made_text q.seed s) c.make_design.result) c.shape_of-shape.ensures.shape c.make_design.ensures in
-    run-unmade q (told c.args.desk.now) (told c.make_design.new.desk) (told c.say_unwritten.new.desk) c.say_unwritten.result part.0 c.make_design.result
-    makes (rw c.in-Err.is refl) c.say_unwritten.ensures.status part.1
+    let text = made_text q.seed q.shape in
+    let said = c.say_unwritten.ensures in
+    let makes = subst (λ (s : Shape). Makes a b DesignOut q.output (made_text q.seed s) c.make_design.result)
+        c.shape_of-shape.ensures.shape c.make_design.ensures in
+    let leaves : Leaves (make_files q) (made_outcome q) a d c.say_unwritten.result =
+    leaves-unmade (record { port = DesignOut; name = q.output }) [] text [] (made_line q.shape.nets) a b d
+        c.say_unwritten.result said.part.0 c.make_design.result
+    (make-outputs q) (rw c.in-Err.is refl) makes said.status said.part.1 said.whole in
+    run-left [] (make_files q) (λ outcome. outcome ≡ made_outcome q) a a d c.say_unwritten.result (made_outcome q) tt
+        (make-outputs q) tt refl (reads-nothing [] a) refl leaves

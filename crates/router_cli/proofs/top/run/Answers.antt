@@ -8,8 +8,7 @@ use Rattle.router_cli.specs.RouteRun.{IsRouteRun}
 use Rattle.router_cli.specs.Tasks.{RouteTask, task_of_words}
 use Rattle.router_cli.specs.TrialRun.{IsTrialRun, TrialTask, trial_task_of_words}
 use Rattle.router_cli.proofs.CommandRuns.{measure_task-asked, judge_task-asked, run-of_command, run-without_memory, run-without_command}
-use Rattle.router_cli.proofs.MadeRuns.{make_task-asked, trial_task-asked}
-use Rattle.router_cli.proofs.Tasks.{task_of-asked, settings-in_range}
+use Rattle.router_cli.proofs.Tasks.{make_task-asked, settings-in_range, task_of-asked, trial_task-asked}
 use Rattle.router_cli.proofs.top.run.Goals as goal
 
 pub route-requires-clause-settings : goal.route-requires-clause-settings

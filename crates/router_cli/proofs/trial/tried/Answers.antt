@@ -9,7 +9,7 @@ use Rattle.ispd_reader.specs.Designs.{IsDesignOfText}
 use Rattle.made_designs.proofs.Generated.{made_design_near}
 use Rattle.price_workers.specs.declared.settings.Settings.{Settings}
 use Rattle.tree_set.specs.Routings.{IsRoute}
-use Rattle.router_cli.specs.Headline.{IsTrueOf}
+use Rattle.router_cli.specs.Headline.{IsRoutedDesign}
 use Rattle.router_cli.specs.TrialRun.{trial_settings, trial_task_of}
 use Rattle.judge_cli.proofs.Outcomes.{same_refusal}
 use Rattle.router_cli.proofs.Routed.{routes_are_pieces}
@@ -46,8 +46,8 @@ returns-in_err-judge_texts-clause-refused g c = λ r is.
     let e = c.in_err-judge_texts.field-0.0 in
     sym (same_refusal c.from_residual-in_err-judge_texts.result e r c.from_residual-in_err-judge_texts.ensures.1 is) ∙ c.in_err-judge_texts.ensures e refl
 
-pub returns-clause-reports : goal.returns-clause-reports
-returns-clause-reports g c =
+pub returns-clause-outcome : goal.returns-clause-outcome
+returns-clause-outcome g c =
     let r = c.in_ok-routed.routed in
     let q = trial_task_of c.args.request.now in
     let text = made_text q.seed q.shape in
@@ -60,17 +60,12 @@ returns-clause-reports g c =
     let first : IsDesignOfText (made_text q.seed c.shape_of.result) r.design = subst (IsDesignOfText (made_text q.seed c.shape_of.result)) (sym same) c.in_ok-design.ensures.named in
     let borders = made_design_near q.seed c.shape_of.result limits r.design first in
     record {
-      design = r.design;
+      routed = r;
       named = named;
-      trees = r.trees;
-      prices = r.prices.items;
-      rounded = r.rounded;
-      rounds = r.rounds;
-      cert = r.cert;
-      is_true = subst (λ (s : Settings). IsTrueOf r.design s r.trees r.prices.items r.rounded r.rounds r.cert) c.settings_of-settings.ensures.settings c.in_ok-routed.ensures.routed;
+      is_true = subst (λ (s : Settings). IsRoutedDesign s r) c.settings_of-settings.ensures.settings c.in_ok-routed.ensures.routed;
       grounds = c.in_ok-design.field-0.grounds.items;
       are_grounds = grounds;
       meet = texts_meet text r.design c.settings_of-settings.result c.in_ok-design.field-0.grounds.items r.trees r.prices.items r.rounded r.rounds r.cert
           named borders c.settings_of-settings.ensures.limits grounds c.in_ok-routed.ensures.routed;
-      text_is = refl;
+      outcome_is = refl;
     }
