@@ -27,7 +27,7 @@ none_of_each d f (y ∷ xs) x none held =
     (λ not. ⊎_elim (λ (is : x ≡ y). subst (λ z. ¬ Applies d (f z)) (sym is) not.0) (λ later. none_of_each d f xs x not.1 later) (head_or_rest y xs x held))
     none
 
-terminals_are_vertices : (d : Design) (place : ℕ) (n : NetSpec) → At d.nets place n → All (λ (t : Vertex). IsVertex (size_of d.grid) t.0) n.terminals
+pub terminals_are_vertices : (d : Design) (place : ℕ) (n : NetSpec) → At d.nets place n → All (λ (t : Vertex). IsVertex (size_of d.grid) t.0) n.terminals
 terminals_are_vertices d place n at = λ k other below. (d.limits.net place n at).vertices k (get_or n.terminals k other) (slice_get-get_or n.terminals k other below)
 
 -- before the first block each net has the empty set

@@ -1,14 +1,13 @@
 pub mod AllSets
-pub mod Between
 pub mod BlockTests
 pub mod Found
 pub mod Judged
-pub mod Laying
-pub mod Marked
 pub mod OnSegments
 pub mod OpenEdges
 pub mod PlacesById
 pub mod Puts
 pub mod Risen
+pub mod RunPieces
 pub mod RunningSums
 pub mod ShortTexts
+pub mod Walls

@@ -4,6 +4,9 @@ use Rattle.std.specs.Prelude.{◌↔◌, IfErr, OnOk}
 use Rattle.std.proofs.lemmas.List.{take_more, take_all}
 use Rattle.std.proofs.lemmas.List.Elements.{Contains-append_left, Contains-append_right, Contains-append_cases}
 use Rattle.std.proofs.lemmas.Option.{same_Some}
+use Rattle.block_runs.specs.declared.run.Run.{Run}
+use Rattle.block_runs.specs.Between.{RunsBetween}
+use Rattle.block_runs.specs.Runs.{pieces_of}
 use Rattle.grid_base.specs.declared.piece.Piece.{Piece}
 use Rattle.grid_base.specs.declared.place.Place.{Place}
 use Rattle.grid_base.specs.Lines.{AreInLine}
@@ -16,11 +19,11 @@ use Rattle.route_text.specs.BlockPieces.{point_place, LiesOn}
 use Rattle.route_judge.specs.declared.reason.Reason.TheVariants.{OnWall}
 use Rattle.route_judge.specs.declared.stop.Stop.{Stop}
 use Rattle.route_judge.specs.declared.stop.Stop.TheVariants.{Refused, NoMemory}
-use Rattle.route_judge.specs.Lines.{RunsBetween, ArePut, IsForWall}
+use Rattle.route_judge.specs.Lines.{ArePut, IsForWall}
 use Rattle.route_judge.specs.Objections.{IsOutside, IsSlanted}
 use Rattle.route_judge.specs.Orders.{segment_objections}
 use Rattle.route_judge.specs.Stops.{StopsAt}
-use Rattle.route_judge.proofs.Puts.{put_then, put_same}
+use Rattle.route_judge.proofs.Puts.{put_none, put_then, put_same}
 
 -- both ends of the segment have places
 pub record HasEnds (g : Grid) (segment : Segment) (from to : Place) : Type 0 where
@@ -49,7 +52,7 @@ runs_between g segment from to at p lies =
     subst (λ q. RunsBetween (size_of g) from q p) last (subst (λ q. RunsBetween (size_of g) q lies.to p) first as_they_are)
 
 -- a straight segment is refused for a wall alone
-pub stops_at_wall : (d : Design) (k i : ℕ) (segment : Segment) (from to : Place) (old new : List Piece) (result : Result (Unit {0}) Stop) → HasEnds d.grid segment from to → AreInLine from to → OnOk result (ArePut d.grid (RunsBetween (size_of d.grid) from to) old new) → IfErr result (IsForWall d.grid (RunsBetween (size_of d.grid) from to) (OnWall k i)) → StopsAt d (segment_objections k (i, segment)) result
+pub stops_at_wall : (d : Design) (k i : ℕ) (segment : Segment) (from to : Place) (old new : List Run) (result : Result (Unit {0}) Stop) → HasEnds d.grid segment from to → AreInLine from to → OnOk result (ArePut d.grid (RunsBetween (size_of d.grid) from to) old new) → IfErr result (IsForWall d.grid (RunsBetween (size_of d.grid) from to) (OnWall k i)) → StopsAt d (segment_objections k (i, segment)) result
 stops_at_wall d k i segment from to old new (Ok x) at straight put wall =
     inr (
       not_outside d.grid segment from to at,
@@ -73,14 +76,11 @@ abbrev pub IsOnSome : Grid → List Segment → Piece → Type 0
 IsOnSome g segments p = (segment : Segment) × Contains segments segment × LiesOn g segment p
 
 -- no segment has a piece
-pub none_on : (g : Grid) (pieces : List Piece) → ArePut g (IsOnSome g []) pieces pieces
-none_on g pieces = record {
-  pieces = λ p. (λ held. inl held, λ held. ⊎_elim (λ was. was) (λ on. absurd (omega (arith, on.1.1))) held);
-  no_wall = λ p on. absurd (omega (arith, on.1.1));
-}
+pub none_on : (g : Grid) (runs : List Run) → ArePut g (IsOnSome g []) runs runs
+none_on g runs = put_none g (IsOnSome g []) runs (λ p on. omega (arith, on.1.1))
 
 -- the pieces of one more segment were put
-pub one_more_segment : (g : Grid) (segments : List Segment) (i : ℕ) (segment : Segment) (old now next : List Piece) → i < length segments → get_or segments i segment ≡ segment → ArePut g (IsOnSome g (take i segments)) old now → ArePut g (LiesOn g segment) now next → ArePut g (IsOnSome g (take (i + 1) segments)) old next
+pub one_more_segment : (g : Grid) (segments : List Segment) (i : ℕ) (segment : Segment) (old now next : List Run) → i < length segments → get_or segments i segment ≡ segment → ArePut g (IsOnSome g (take i segments)) old now → ArePut g (LiesOn g segment) now next → ArePut g (IsOnSome g (take (i + 1) segments)) old next
 one_more_segment g segments i segment old now next below is before here =
     let more : take (i + 1) segments ≡ take i segments ++ segment ∷ [] = take_more segments i segment below ∙ ap (λ x. take i segments ++ x ∷ []) is in
     subst (λ xs. ArePut g (IsOnSome g xs) old next) (sym more)
@@ -96,16 +96,16 @@ one_more_segment g segments i segment old now next below is before here =
     (put_then g (IsOnSome g (take i segments)) (LiesOn g segment) old now next before here))
 
 -- and its pieces are those that lie on it
-pub put_on : (g : Grid) (segment : Segment) (from to : Place) (old new : List Piece) (result : Result (Unit {0}) Stop) → HasEnds g segment from to → AreInLine from to → OnOk result (ArePut g (RunsBetween (size_of g) from to) old new) → OnOk result (ArePut g (LiesOn g segment) old new)
+pub put_on : (g : Grid) (segment : Segment) (from to : Place) (old new : List Run) (result : Result (Unit {0}) Stop) → HasEnds g segment from to → AreInLine from to → OnOk result (ArePut g (RunsBetween (size_of g) from to) old new) → OnOk result (ArePut g (LiesOn g segment) old new)
 put_on g segment from to old new (Ok x) at straight put = put_same g (RunsBetween (size_of g) from to) (LiesOn g segment) old new (lies_on g segment from to at straight) (runs_between g segment from to at) put
 put_on g segment from to old new (Err stop) at straight put = tt
 
 -- what was put on an empty list are the pieces of all segments
-pub all_put : (g : Grid) (segments : List Segment) (n : ℕ) (pieces : List Piece) → length segments ≤ n → ArePut g (IsOnSome g (take n segments)) [] pieces → ArePut g (IsOnSome g segments) [] pieces
-all_put g segments n pieces all put = subst (λ xs. ArePut g (IsOnSome g xs) [] pieces) (take_all n segments all) put
+pub all_put : (g : Grid) (segments : List Segment) (n : ℕ) (runs : List Run) → length segments ≤ n → ArePut g (IsOnSome g (take n segments)) [] runs → ArePut g (IsOnSome g segments) [] runs
+all_put g segments n runs all put = subst (λ xs. ArePut g (IsOnSome g xs) [] runs) (take_all n segments all) put
 
-pub held_where_put : (g : Grid) (P : Piece → Type 0) (pieces : List Piece) → ArePut g P [] pieces → (p : Piece) → Contains pieces p ↔ P p
-held_where_put g P pieces put p = (
+pub held_where_put : (g : Grid) (P : Piece → Type 0) (runs : List Run) → ArePut g P [] runs → (p : Piece) → Contains (pieces_of (size_of g) runs) p ↔ P p
+held_where_put g P runs put p = (
   λ held. ⊎_elim (λ none. absurd (omega (arith, none.1))) (λ one. one) ((put.pieces p).0 held),
   λ one. (put.pieces p).1 (inr one),
 )

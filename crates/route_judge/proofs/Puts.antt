@@ -1,22 +1,45 @@
--- Pieces that are put on a list, one behind the other.
-use Rattle.std.proofs.Common.{◌≡◌, ◌⊎◌, List, [], ◌∷◌, ◌++◌, Contains, inl, inr, ⊎_elim, arith}
-use Rattle.std.proofs.lemmas.List.Elements.{Contains-append_cases}
+-- Runs that are put on a list, one behind the other.
+use Rattle.std.proofs.Common.{◌⊎◌, List, [], ◌∷◌, ◌++◌, Contains, inl, inr, ⊎_elim}
+use Rattle.std.proofs.lemmas.List.Elements.{All-push}
+use Rattle.block_runs.specs.declared.run.Run.{Run}
+use Rattle.block_runs.specs.Runs.{IsRun, run_pieces}
+use Rattle.block_runs.proofs.Merges.{in_run, of_run, push_pieces, pushed_pieces}
 use Rattle.grid_base.specs.declared.piece.Piece.{Piece}
-use Rattle.grid_base.specs.declared.piece.Piece.TheVariants.{Edge}
-use Rattle.grid_base.proofs.Lists.{head_or_rest}
+use Rattle.grid_base.specs.declared.piece.Piece.TheVariants.{Edge, Via}
+use Rattle.grid_base.specs.Numbers.{IsPiece}
 use Rattle.grid_graph.specs.declared.grid.Grid.{Grid}
-use Rattle.route_judge.specs.declared.reason.Reason.{Reason}
-use Rattle.route_judge.specs.declared.stop.Stop.{Stop}
-use Rattle.route_judge.specs.declared.stop.Stop.TheVariants.{Refused, NoMemory}
-use Rattle.route_judge.specs.Lines.{ArePut, IsForWall}
+use Rattle.grid_graph.specs.declared.ground.Ground.TheVariants.{WithChoked}
+use Rattle.grid_graph.specs.Grids.{Allows, size_of}
+use Rattle.route_judge.specs.Lines.{ArePut, HasWall}
 
--- the list with one more piece
-pub pushed : (now : List Piece) (x p : Piece) → Contains (now ++ x ∷ []) p → Contains now p ⊎ (p ≡ x)
-pushed now x p held =
-    ⊎_elim (λ was. inl was) (λ last. ⊎_elim (λ is. inr is) (λ none. absurd (omega (arith, none.1))) (head_or_rest x [] p last)) (Contains-append_cases now (x ∷ []) p held)
+-- nothing is put
+pub put_none : (g : Grid) (P : Piece → Type 0) (runs : List Run) → ((p : Piece) → ¬ P p) → ArePut g P runs runs
+put_none g P runs none = record {
+  pieces = λ p. (λ held. inl held, λ held. ⊎_elim (λ was. was) (λ one. absurd (none p one)) held);
+  no_wall = λ p one. absurd (none p one);
+  runs = λ are. are;
+}
+
+-- a piece of some that have no wall may be used
+allowed : (g : Grid) (P : Piece → Type 0) (p : Piece) → ¬ HasWall g P → IsPiece (size_of g) p → P p → Allows g WithChoked p
+allowed g P (Edge e) none piece one = λ wall. none (e, one, wall)
+allowed g P (Via v) none piece one = piece
+
+-- a run is put
+pub put_run : (g : Grid) (P : Piece → Type 0) (runs : List Run) (run : Run) → IsRun (size_of g) run → ¬ HasWall g (Contains (run_pieces (size_of g) run)) → ((p : Piece) → P p → IsPiece (size_of g) p) → ((p : Piece) → Contains (run_pieces (size_of g) run) p → P p) → ((p : Piece) → P p → Contains (run_pieces (size_of g) run) p) → ArePut g P runs (runs ++ run ∷ [])
+put_run g P runs run is none pieces to from =
+    let s = size_of g in
+    record {
+      pieces = λ p. (
+        λ held. ⊎_elim (λ was. inl was) (λ one. inr (to p (in_run s run p one))) (pushed_pieces s runs run p held),
+        λ held. push_pieces s runs run p (⊎_elim (λ was. inl was) (λ one. inr (of_run s run p (from p one))) held),
+      );
+      no_wall = λ p one. allowed g (Contains (run_pieces s run)) p none (pieces p one) (from p one);
+      runs = λ are. All-push (IsRun s) runs run are is;
+    }
 
 -- some are put, and then others
-pub put_then : (g : Grid) (P Q : Piece → Type 0) (a b c : List Piece) → ArePut g P a b → ArePut g Q b c → ArePut g (λ p. P p ⊎ Q p) a c
+pub put_then : (g : Grid) (P Q : Piece → Type 0) (a b c : List Run) → ArePut g P a b → ArePut g Q b c → ArePut g (λ p. P p ⊎ Q p) a c
 put_then g P Q a b c first second = record {
   pieces = λ p. (
     λ held. ⊎_elim
@@ -29,19 +52,20 @@ put_then g P Q a b c first second = record {
         held,
   );
   no_wall = λ p two. ⊎_elim (λ one. first.no_wall p one) (λ other. second.no_wall p other) two;
+  runs = λ are. second.runs (first.runs are);
 }
 
 -- the same pieces in other words
-pub put_same : (g : Grid) (P Q : Piece → Type 0) (a b : List Piece) → ((p : Piece) → P p → Q p) → ((p : Piece) → Q p → P p) → ArePut g P a b → ArePut g Q a b
+pub put_same : (g : Grid) (P Q : Piece → Type 0) (a b : List Run) → ((p : Piece) → P p → Q p) → ((p : Piece) → Q p → P p) → ArePut g P a b → ArePut g Q a b
 put_same g P Q a b to from put = record {
   pieces = λ p. (
     λ held. ⊎_elim (λ was. inl was) (λ one. inr (to p one)) ((put.pieces p).0 held),
     λ held. (put.pieces p).1 (⊎_elim (λ was. inl was) (λ one. inr (from p one)) held),
   );
   no_wall = λ p one. put.no_wall p (from p one);
+  runs = put.runs;
 }
 
 -- a wall among some pieces is one among more
-pub wall_among : (g : Grid) (P Q : Piece → Type 0) (reason : Reason) (stop : Stop) → ((p : Piece) → P p → Q p) → IsForWall g P reason stop → IsForWall g Q reason stop
-wall_among g P Q reason (Refused given) more at = (at.0, (at.1.0, more (Edge at.1.0) at.1.1, at.1.2))
-wall_among g P Q reason NoMemory more at = tt
+pub wall_among : (g : Grid) (P Q : Piece → Type 0) → ((p : Piece) → P p → Q p) → HasWall g P → HasWall g Q
+wall_among g P Q more wall = (wall.0, more (Edge wall.0) wall.1, wall.2)

@@ -1,19 +1,22 @@
 -- The sums, as the set of one more block is added, and how large they can be.
-use Rattle.std.proofs.Common.{◌≡◌, ℕ, zero, suc, ◌+◌, ◌*◌, ◌<◌, ◌≤◌, Bool, true, false, cond, List, [], ◌∷◌, length, map, get_or, None, slice_index, slice_set, take, All, refl, sym, ◌∙◌, ap, subst, ⊎_elim, arith, ne_eqb, ◌↔◌, Contains}
+use Rattle.std.proofs.Common.{◌≡◌, ℕ, zero, suc, ◌+◌, ◌*◌, ◌^◌, ◌<◌, ◌≤◌, Bool, true, false, cond, List, [], ◌∷◌, length, map, get_or, None, slice_index, slice_set, take, All, refl, sym, ◌∙◌, ap, subst, ⊎_elim, arith, ne_eqb, ◌↔◌, Contains}
 use Rattle.std.specs.List.{sum_by, list_any, zip}
 use Rattle.std.proofs.lemmas.Bool.{cases_lt}
-use Rattle.std.proofs.lemmas.List.{length-map, take_all}
+use Rattle.std.proofs.lemmas.List.{get_or_past, length-map, take_all}
 use Rattle.std.proofs.lemmas.List.Elements.{All-contains, All-contains_itself, All-weaker}
 use Rattle.std.proofs.lemmas.List.Folds.{list_any_none}
 use Rattle.std.proofs.lemmas.List.Sums.{count_by-le-length, sum_by-le, sum_by-set}
 use Rattle.std.proofs.lemmas.Option.{same_Some, slice_get_within, slice_get-get_or, get_or_from_slice_get}
 use Rattle.std.proofs.lemmas.Slice.Zip.{get_or-zip, length-zip}
+use Rattle.block_runs.specs.LoadSums.{AreLoadSums}
+use Rattle.block_runs.proofs.Added.{same_differences}
 use Rattle.grid_base.specs.declared.piece.Piece.{Piece}
 use Rattle.grid_base.specs.declared.piece.Piece.TheVariants.{Edge, Via}
 use Rattle.grid_base.specs.declared.size.Size.{Size}
 use Rattle.grid_base.specs.Limits.{max_vertices}
 use Rattle.grid_base.specs.Lists.{At, HasNoRepeats}
 use Rattle.grid_base.specs.Numbers.{IsPiece, vertices, layer_of, edge_start}
+use Rattle.grid_base.proofs.Lists.{AllZip-at}
 use Rattle.grid_graph.specs.declared.design.Design.{Design}
 use Rattle.grid_graph.specs.declared.grid.Grid.{Grid}
 use Rattle.grid_graph.specs.declared.ground.Ground.{Ground}
@@ -64,18 +67,20 @@ wirelength_filled trees k tree empty =
 -- the sums with the set of one more net, whose pieces were added in another order
 pub sums_more : (d : Design) (over : List Ground) (trees : List (List Piece)) (place : ℕ) (n : NetSpec) (ground : Ground) (pieces tree : List Piece) (old new : RunningMeasure)
     → At d.nets place n → At over place ground → At trees place [] → ((p : Piece) → Contains tree p ↔ Contains pieces p) → length tree ≡ length pieces
-    → AreSums d over trees old → length new.loads.items ≡ 2 * vertices (size_of d.grid)
-    → ((e : ℕ) → slice_index new.loads.items e ≡ slice_index old.loads.items e + net_load d.grid n.width pieces e)
+    → AreSums d over trees old → new.loads.size ≡ old.loads.size
+    → ((load : ℕ → ℕ) → AreLoadSums load old.loads → AreLoadSums (λ e. load e + net_load d.grid n.width pieces e) new.loads)
     → new.wirelength ≡ old.wirelength + length pieces → new.beyond ≡ old.beyond + cond (list_any (is_beyond d.grid ground) pieces) 1 0
     → AreSums d over (slice_set trees place tree) new
-sums_more d over trees place n ground pieces tree old new at stands empty same long sums table loads wire beyond =
+sums_more d over trees place n ground pieces tree old new at stands empty same long sums size loads wire beyond =
     let g = d.grid in
+    let as_loads : (e : ℕ) → load g d.nets trees e + net_load g n.width pieces e ≡ load g d.nets (slice_set trees place tree) e = λ e.
+    let f : NetSpec × List Piece → ℕ = λ x. net_load g x.0.width x.1 e in
+    let by_set : net_load g n.width tree e ≡ net_load g n.width pieces e = ap (λ b. cond b (demand_on g n.width e) 0) (same_any (is_edge_of e) tree pieces same) in
+    ap (λ x. load g d.nets trees e + x) (sym by_set) ∙ sym (sum_filled f d.nets trees place n tree at empty refl) in
     record {
-      table = table;
-      loaded = λ e.
-          let f : NetSpec × List Piece → ℕ = λ x. net_load g x.0.width x.1 e in
-          let by_set : net_load g n.width tree e ≡ net_load g n.width pieces e = ap (λ b. cond b (demand_on g n.width e) 0) (same_any (is_edge_of e) tree pieces same) in
-          loads e ∙ ap (λ x. x + net_load g n.width pieces e) (sums.loaded e) ∙ ap (λ x. load g d.nets trees e + x) (sym by_set) ∙ sym (sum_filled f d.nets trees place n tree at empty refl);
+      sized = size ∙ sums.sized;
+      loaded = same_differences new.loads.size (λ e. load g d.nets trees e + net_load g n.width pieces e) (load g d.nets (slice_set trees place tree)) new.loads.differences.items as_loads
+          (loads (load g d.nets trees) sums.loaded);
       long = omega (arith, wire, sums.long, long, wirelength_filled trees place tree empty);
       outside =
           let f : Ground × List Piece → ℕ = λ x. cond (list_any (is_beyond g x.0) x.1) 1 0 in
@@ -100,13 +105,17 @@ other_edge : (s : Size) (e : ℕ) (p : Piece) → 2 * vertices s ≤ e → IsPie
 other_edge s e (Edge x) past piece = ne_eqb x.0 e (λ same. absurd (omega (arith, same, past, piece.0)))
 other_edge s e (Via v) past piece = refl
 
-pub net_load-limit : (g : Grid) (width : ℕ) (tree : List Piece) (e : ℕ) → IsNetWidth g width → ArePieces (size_of g) tree → net_load g width tree e ≤ max_demand
+-- and nothing where there is no edge of that number
+net_load-past : (g : Grid) (width : ℕ) (tree : List Piece) (e : ℕ) → ArePieces (size_of g) tree → edge_numbers g ≤ e → net_load g width tree e ≡ 0
+net_load-past g width tree e pieces past =
+    let none : holds tree e ≡ false = list_any_none (is_edge_of e) tree (All-weaker (IsPiece (size_of g)) (λ p. is_edge_of e p ≡ false) (λ p piece. other_edge (size_of g) e p past piece) tree pieces) in
+    ap (λ b. cond b (demand_on g width e) 0) none
+
+net_load-limit : (g : Grid) (width : ℕ) (tree : List Piece) (e : ℕ) → IsNetWidth g width → ArePieces (size_of g) tree → net_load g width tree e ≤ max_demand
 net_load-limit g width tree e wide pieces =
     ⊎_elim
     (λ (number : e < edge_numbers g). cond-below (holds tree e) (demand_on g width e) max_demand (demand-limit g width e wide number))
-    (λ (past : edge_numbers g ≤ e).
-    let none : holds tree e ≡ false = list_any_none (is_edge_of e) tree (All-weaker (IsPiece (size_of g)) (λ p. is_edge_of e p ≡ false) (λ p piece. other_edge (size_of g) e p past piece) tree pieces) in
-    subst (λ b. cond b (demand_on g width e) 0 ≤ max_demand) (sym none) (omega arith))
+    (λ (past : edge_numbers g ≤ e). omega (arith, net_load-past g width tree e pieces past))
     (cases_lt e (edge_numbers g))
 
 -- a net's set has pieces of the grid
@@ -122,7 +131,6 @@ pair_at xs ys k x y other at_x at_y =
 
 -- the sums are within these limits
 pub record AreSmall (sums : RunningMeasure) : Type 0 where
-  pub load_limit : (e : ℕ) → slice_index sums.loads.items e ≤ max_routing_load
   pub wire_limit : sums.wirelength ≤ max_nets * (3 * max_vertices)
   pub count_limit : sums.beyond ≤ max_nets
 
@@ -138,6 +146,16 @@ load-limit d trees e pieces =
     subst (λ x. f x ≤ max_demand) (sym (pair_at d.nets trees k n.0 tree.0 other n.1 tree.1)) (net_load-limit g n.0.width tree.0 e (d.limits.net k n.0 n.1).width (pieces k n.0 tree.0 n.1 tree.1)) in
     omega (arith, sum_by-le f max_demand (zip d.nets trees) each, length-zip d.nets trees, d.limits.count)
 
+load-past : (d : Design) (trees : List (List Piece)) (e : ℕ) → ((k : ℕ) (n : NetSpec) (tree : List Piece) → At d.nets k n → At trees k tree → ArePieces (size_of d.grid) tree) → edge_numbers d.grid ≤ e → load d.grid d.nets trees e ≡ 0
+load-past d trees e pieces past =
+    let g = d.grid in
+    let f : NetSpec × List Piece → ℕ = λ x. net_load g x.0.width x.1 e in
+    let each : All (λ x. f x ≤ 0) (zip d.nets trees) = λ k other below.
+    let n = at_place d.nets k (omega (arith, below, length-zip d.nets trees)) in
+    let tree = at_place trees k (omega (arith, below, length-zip d.nets trees)) in
+    omega (arith, ap f (pair_at d.nets trees k n.0 tree.0 other n.1 tree.1), net_load-past g n.0.width tree.0 e (pieces k n.0 tree.0 n.1 tree.1) past) in
+    omega (arith, sum_by-le f 0 (zip d.nets trees) each)
+
 wire-limit : (d : Design) (earlier : List Block) (trees : List (List Piece)) → AreSetsAfter d earlier trees → wirelength trees ≤ max_nets * (3 * max_vertices)
 wire-limit d earlier trees after =
     let s = size_of d.grid in
@@ -149,7 +167,6 @@ wire-limit d earlier trees after =
 
 pub small_sums : (d : Design) (over : List Ground) (earlier : List Block) (trees : List (List Piece)) (sums : RunningMeasure) → AreSetsAfter d earlier trees → AreSums d over trees sums → AreSmall sums
 small_sums d over earlier trees sums after are = record {
-  load_limit = λ e. subst (λ n. n ≤ max_routing_load) (sym (are.loaded e)) (load-limit d trees e (λ k n tree at_n at_tree. set_pieces d.grid earlier n tree (after.each k n tree at_n at_tree)));
   wire_limit = subst (λ n. n ≤ max_nets * (3 * max_vertices)) (sym are.long) (wire-limit d earlier trees after);
   count_limit = omega (arith, are.outside, count_by-le-length (λ (x : Ground × List Piece). list_any (is_beyond d.grid x.0) x.1) (zip over trees), length-zip over trees, after.long, d.limits.count);
 }
@@ -190,15 +207,16 @@ zero_wirelength trees empty =
     let each : All (λ t. length t ≤ 0) trees = λ k other below. omega (arith, ap (length {A = Piece}) (empty k (get_or trees k other) (slice_get-get_or trees k other below))) in
     omega (arith, sum_by-le length 0 trees each)
 
-pub none_running : (d : Design) (over : List Ground) (sums : RunningMeasure) → length sums.loads.items ≡ 2 * vertices (size_of d.grid) → ((e : ℕ) → slice_index sums.loads.items e ≡ 0) → sums.wirelength ≡ 0 → sums.beyond ≡ 0 → AreRunning d over [] sums
-none_running d over sums table loads wire beyond =
+pub none_running : (d : Design) (over : List Ground) (sums : RunningMeasure) → sums.loads.size ≡ size_of d.grid → AreLoadSums (λ e. 0) sums.loads → sums.wirelength ≡ 0 → sums.beyond ≡ 0 → AreRunning d over [] sums
+none_running d over sums size loads wire beyond =
     let trees : List (List Piece) = map (λ n. []) d.nets in
     let empty = all_empty d.nets in (
       trees,
       no_sets d trees (length-map d.nets (λ n. [])) empty,
       record {
-        table = table;
-        loaded = λ e. loads e ∙ sym (zero_sum (λ x. net_load d.grid x.0.width x.1 e) d.nets trees (λ n. refl) empty);
+        sized = size;
+        loaded = same_differences sums.loads.size (λ e. 0) (load d.grid d.nets trees) sums.loads.differences.items
+            (λ e. sym (zero_sum (λ x. net_load d.grid x.0.width x.1 e) d.nets trees (λ n. refl) empty)) loads;
         long = wire ∙ sym (zero_wirelength trees empty);
         outside = beyond ∙ sym (zero_sum (λ x. cond (list_any (is_beyond d.grid x.0) x.1) 1 0) over trees (λ ground. refl) empty);
       },
@@ -207,11 +225,11 @@ none_running d over sums table loads wire beyond =
 -- one more block is tested, and its pieces are added
 pub running_more : (d : Design) (over : List Ground) (blocks : List Block) (k : ℕ) (block : Block) (place : ℕ) (n : NetSpec) (ground : Ground) (pieces added : List Piece) (old new : RunningMeasure)
     → At blocks k block → IsTested d (take k blocks) block place pieces → At d.nets place n → At over place ground → added ≡ pieces → AreRunning d over (take k blocks) old
-    → length new.loads.items ≡ 2 * vertices (size_of d.grid)
-    → ((e : ℕ) → slice_index new.loads.items e ≡ slice_index old.loads.items e + net_load d.grid n.width added e)
+    → new.loads.size ≡ old.loads.size
+    → ((load : ℕ → ℕ) → AreLoadSums load old.loads → AreLoadSums (λ e. load e + net_load d.grid n.width added e) new.loads)
     → new.wirelength ≡ old.wirelength + length added → new.beyond ≡ old.beyond + cond (list_any (is_beyond d.grid ground) added) 1 0
     → AreRunning d over (take (k + 1) blocks) new
-running_more d over blocks k block place n ground pieces added old new at tested at_n stands same running table loads wire beyond =
+running_more d over blocks k block place n ground pieces added old new at tested at_n stands same running size loads wire beyond =
     let trees = running.0 in
     let after = running.1 in
     let tree = risen pieces in
@@ -222,7 +240,7 @@ running_more d over blocks k block place n ground pieces added old new at tested
     let as_long : length tree ≡ length added = risen-length pieces tested.once ∙ ap (length {A = Piece}) (sym same) in (
       slice_set trees place tree,
       subst (λ earlier. AreSetsAfter d earlier (slice_set trees place tree)) (one_block_more blocks k block (slice_get_within blocks k block at) (sym (get_or_from_slice_get blocks k block block at))) more,
-      sums_more d over trees place n ground added tree old new at_n stands (subst (At trees place) empty found.1) holds_added as_long running.2 table loads wire beyond,
+      sums_more d over trees place n ground added tree old new at_n stands (subst (At trees place) empty found.1) holds_added as_long running.2 size loads wire beyond,
     )
 
 -- the sums after all blocks
@@ -230,3 +248,24 @@ pub all_sums : (d : Design) (over : List Ground) (blocks : List Block) (k : ℕ)
 all_sums d over blocks k sums all running none =
     let after = subst (λ earlier. AreSetsAfter d earlier running.0) (take_all k blocks all) running.1 in
     record { trees = running.0; sets = all_sets d blocks running.0 after; joining = all_joining d blocks running.0 after none; sums_of = running.2 }
+
+-- the loads that the sums end as
+pub record AreFinished (sums : RunningMeasure) (loads : List ℕ) : Type 0 where
+  pub long : length loads ≡ 2 * vertices sums.loads.size
+  pub each : (load : ℕ → ℕ) → AreLoadSums load sums.loads → ((e : ℕ) → e < 2 * vertices sums.loads.size → load e < 2 ^ 64) → (e : ℕ) → e < 2 * vertices sums.loads.size → slice_index loads e ≡ load e
+
+module _ (d : Design) (over : List Ground) (blocks : List Block) (sums : RunningMeasure) (of : AreSumsOf d over blocks sums) where
+  net_pieces : (k : ℕ) (n : NetSpec) (tree : List Piece) → At d.nets k n → At of.trees k tree → ArePieces (size_of d.grid) tree
+  net_pieces k n tree at_n at_tree = set_pieces d.grid blocks n tree (AllZip-at (IsSetOfNet d.grid blocks) d.nets of.trees k n tree of.sets at_n at_tree)
+
+  pub finished_loads : (loads : List ℕ) → AreFinished sums loads → (e : ℕ) → slice_index loads e ≡ load d.grid d.nets of.trees e
+  finished_loads loads are e = ⊎_elim
+      (λ (within : e < 2 * vertices sums.loads.size).
+      are.each (load d.grid d.nets of.trees) of.sums_of.loaded (λ n below. omega (arith, load-limit d of.trees n net_pieces)) e within)
+      (λ (past : 2 * vertices sums.loads.size ≤ e).
+      let beyond : edge_numbers d.grid ≤ e = subst (λ s. 2 * vertices s ≤ e) of.sums_of.sized past in
+      get_or_past loads e 0 (omega (arith, are.long, past)) ∙ sym (load-past d of.trees e net_pieces beyond))
+      (cases_lt e (2 * vertices sums.loads.size))
+
+  pub finished_limit : (loads : List ℕ) → AreFinished sums loads → (e : ℕ) → slice_index loads e ≤ max_routing_load
+  finished_limit loads are e = subst (λ n. n ≤ max_routing_load) (sym (finished_loads loads are e)) (load-limit d of.trees e net_pieces)

@@ -1,7 +1,7 @@
 -- What is summed up of the sets that blocks give the nets.
-use Rattle.std.specs.Prelude.{ℕ, ◌≡◌, ◌*◌, List, length, slice_index}
+use Rattle.std.specs.Prelude.{◌≡◌, List}
+use Rattle.block_runs.specs.LoadSums.{AreLoadSums}
 use Rattle.grid_base.specs.declared.piece.Piece.{Piece}
-use Rattle.grid_base.specs.Numbers.{vertices}
 use Rattle.grid_graph.specs.declared.design.Design.{Design}
 use Rattle.grid_graph.specs.declared.ground.Ground.{Ground}
 use Rattle.grid_graph.specs.Grids.{size_of}
@@ -14,8 +14,8 @@ use Rattle.route_judge.specs.NetSets.{AreSetsOf, AreJoining}
 
 -- the sums are those of one set per net
 pub record AreSums (d : Design) (over : List Ground) (trees : List (List Piece)) (sums : RunningMeasure) : Type 0 where
-  pub table : length sums.loads.items ≡ 2 * vertices (size_of d.grid)
-  pub loaded : (e : ℕ) → slice_index sums.loads.items e ≡ load d.grid d.nets trees e
+  pub sized : sums.loads.size ≡ size_of d.grid
+  pub loaded : AreLoadSums (load d.grid d.nets trees) sums.loads
   pub long : sums.wirelength ≡ wirelength trees
   pub outside : sums.beyond ≡ beyond_count d.grid over trees
 

@@ -2,28 +2,23 @@
 
 ghost use Rattle.std.specs.Prelude.{◌≡◌, All};
 ghost use Rattle.std.specs.List.{list_any};
-ghost use Rattle.grid_base.specs.Numbers.{IsPiece};
+ghost use Rattle.block_runs.specs.Runs.{IsRun, pieces_of};
+ghost use Rattle.grid_graph.specs.declared.kind.Kind.TheVariants.{Choked};
 ghost use Rattle.grid_graph.specs.Grids.{size_of};
+ghost use Rattle.route_judge.specs.KindCounts.{AreCountsOf};
 ghost use Rattle.route_judge.specs.Measured as measured;
 
-use grid_base::Piece;
-use grid_graph::{Grid, Ground, Kind};
+use block_runs::{LineCounts, Run};
+use grid_graph::{Grid, Ground};
 
-/// Whether a piece is a choked edge that the ground doesn't allow.
-fn is_beyond(grid: &Grid, over: Ground, piece: Piece) -> bool
-    requires { IsPiece (size_of grid.now) piece }
-    ensures { result ≡ measured.is_beyond grid.now over piece }
+/// Whether one of the runs has a choked edge that the ground doesn't allow.
+pub(crate) fn goes_beyond(grid: &Grid, choked: &LineCounts<'_>, over: Ground, runs: &[Run]) -> bool
+    requires choked { AreCountsOf grid.now Choked choked.now }
+    requires runs { All (IsRun (size_of grid.now)) runs.now }
+    ensures { result ≡ list_any (measured.is_beyond grid.now over) (pieces_of (size_of grid.now) runs.now) }
 {
-    match (over, piece) {
-        (Ground::Open, Piece::Edge(edge)) => grid.kind(edge) == Kind::Choked,
-        _ => false,
+    match over {
+        Ground::Open => choked.has_any(runs),
+        Ground::WithChoked => false,
     }
-}
-
-/// Whether one of the pieces is.
-pub(crate) fn goes_beyond(grid: &Grid, over: Ground, pieces: &[Piece]) -> bool
-    requires { All (IsPiece (size_of grid.now)) pieces.now }
-    ensures { result ≡ list_any (measured.is_beyond grid.now over) pieces.now }
-{
-    pieces.iter().any(|p| is_beyond(grid, over, *p))
 }

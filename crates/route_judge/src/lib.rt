@@ -9,12 +9,13 @@
 //! }
 //! let cert = read_cert(alloc, certificate)?;
 //! let verdict = judge(&rt, alloc, &design, grounds.as_slice(), blocks.as_slice(), &cert)?;
-//! let trees = trees_of(alloc, &design, blocks.as_slice())?;    // the nets' sets, of blocks that are routes
+//! let loads = loads_of(alloc, &design, grounds.as_slice(), blocks.as_slice())?;    // the edges' loads, of blocks that are routes
+//! let trees = trees_of(alloc, &design, blocks.as_slice())?;    // and the nets' sets
 //! ```
 //!
-//! It stands on `route_text` and `cert_text` for what was read, on `tree_set` for sets and measures, on `dual_bound` and
-//! `edge_prices` for the bound at a certificate's prices, and on `grid_graph` and `grid_base`. It knows nothing of how routes
-//! are found.
+//! It stands on `route_text` and `cert_text` for what was read, on `block_runs` for blocks as straight runs, on `tree_set` for sets
+//! and measures, on `dual_bound` and `edge_prices` for the bound at a certificate's prices, and on `grid_graph` and `grid_base`. It
+//! knows nothing of how routes are found.
 //!
 //! Promised: the reason is that of the first objection that applies, in the order of `specs/Orders.antt`, and there is none
 //! exactly where the answer is a yes. A yes has the measure of the sets that the blocks give the nets, each of which joins its
@@ -29,9 +30,8 @@ mod bounds;
 mod checked;
 mod claims;
 mod counted;
-mod direction;
+mod joining;
 mod judging;
-mod laid;
 mod laws;
 mod lines;
 mod listed_prices;
@@ -40,15 +40,13 @@ mod missing;
 mod net_places;
 mod net_sets;
 mod placing;
-mod reaching;
 mod reason;
 mod routes;
 mod running_measure;
 mod segments;
-mod stamps;
 mod stop;
 mod summing;
-mod tables;
+mod taken;
 mod tested;
 mod verdict;
 
@@ -58,5 +56,5 @@ pub use counted::Counted;
 pub use judging::judge;
 pub use laws::{one_reason_is_found, short_texts_can_be_judged};
 pub use reason::Reason;
-pub use routes::{judge_routes, trees_of};
+pub use routes::{judge_routes, loads_of, trees_of};
 pub use verdict::Verdict;

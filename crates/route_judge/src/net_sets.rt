@@ -9,10 +9,11 @@ ghost use Rattle.route_judge.specs.TestedBlocks.{AreSetsAfter};
 use crate::blocks::test_block;
 use crate::net_places::NetPlaces;
 use crate::stop::Stop;
-use crate::tables::Tables;
+use crate::taken::TakenNets;
 use crate::tested::TestedBlock;
+use block_runs::{LineCounts, set_of_runs};
 use grid_base::NoMemory;
-use grid_graph::Design;
+use grid_graph::{Design, Kind};
 use route_text::Block;
 use std::alloc::Global;
 use tree_set::Tree;
@@ -35,18 +36,15 @@ pub(crate) fn sets_of(alloc: Global, design: &Design, blocks: &[Block]) -> Resul
     ensures sets { IfOk result (λ trees. AreSetsAfter design.now blocks.now trees.items) }
 {
     let places = NetPlaces::of(alloc, design.nets.list())?;
-    let mut tables = Tables::fresh(alloc, design)?;
+    let walls = LineCounts::of(alloc, &design.grid, Kind::Wall)?;
+    let mut taken = TakenNets::none(alloc, design)?;
     let mut trees = empty_sets(alloc, design)?;
     for number in 0..blocks.len() {
-        let TestedBlock { place, pieces } = test_block(
-            alloc,
-            design,
-            &places,
-            blocks,
-            number,
-            &mut tables,
+        let TestedBlock { place, runs } = test_block(
+            alloc, design, &places, &walls, blocks, number, &mut taken,
         )?;
-        trees[place] = Tree::of(pieces);
+        let tree = set_of_runs(alloc, design.grid.size(), runs.as_slice())?;
+        trees[place] = tree;
     }
     Ok(trees)
 }

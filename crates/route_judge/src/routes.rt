@@ -1,10 +1,13 @@
 //! Judges routes.
 
-ghost use Rattle.std.specs.Prelude.{◌≡◌, IfOk, None};
+ghost use Rattle.std.specs.Prelude.{◌≡◌, ◌*◌, IfOk, None, length};
+ghost use Rattle.grid_base.specs.Numbers.{vertices};
+ghost use Rattle.grid_graph.specs.Grids.{size_of};
 ghost use Rattle.grid_graph.specs.Grounds.{AreGrounds};
 ghost use Rattle.route_judge.specs.Answers.{reason_against, IfAccepted};
 ghost use Rattle.route_judge.specs.Limits.{AreBlocks};
 ghost use Rattle.route_judge.specs.Measured.{AreMeasured};
+ghost use Rattle.route_judge.specs.NetLoads.{AreLoadsOf};
 ghost use Rattle.route_judge.specs.NetSets.{AreSetsOf, AreJoining};
 ghost use Rattle.route_judge.specs.Objections.{Finds};
 ghost use Rattle.route_judge.specs.Orders.{route_objections, AreRoutes};
@@ -34,8 +37,9 @@ pub(crate) fn measure_routes(
     ensures measured { IfOk result (λ m. AreMeasured design.now grounds.now blocks.now None m.measure m.beyond) }
 {
     let sums = sums_of(alloc, design, grounds, blocks)?;
+    let loads = sums.loads.finish();
     Ok(Measured {
-        measure: measure_of_loads(&design.grid, sums.loads.as_slice(), sums.wirelength),
+        measure: measure_of_loads(&design.grid, loads.as_slice(), sums.wirelength),
         beyond: sums.beyond,
     })
 }
@@ -45,8 +49,9 @@ pub(crate) fn measure_routes(
 ///
 /// A set may use choked edges that are outside its net's ground. The answer counts the nets whose sets do.
 ///
-/// Takes about `n log n` steps for n nets, segments and pieces, where a piece counts once for each block that has it, and a few
-/// passes over the grid. No set is kept: each block's pieces are counted and let go.
+/// Takes about `n log n` steps for n nets, segments and terminals, however long the segments are and however often they overlap,
+/// and a few passes over the grid. Where a block leaves its net's terminals apart, its pieces are gone through one by one, and that
+/// ends the work.
 pub fn judge_routes(
     alloc: Global,
     design: &Design,
@@ -65,8 +70,28 @@ pub fn judge_routes(
     }
 }
 
+/// The loads of all edges, one per edge number, by the sets that blocks give the nets. They have to be routes of the design.
+pub fn loads_of(
+    alloc: Global,
+    design: &Design,
+    grounds: &[Ground],
+    blocks: &[Block],
+) -> Result<Vec<u64>, NoMemory>
+    requires grounds { AreGrounds design.now.grid design.now.nets grounds.now }
+    requires blocks { AreBlocks blocks.now }
+    requires routes { AreRoutes design.now blocks.now }
+    ensures long { IfOk result (λ loads. length loads.items ≡ 2 * vertices (size_of design.now.grid)) }
+    ensures loads { IfOk result (λ loads. AreLoadsOf design.now blocks.now loads.items) }
+{
+    match sums_of(alloc, design, grounds, blocks) {
+        Ok(sums) => Ok(sums.loads.finish()),
+        Err(Stop::NoMemory) => Err(NoMemory),
+        Err(Stop::Refused(_)) => unreachable!(),
+    }
+}
+
 /// The set of each net, in file order, of blocks that are routes of the design: the pieces of its block, or none where it has
-/// no block.
+/// no block. It takes memory and time for each piece, however few segments there are.
 pub fn trees_of(alloc: Global, design: &Design, blocks: &[Block]) -> Result<Vec<Tree>, NoMemory>
     requires blocks { AreBlocks blocks.now }
     requires routes { AreRoutes design.now blocks.now }

@@ -1,22 +1,26 @@
 //! The segments of a block.
 
-ghost use Rattle.std.specs.Prelude.{◌≡◌, ◌↔◌, [], ◌<◌, IsTrue, IfOk, OnOk, length, All, Contains};
+ghost use Rattle.std.specs.Prelude.{◌≡◌, ◌↔◌, ◌<◌, IsTrue, IfOk, OnOk, length, All, Contains};
+ghost use Rattle.block_runs.specs.Runs.{IsRun, pieces_of};
 ghost use Rattle.grid_base.specs.declared.piece.Piece.{Piece};
 ghost use Rattle.grid_base.specs.Lines.{AreInLine};
-ghost use Rattle.grid_graph.specs.Grids.{size_of};
+ghost use Rattle.grid_graph.specs.declared.ground.Ground.TheVariants.{WithChoked};
+ghost use Rattle.grid_graph.specs.declared.kind.Kind.TheVariants.{Wall};
+ghost use Rattle.grid_graph.specs.Grids.{Allows, size_of};
 ghost use Rattle.route_text.specs.BlockPieces.{LiesOn, IsPieceOf};
 ghost use Rattle.route_text.specs.ReadLimits.{IsSegmentInRange, IsBlockInRange};
-ghost use Rattle.route_judge.specs.Laid.{AreLaid};
+ghost use Rattle.route_judge.specs.KindCounts.{AreCountsOf};
 ghost use Rattle.route_judge.specs.Limits.{number_limit};
 ghost use Rattle.route_judge.specs.Lines.{ArePut};
 ghost use Rattle.route_judge.specs.Orders.{segment_objections, all_segment_objections};
 ghost use Rattle.route_judge.specs.Stops.{StopsAt};
 
-use crate::lines::lay_between;
+use crate::lines::add_between;
 use crate::placing::place_of;
 use crate::reason::Reason;
 use crate::stop::Stop;
-use grid_base::{Piece, Place};
+use block_runs::{LineCounts, Run};
+use grid_base::Place;
 use grid_graph::Design;
 use route_text::{Block, Segment};
 use std::alloc::Global;
@@ -31,21 +35,20 @@ fn are_in_line(from: Place, to: Place) -> bool
     same_row && same_layer || same_col && same_layer || same_col && same_row
 }
 
-/// Puts the pieces of a segment on the list and into the table. The segment has this number in its block, and the block has its
-/// own in the text.
-fn lay_segment(
+/// Puts the run of a segment on the list, if the segment has a piece. The segment has this number in its block, and the block has
+/// its own in the text.
+fn add_segment(
     design: &Design,
+    walls: &LineCounts<'_>,
     block: u32,
     number: u32,
     segment: Segment,
-    table: &mut [u32],
-    pieces: &mut Vec<Piece>,
+    runs: &mut Vec<Run>,
 ) -> Result<(), Stop>
     requires range { IsSegmentInRange segment }
-    requires laid { AreLaid design.now.grid table.old pieces.old.items }
+    requires walls { AreCountsOf design.now.grid Wall walls.now }
     ensures stops { StopsAt design.now (segment_objections block (number, segment)) result }
-    ensures put { OnOk result (ArePut design.now.grid (LiesOn design.now.grid segment) pieces.old.items pieces.new.items) }
-    ensures laid { OnOk result (AreLaid design.now.grid table.new pieces.new.items) }
+    ensures put { OnOk result (ArePut design.now.grid (LiesOn design.now.grid segment) runs.old.items runs.new.items) }
 {
     let outside = Stop::Refused(Reason::PointOutside {
         block,
@@ -67,31 +70,29 @@ fn lay_segment(
         block,
         segment: number,
     };
-    lay_between(&design.grid, from, to, wall, table, pieces)
+    add_between(&design.grid, walls, from, to, wall, runs)
 }
 
-/// The pieces of a block, each listed once; the block has this number in the text. They are laid in a table in which nothing was.
-///
-/// Takes about `n log n` steps for n segments and distinct pieces, however long the segments are and however often they
-/// overlap.
-pub(crate) fn pieces_of(
+/// The runs of a block's segments, in their order; the block has this number in the text.
+pub(crate) fn runs_of(
     alloc: Global,
     design: &Design,
+    walls: &LineCounts<'_>,
     number: u32,
     block: &Block,
-    table: &mut [u32],
-) -> Result<Vec<Piece>, Stop>
+) -> Result<Vec<Run>, Stop>
     requires short { length block.now.segments < number_limit }
     requires range { IsBlockInRange block.now }
-    requires laid { AreLaid design.now.grid table.old [] }
+    requires walls { AreCountsOf design.now.grid Wall walls.now }
     ensures stops { StopsAt design.now (all_segment_objections number block.now.segments) result }
-    ensures named { IfOk result (λ pieces. (p : Piece) → Contains pieces.items p ↔ IsPieceOf design.now.grid block.now p) }
-    ensures laid { IfOk result (λ pieces. AreLaid design.now.grid table.new pieces.items) }
+    ensures runs { IfOk result (λ runs. All (IsRun (size_of design.now.grid)) runs.items) }
+    ensures named { IfOk result (λ runs. (p : Piece) → Contains (pieces_of (size_of design.now.grid) runs.items) p ↔ IsPieceOf design.now.grid block.now p) }
+    ensures no_wall { IfOk result (λ runs. (p : Piece) → Contains (pieces_of (size_of design.now.grid) runs.items) p → Allows design.now.grid WithChoked p) }
 {
     let segments = block.segments.list();
-    let mut pieces = Vec::new(alloc);
+    let mut runs = Vec::new(alloc);
     for i in 0..segments.len() {
-        lay_segment(design, number, i as u32, segments[i], table, &mut pieces)?;
+        add_segment(design, walls, number, i as u32, segments[i], &mut runs)?;
     }
-    Ok(pieces)
+    Ok(runs)
 }

@@ -12,12 +12,13 @@ use crate::missing::find_missing;
 use crate::net_places::NetPlaces;
 use crate::running_measure::RunningMeasure;
 use crate::stop::Stop;
-use crate::tables::Tables;
-use grid_graph::{Design, Ground};
+use crate::taken::TakenNets;
+use block_runs::LineCounts;
+use grid_graph::{Design, Ground, Kind};
 use route_text::Block;
 use std::alloc::Global;
 
-/// The sums of all sets. Stops at the first reason against the blocks. Each block's pieces are let go before the next is read.
+/// The sums of all sets. Stops at the first reason against the blocks. Each block's runs are let go before the next is read.
 pub(crate) fn sums_of(
     alloc: Global,
     design: &Design,
@@ -30,16 +31,18 @@ pub(crate) fn sums_of(
     ensures sums { IfOk result (AreSumsOf design.now grounds.now blocks.now) }
 {
     let places = NetPlaces::of(alloc, design.nets.list())?;
-    let mut tables = Tables::fresh(alloc, design)?;
+    let walls = LineCounts::of(alloc, &design.grid, Kind::Wall)?;
+    let choked = LineCounts::of(alloc, &design.grid, Kind::Choked)?;
+    let mut taken = TakenNets::none(alloc, design)?;
     let mut sums = RunningMeasure::none(alloc, design.grid.size())?;
     for number in 0..blocks.len() {
-        let block = test_block(alloc, design, &places, blocks, number, &mut tables)?;
+        let block = test_block(alloc, design, &places, &walls, blocks, number, &mut taken)?;
         let net = &design.nets.list()[block.place];
         let over = grounds[block.place];
-        let pieces = block.pieces.as_slice();
-        sums.add(&design.grid, net.width, over, pieces);
+        let runs = block.runs.as_slice();
+        sums.add(&design.grid, &choked, net.width, over, runs);
     }
-    let taken = tables.taken.as_slice();
+    let taken = taken.nets.as_slice();
     find_missing(design, taken)?;
     Ok(sums)
 }

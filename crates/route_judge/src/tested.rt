@@ -1,12 +1,12 @@
 //! A block to which nothing is objected.
 
-use grid_base::Piece;
+use block_runs::Run;
 
 /// A block to which nothing is objected.
 #[derive(Drop)]
 pub(crate) struct TestedBlock {
     /// Where its net stands.
     pub place: usize,
-    /// Its pieces, each listed once.
-    pub pieces: Vec<Piece>,
+    /// Runs of its pieces, none of which is in two of them.
+    pub runs: Vec<Run>,
 }

@@ -1,14 +1,16 @@
-use Rattle.std.proofs.Common.{◌≡◌, ℕ, ◌<◌, ◌+◌, refl, sym, ap, subst, ◌∙◌, List, length, get_or, slice_set, take, Bool, true, Some, None, Vec, Global}
+use Rattle.std.proofs.Common.{◌≡◌, ℕ, ◌<◌, refl, sym, subst, ◌∙◌, List, length, get_or, take, Some, None}
 use Rattle.std.proofs.lemmas.Option.{same_Some, slice_get_read}
 use Rattle.std.proofs.lemmas.Result.{err_from_is_err_and}
+use Rattle.block_runs.specs.Runs.{pieces_of}
 use Rattle.grid_base.specs.Lists.{At}
+use Rattle.grid_graph.specs.Grids.{size_of}
 use Rattle.route_text.specs.declared.block.Block.{Block}
 use Rattle.route_judge.specs.declared.reason.Reason.TheVariants.{RepeatedNet}
 use Rattle.route_judge.specs.NetPlaces.{place_by_id}
 use Rattle.route_judge.specs.Objections.{Finds}
 use Rattle.route_judge.specs.Orders.{block_objections}
 use Rattle.route_judge.specs.Stops.{StopsFor}
-use Rattle.route_judge.specs.TestedBlocks.{IsTested, AreTaken}
+use Rattle.route_judge.specs.TestedBlocks.{IsTested}
 use Rattle.route_judge.proofs.BlockTests.{repeated_block, first_of_block, stop_of_block, tested_block, taken_after}
 use Rattle.route_judge.proofs.blocks.test_block.Goals as goal
 
@@ -24,18 +26,18 @@ returns-then-index-clause-stops c b at =
     let block = c.index-blocks-number.result in
     let same = read_block blocks k block b c.requires.number c.index-blocks-number.is at in
     subst (λ x. Finds d (block_objections blocks (k, x)) (Some (RepeatedNet block.id))) same
-    (repeated_block d blocks k block (place_by_id c.args.places.now) c.in-Some.place c.args.tables.now.taken.items c.index.result.now c.requires.places c.in-Some.ensures c.requires.taken c.index.ensures c.if-index.true)
+    (repeated_block d blocks k block (place_by_id c.args.places.now) c.in-Some.place c.args.taken.now.nets.items c.index.result.now c.requires.places c.in-Some.ensures c.requires.taken c.index.ensures c.if-index.true)
 
-pub returns-in_err-pieces-clause-stops : goal.returns-in_err-pieces-clause-stops
-returns-in_err-pieces-clause-stops c b at =
+pub returns-in_err-runs-clause-stops : goal.returns-in_err-runs-clause-stops
+returns-in_err-runs-clause-stops c b at =
     let d = c.args.design.now in
     let blocks = c.args.blocks.now in
     let k = c.args.number in
     let block = c.index-blocks-number.result in
     let exit = err_from_is_err_and c.from_residual.result c.from_residual.ensures.1 in
     let same = read_block blocks k block b c.requires.number c.index-blocks-number.is at in
-    rw (exit.1, exit.2) (subst (λ x. StopsFor d (block_objections blocks (k, x)) c.in_err-pieces.field-0.0) same
-    (stop_of_block d blocks k block (place_by_id c.args.places.now) c.in-Some.place c.args.tables.now.taken.items c.index.result.now c.in_err-pieces.field-0.0 c.requires.places c.in-Some.ensures c.requires.taken c.index.ensures c.if-index.false c.in_err-pieces.ensures.stops))
+    rw (exit.1, exit.2) (subst (λ x. StopsFor d (block_objections blocks (k, x)) c.in_err-runs.field-0.0) same
+    (stop_of_block d blocks k block (place_by_id c.args.places.now) c.in-Some.place c.args.taken.now.nets.items c.index.result.now c.in_err-runs.field-0.0 c.requires.places c.in-Some.ensures c.requires.taken c.index.ensures c.if-index.false c.in_err-runs.ensures.stops))
 
 pub returns-clause-stops : goal.returns-clause-stops
 returns-clause-stops c b at =
@@ -45,7 +47,7 @@ returns-clause-stops c b at =
     let block = c.index-blocks-number.result in
     let same = read_block blocks k block b c.requires.number c.index-blocks-number.is at in
     subst (λ x. Finds d (block_objections blocks (k, x)) None) same
-    (first_of_block d blocks k block (place_by_id c.args.places.now) c.in-Some.place c.args.tables.now.taken.items c.index.result.now None c.requires.places c.in-Some.ensures c.requires.taken c.index.ensures c.if-index.false c.in_ok-pieces.ensures.stops)
+    (first_of_block d blocks k block (place_by_id c.args.places.now) c.in-Some.place c.args.taken.now.nets.items c.index.result.now None c.requires.places c.in-Some.ensures c.requires.taken c.index.ensures c.if-index.false c.in_ok-runs.ensures.stops)
 
 pub returns-clause-tested : goal.returns-clause-tested
 returns-clause-tested c b at =
@@ -54,15 +56,12 @@ returns-clause-tested c b at =
     let k = c.args.number in
     let block = c.index-blocks-number.result in
     let same = read_block blocks k block b c.requires.number c.index-blocks-number.is at in
-    subst (λ x. IsTested d (take k blocks) x c.in-Some.place c.in_ok-pieces.pieces.items) same
-    (tested_block d blocks k block (place_by_id c.args.places.now) c.in-Some.place c.args.tables.now.taken.items c.index.result.now c.in_ok-pieces.pieces.items c.requires.places c.in-Some.ensures c.requires.taken c.index.ensures c.if-index.false
-    c.in_ok-pieces.ensures.once c.in_ok-pieces.ensures.named c.in_ok-pieces.ensures.joining)
+    subst (λ x. IsTested d (take k blocks) x c.in-Some.place (pieces_of (size_of d.grid) c.in_ok-runs.runs.items)) same
+    (tested_block d blocks k block (place_by_id c.args.places.now) c.in-Some.place c.args.taken.now.nets.items c.index.result.now (pieces_of (size_of d.grid) c.in_ok-runs.runs.items) c.requires.places c.in-Some.ensures c.requires.taken c.index.ensures c.if-index.false
+    c.in_ok-runs.ensures.once c.in_ok-runs.ensures.named c.in_ok-runs.ensures.joining)
 
 pub returns-clause-taken : goal.returns-clause-taken
 returns-clause-taken c =
     let d = c.args.design.now in
     let blocks = c.args.blocks.now in
-    let k = c.args.number in
-    let place = c.in-Some.place in
-    subst (λ xs. AreTaken d (take (k + 1) blocks) (slice_set xs place true)) (sym (ap (λ (v : Vec Bool Global). v.items) c.joining_pieces_of.ensures.taken))
-    (taken_after d blocks k c.index-blocks-number.result (place_by_id c.args.places.now) place c.args.tables.now.taken.items c.requires.number c.index-blocks-number.is c.requires.places c.in-Some.ensures c.requires.taken)
+    taken_after d blocks c.args.number c.index-blocks-number.result (place_by_id c.args.places.now) c.in-Some.place c.args.taken.now.nets.items c.requires.number c.index-blocks-number.is c.requires.places c.in-Some.ensures c.requires.taken

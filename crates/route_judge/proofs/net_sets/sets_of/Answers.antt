@@ -1,13 +1,27 @@
-use Rattle.std.proofs.Common.{refl, sym, slice_set, subst, take}
+use Rattle.std.proofs.Common.{◌≡◌, All, Contains, List, refl, sym, slice_set, subst, take}
 use Rattle.std.proofs.lemmas.List.{take_all}
 use Rattle.std.proofs.lemmas.Option.{get_or_from_slice_get, slice_get-get_or}
 use Rattle.std.proofs.lemmas.Result.{err_from_is_err_and}
+use Rattle.std.specs.Prelude.{◌↔◌}
+use Rattle.block_runs.specs.declared.run.Run.{Run}
+use Rattle.block_runs.specs.Runs.{IsRun, pieces_of}
+use Rattle.grid_base.specs.declared.piece.Piece.{Piece}
+use Rattle.grid_base.specs.declared.size.Size.{Size}
+use Rattle.grid_graph.specs.Grids.{size_of}
 use Rattle.grid_graph.proofs.Grounds.{at_place}
 use Rattle.route_judge.specs.Orders.{block_objections}
 use Rattle.route_judge.specs.TestedBlocks.{AreSetsAfter}
 use Rattle.route_judge.proofs.BlockTests.{one_block_more, sets_more}
 use Rattle.route_judge.proofs.Found.{none_numbered, stops_numbered, none_in_all}
 use Rattle.route_judge.proofs.net_sets.sets_of.Goals as goal
+
+-- the set of some runs, by other names of the size and of the list
+set_of_sized : (s t : Size) (given runs : List Run) (tree : List Piece) → s ≡ t → given ≡ runs → ((p : Piece) → Contains tree p ↔ Contains (pieces_of s given) p) → (p : Piece) → Contains tree p ↔ Contains (pieces_of t runs) p
+set_of_sized s t given runs tree size list same = subst (λ rs. (p : Piece) → Contains tree p ↔ Contains (pieces_of t rs) p) list (subst (λ u. (p : Piece) → Contains tree p ↔ Contains (pieces_of u given) p) size same)
+
+pub set_of_runs-requires : goal.set_of_runs-requires
+set_of_runs-requires c =
+    subst (λ s. All (IsRun s) c.as_slice.result.now) (sym c.size.ensures) (subst (All (IsRun (size_of c.args.design.now.grid))) (sym c.as_slice.ensures.value) c.in_ok-place.ensures.runs)
 
 pub returns-in_err-place-clause-stops : goal.returns-in_err-place-clause-stops
 returns-in_err-place-clause-stops c =
@@ -23,17 +37,18 @@ loop-number-preserved c =
     let blocks = c.args.blocks.now in
     let k = c.loop-number.number in
     let block = at_place blocks k c.loop-number-test.true in
-    let tree = c.of-in-loop-number.result in
+    let s = size_of d.grid in
+    let tree = c.in_ok-tree.tree in
+    let runs = c.in_ok-place.field-0.runs.items in
     let place = c.in_ok-place.field-0.place in
     let trees = c.loop-number.trees.items in
-    let same = c.of-in-loop-number.ensures.same in
+    let same = set_of_sized _ s _ runs tree c.size.ensures c.as_slice.ensures.value c.in_ok-tree.ensures.same in
     record {
       clear = none_numbered d (block_objections blocks) blocks blocks k block.0 refl c.loop-number-test.true c.loop-number.invariant.clear
           (c.in_ok-place.ensures.stops _ (slice_get-get_or blocks k block.0 c.loop-number-test.true));
-      tables = c.in_ok-place.ensures.tables;
       taken = c.in_ok-place.ensures.taken;
       sets = subst (λ earlier. AreSetsAfter d earlier (slice_set trees place tree)) (one_block_more blocks k block.0 c.loop-number-test.true (sym (get_or_from_slice_get blocks k block.0 block.0 block.1)))
-          (sets_more d (take k blocks) block.0 place c.in_ok-place.field-0.pieces.items tree trees (c.in_ok-place.ensures.tested block.0 block.1) c.of-in-loop-number.ensures.rising same c.loop-number.invariant.sets);
+          (sets_more d (take k blocks) block.0 place (pieces_of s runs) tree trees (c.in_ok-place.ensures.tested block.0 block.1) c.in_ok-tree.ensures.rising same c.loop-number.invariant.sets);
     }
 
 pub returns-clause-stops : goal.returns-clause-stops

@@ -3,7 +3,6 @@ use Rattle.std.specs.Prelude.{flat_map}
 use Rattle.std.specs.List.{enumerate_from}
 use Rattle.route_judge.specs.Objections.{Finds}
 use Rattle.route_judge.specs.Orders.{block_objections}
-use Rattle.route_judge.specs.Tables.{AreFresh}
 use Rattle.route_judge.specs.TestedBlocks.{AreTaken, AreSetsAfter}
 use Rattle.route_judge.proofs.net_sets.sets_of.Given as goal
 
@@ -11,7 +10,6 @@ use Rattle.route_judge.proofs.net_sets.sets_of.Given as goal
 abbrev pub invariant-loop-number : goal.invariant-loop-number
 invariant-loop-number l = record {
   clear : Finds l.design (flat_map (block_objections l.blocks) (take l.number (enumerate_from 0 l.blocks))) None;
-  tables : AreFresh l.design.grid l.number l.tables;
-  taken : AreTaken l.design (take l.number l.blocks) l.tables.taken.items;
+  taken : AreTaken l.design (take l.number l.blocks) l.taken.nets.items;
   sets : AreSetsAfter l.design (take l.number l.blocks) l.trees.items;
 }

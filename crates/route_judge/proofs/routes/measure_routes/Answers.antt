@@ -1,25 +1,27 @@
-use Rattle.std.proofs.Common.{◌≡◌, ◌≤◌, ℕ, List, slice_index, sym, ◌∙◌, ap, subst}
-use Rattle.grid_base.proofs.Lists.{AllZip-at}
+use Rattle.std.proofs.Common.{◌≡◌, ◌≤◌, ◌*◌, ℕ, List, length, slice_index, ◌∙◌, ap, sym, subst}
+use Rattle.grid_base.specs.Numbers.{vertices}
 use Rattle.tree_set.specs.Limits.{max_routing_load}
 use Rattle.tree_set.specs.Loads.{load}
-use Rattle.route_judge.specs.NetSets.{IsSetOfNet}
-use Rattle.route_judge.proofs.RunningSums.{load-limit, set_pieces}
+use Rattle.route_judge.proofs.RunningSums.{AreFinished, finished_loads, finished_limit}
 use Rattle.route_judge.proofs.routes.measure_routes.Goals as goal
 
+pub measure_of_loads-requires-clause-table : goal.measure_of_loads-requires-clause-table
+measure_of_loads-requires-clause-table c =
+    ap (length {A = ℕ}) c.as_slice.ensures.value ∙ c.finish-loads.ensures.long ∙ ap (λ s. 2 * vertices s) c.in_ok-sums.ensures.sums.sums_of.sized
+
 pub measure_of_loads-requires-clause-room : goal.measure_of_loads-requires-clause-room
-measure_of_loads-requires-clause-room c e =
-    let d = c.args.design.now in
-    let blocks = c.args.blocks.now in
-    let of = c.in_ok-sums.ensures.sums in
-    let is : slice_index c.as_slice.result.now e ≡ load d.grid d.nets of.trees e = ap (λ (xs : List ℕ). slice_index xs e) c.as_slice.ensures.value ∙ of.sums_of.loaded e in
-    subst (λ n. n ≤ max_routing_load) (sym is)
-    (load-limit d of.trees e (λ k n tree at_n at_tree. set_pieces d.grid blocks n tree (AllZip-at (IsSetOfNet d.grid blocks) d.nets of.trees k n tree of.sets at_n at_tree)))
+measure_of_loads-requires-clause-room c =
+    let finished : AreFinished c.in_ok-sums.sums c.finish-loads.result.items = record { long = c.finish-loads.ensures.long; each = c.finish-loads.ensures.loads } in
+    subst (λ (xs : List ℕ). (e : ℕ) → slice_index xs e ≤ max_routing_load) (sym c.as_slice.ensures.value)
+    (finished_limit c.args.design.now c.args.grounds.now c.args.blocks.now c.in_ok-sums.sums c.in_ok-sums.ensures.sums c.finish-loads.result.items finished)
 
 pub returns-clause-measured : goal.returns-clause-measured
 returns-clause-measured c =
     let d = c.args.design.now in
     let of = c.in_ok-sums.ensures.sums in
-    let loaded : (e : ℕ) → slice_index c.as_slice.result.now e ≡ load d.grid d.nets of.trees e = λ e. ap (λ (xs : List ℕ). slice_index xs e) c.as_slice.ensures.value ∙ of.sums_of.loaded e in
+    let finished : AreFinished c.in_ok-sums.sums c.finish-loads.result.items = record { long = c.finish-loads.ensures.long; each = c.finish-loads.ensures.loads } in
+    let loaded = subst (λ (xs : List ℕ). (e : ℕ) → slice_index xs e ≡ load d.grid d.nets of.trees e) (sym c.as_slice.ensures.value)
+    (finished_loads d c.args.grounds.now c.args.blocks.now c.in_ok-sums.sums of c.finish-loads.result.items finished) in
     record {
       trees = of.trees;
       sets = of.sets;

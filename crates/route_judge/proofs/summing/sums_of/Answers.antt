@@ -1,11 +1,10 @@
-use Rattle.std.proofs.Common.{◌≡◌, ◌*◌, ◌≤◌, ◌<◌, ℕ, List, length, map, get_or, take, None, refl, sym, ◌∙◌, ap, subst, arith}
+use Rattle.std.proofs.Common.{◌≡◌, ◌≤◌, ◌<◌, All, ℕ, List, length, map, get_or, take, None, refl, sym, ◌∙◌, ap, subst, arith}
 use Rattle.std.proofs.lemmas.List.{take_all}
 use Rattle.std.proofs.lemmas.Option.{slice_get_read, slice_get-get_or}
 use Rattle.std.proofs.lemmas.Result.{err_from_is_err_and}
 use Rattle.std.proofs.lemmas.Slice.Zip.{AllZip-long}
-use Rattle.grid_base.specs.declared.piece.Piece.{Piece}
+use Rattle.block_runs.specs.Runs.{IsRun, pieces_of}
 use Rattle.grid_base.specs.Lists.{At, HasNoRepeats}
-use Rattle.grid_base.specs.Numbers.{vertices}
 use Rattle.grid_graph.specs.declared.design.Design.{Design}
 use Rattle.grid_graph.specs.declared.ground.Ground.{Ground}
 use Rattle.grid_graph.specs.declared.net_spec.NetSpec.{NetSpec}
@@ -13,7 +12,6 @@ use Rattle.grid_graph.specs.Grids.{size_of}
 use Rattle.grid_graph.specs.Grounds.{AreGrounds, IsGround}
 use Rattle.grid_graph.proofs.Grounds.{at_place}
 use Rattle.route_text.specs.declared.block.Block.{Block}
-use Rattle.tree_set.specs.Routings.{ArePieces}
 use Rattle.route_judge.specs.Objections.{missing_net}
 use Rattle.route_judge.specs.Orders.{all_block_objections, block_objections}
 use Rattle.route_judge.specs.TestedBlocks.{AreTaken}
@@ -36,9 +34,8 @@ loop-number-init c =
     let e = c.in_ok-sums.ensures in
     record {
       clear = refl;
-      tables = c.in_ok-tables.ensures.tables;
-      taken = c.in_ok-tables.ensures.taken;
-      running = none_running c.args.design.now c.args.grounds.now c.in_ok-sums.sums (subst (λ s. length c.in_ok-sums.sums.loads.items ≡ 2 * vertices s) c.size.ensures e.table) e.loads e.wirelength e.beyond;
+      taken = c.in_ok-taken.ensures;
+      running = none_running c.args.design.now c.args.grounds.now c.in_ok-sums.sums (e.size ∙ c.size.ensures) e.loads e.wirelength e.beyond;
     }
 
 pub bounds-grounds-block : goal.bounds-grounds-block
@@ -50,22 +47,16 @@ add-requires-clause-width c =
     let at = read_net d.nets _ c.in_ok-block.block.place c.index-list-block.result c.list-in-loop-number.ensures.nets c.in_ok-block.ensures.place c.index-list-block.is in
     (d.limits.net c.in_ok-block.block.place c.index-list-block.result at).width
 
-pub add-requires-clause-pieces : goal.add-requires-clause-pieces
-add-requires-clause-pieces c =
-    let d = c.args.design.now in
-    let blocks = c.args.blocks.now in
-    let block = at_place blocks c.loop-number.number c.loop-number-test.true in
-    subst (ArePieces (size_of d.grid)) (sym c.as_slice-pieces.ensures.value) (tested_pieces d (take c.loop-number.number blocks) block.0 c.in_ok-block.block.place c.in_ok-block.block.pieces.items (c.in_ok-block.ensures.tested block.0 block.1))
+pub add-requires-clause-runs : goal.add-requires-clause-runs
+add-requires-clause-runs c = subst (All (IsRun (size_of c.args.design.now.grid))) (sym c.as_slice-runs.ensures.value) c.in_ok-block.ensures.runs
 
-pub add-requires-clause-once : goal.add-requires-clause-once
-add-requires-clause-once c =
+pub add-requires-clause-distinct : goal.add-requires-clause-distinct
+add-requires-clause-distinct c =
     let block = at_place c.args.blocks.now c.loop-number.number c.loop-number-test.true in
-    subst HasNoRepeats (sym c.as_slice-pieces.ensures.value) (c.in_ok-block.ensures.tested block.0 block.1).once
+    subst (λ rs. HasNoRepeats (pieces_of (size_of c.args.design.now.grid) rs)) (sym c.as_slice-runs.ensures.value) (c.in_ok-block.ensures.tested block.0 block.1).once
 
-pub add-requires-clause-room : goal.add-requires-clause-room
-add-requires-clause-room c e =
-    let running = c.loop-number.invariant.running in
-    omega (arith, (small_sums c.args.design.now c.args.grounds.now (take c.loop-number.number c.args.blocks.now) running.0 c.loop-number.sums running.1 running.2).load_limit e)
+pub add-requires-clause-size : goal.add-requires-clause-size
+add-requires-clause-size c = c.loop-number.invariant.running.2.sized
 
 pub add-requires-clause-long : goal.add-requires-clause-long
 add-requires-clause-long c =
@@ -74,12 +65,12 @@ add-requires-clause-long c =
     let block = at_place blocks c.loop-number.number c.loop-number-test.true in
     let tested = c.in_ok-block.ensures.tested block.0 block.1 in
     let running = c.loop-number.invariant.running in
-    let pieces = c.in_ok-block.block.pieces.items in
+    let pieces = pieces_of (size_of d.grid) c.in_ok-block.block.runs.items in
     omega (
       arith,
       (small_sums d c.args.grounds.now (take c.loop-number.number blocks) running.0 c.loop-number.sums running.1 running.2).wire_limit,
       few_pieces (size_of d.grid) pieces tested.once (tested_pieces d (take c.loop-number.number blocks) block.0 c.in_ok-block.block.place pieces tested),
-      ap (length {A = Piece}) c.as_slice-pieces.ensures.value,
+      ap (λ rs. length (pieces_of (size_of d.grid) rs)) c.as_slice-runs.ensures.value,
     )
 
 pub add-requires-clause-count : goal.add-requires-clause-count
@@ -99,11 +90,10 @@ loop-number-preserved c =
     record {
       clear = none_numbered d (block_objections blocks) blocks blocks k block.0 refl c.loop-number-test.true c.loop-number.invariant.clear
           (c.in_ok-block.ensures.stops _ (slice_get-get_or blocks k block.0 c.loop-number-test.true));
-      tables = c.in_ok-block.ensures.tables;
       taken = c.in_ok-block.ensures.taken;
-      running = running_more d c.args.grounds.now blocks k block.0 place c.index-list-block.result _ c.in_ok-block.block.pieces.items c.as_slice-pieces.result.now c.loop-number.sums c.add.new.self
-          block.1 (c.in_ok-block.ensures.tested block.0 block.1) at (slice_get-get_or c.args.grounds.now place _ within) c.as_slice-pieces.ensures.value c.loop-number.invariant.running
-          c.add.ensures.table c.add.ensures.loads c.add.ensures.wirelength c.add.ensures.beyond;
+      running = running_more d c.args.grounds.now blocks k block.0 place c.index-list-block.result _ (pieces_of (size_of d.grid) c.in_ok-block.block.runs.items) (pieces_of (size_of d.grid) c.as_slice-runs.result.now) c.loop-number.sums c.add.new.self
+          block.1 (c.in_ok-block.ensures.tested block.0 block.1) at (slice_get-get_or c.args.grounds.now place _ within) (ap (pieces_of (size_of d.grid)) c.as_slice-runs.ensures.value) c.loop-number.invariant.running
+          c.add.ensures.size c.add.ensures.loads c.add.ensures.wirelength c.add.ensures.beyond;
     }
 
 pub returns-in_err-block-clause-stops : goal.returns-in_err-block-clause-stops

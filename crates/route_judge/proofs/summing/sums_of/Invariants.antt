@@ -5,7 +5,6 @@ use Rattle.grid_base.specs.declared.piece.Piece.{Piece}
 use Rattle.route_judge.specs.Objections.{Finds}
 use Rattle.route_judge.specs.Orders.{block_objections}
 use Rattle.route_judge.specs.RunningMeasures.{AreSums}
-use Rattle.route_judge.specs.Tables.{AreFresh}
 use Rattle.route_judge.specs.TestedBlocks.{AreTaken, AreSetsAfter}
 use Rattle.route_judge.proofs.summing.sums_of.Given as goal
 
@@ -13,7 +12,6 @@ use Rattle.route_judge.proofs.summing.sums_of.Given as goal
 abbrev pub invariant-loop-number : goal.invariant-loop-number
 invariant-loop-number l = record {
   clear : Finds l.design (flat_map (block_objections l.blocks) (take l.number (enumerate_from 0 l.blocks))) None;
-  tables : AreFresh l.design.grid l.number l.tables;
-  taken : AreTaken l.design (take l.number l.blocks) l.tables.taken.items;
+  taken : AreTaken l.design (take l.number l.blocks) l.taken.nets.items;
   running : (trees : List (List Piece)) × AreSetsAfter l.design (take l.number l.blocks) trees × AreSums l.design l.grounds trees l.sums;
 }
