@@ -1,5 +1,4 @@
 pub mod Above
-pub mod Joining
 pub mod Kept
 pub mod FindingParts
 pub mod MadeAndSaid

@@ -30,5 +30,4 @@ pub mod Words
 pub mod Report
 pub mod PricedEdges
 pub mod ShownLists
-pub mod BlockLoads
 pub mod Outcomes

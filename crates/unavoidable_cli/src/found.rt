@@ -13,14 +13,14 @@ ghost use Rattle.unavoidable_cli.specs.ShownLists.{IsShownList};
 use crate::finding::Finding;
 use crate::improved::improve;
 use crate::lists::priced_edges;
-use crate::loads::loads_of_blocks;
 use crate::priced_edge::PricedEdge;
 use crate::shown_list::{ShownList, best_for_bound, best_for_overflow, shown_lists};
 use cert_text::Cert;
 use grid_base::NoMemory;
-use grid_graph::Design;
+use grid_graph::{Design, Ground};
 use hot_cuts::{HotCuts, hot_cuts};
 use judge_cli::GroundedDesign;
+use route_judge::loads_of;
 use route_text::Block;
 use std::alloc::Global;
 use std::thread::Threads;
@@ -28,14 +28,20 @@ use std::thread::Threads;
 /// How often nets and prices answer each other on a cut. More rounds prove hardly more.
 const ROUNDS: u32 = 20;
 
-/// Price lists on the fullest tile edges of routes. The routes' sets and loads are let go.
-fn cuts_of(alloc: Global, design: &Design, blocks: &[Block]) -> Result<HotCuts, NoMemory>
+/// Price lists on the fullest tile edges of routes. The routes' loads are let go.
+fn cuts_of(
+    alloc: Global,
+    design: &Design,
+    grounds: &[Ground],
+    blocks: &[Block],
+) -> Result<HotCuts, NoMemory>
+    requires grounds { AreGrounds design.now.grid design.now.nets grounds.now }
     requires blocks { AreBlocks blocks.now }
     requires routes { AreRoutes design.now blocks.now }
     ensures for_bound { IfOk result (λ cuts. AreEdgePrices design.now.grid cuts.for_bound.items) }
     ensures for_overflow { IfOk result (λ cuts. AreEdgePrices design.now.grid cuts.for_overflow.items) }
 {
-    let loads = loads_of_blocks(alloc, design, blocks)?;
+    let loads = loads_of(alloc, design, grounds, blocks)?;
     hot_cuts(alloc, design, loads.as_slice(), ROUNDS)
 }
 
@@ -70,7 +76,7 @@ pub(crate) fn finding_of<R: Threads + Sync>(
     ensures design { IfOk result (λ finding. finding.design ≡ grounded.design) }
 {
     let GroundedDesign { design, grounds } = grounded;
-    let cuts = cuts_of(alloc, &design, blocks)?;
+    let cuts = cuts_of(alloc, &design, grounds.as_slice(), blocks)?;
     let (first, second) = shown_lists(rt, alloc, &design, grounds.as_slice(), &cuts)?;
     let most = best_for_overflow(first, second);
     let cut = cut_of(alloc, &design, most)?;

@@ -35,7 +35,6 @@ mod found;
 mod improved;
 mod judged;
 mod lists;
-mod loads;
 mod names;
 mod outcome;
 mod priced_edge;
