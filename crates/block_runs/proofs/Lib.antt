@@ -7,5 +7,6 @@ pub mod Counts
 pub mod Lines
 pub mod Merges
 pub mod NetLoads
+pub mod Numbered
 pub mod Sums
 pub mod Together

@@ -14,7 +14,7 @@ use Rattle.block_runs.specs.declared.direction.Direction.{Direction}
 use Rattle.block_runs.specs.declared.direction.Direction.TheVariants.{East, North, Up}
 use Rattle.block_runs.specs.declared.run.Run.{Run}
 use Rattle.block_runs.specs.Lines.{rise, piece_towards, counted_before, line_number}
-use Rattle.block_runs.specs.Merging.{IsPast}
+use Rattle.block_runs.specs.Merging.{IsBehind, IsPast}
 use Rattle.block_runs.specs.Runs.{IsRun, run_number, run_piece}
 
 pub rise-positive : (d : Direction) (s : Size) → 1 ≤ rise d s
@@ -110,8 +110,8 @@ directions s Up East = inr (inr (omega arith))
 directions s Up North = inr (inr (omega arith))
 directions s Up Up = inl refl
 
--- two places, counted line by line, are on one line, or so much as fits on the line of the first is passed at the second
-lines : (m q c p r n : ℕ) → q + c < n → r < n → m * n + q ≤ p * n + r → (m ≡ p) ⊎ (m * n + q + c ≤ p * n + r)
+-- two places, counted line by line, are on one line, or more than fits on the line of the first is passed at the second
+lines : (m q c p r n : ℕ) → q + c < n → r < n → m * n + q ≤ p * n + r → (m ≡ p) ⊎ (m * n + q + c < p * n + r)
 lines m q c p r n first second order =
     ⊎_elim
     (λ (below : m < p). inr (omega (arith, mul-le (m + 1) n p n (omega arith) (omega arith))))
@@ -126,7 +126,7 @@ abbrev part : Direction → ℕ → ℕ → Run
 part d v count = record { direction = d; first = record { 0 = v }; count = count }
 
 -- two runs of one direction, of which the second neither begins on the line of the first behind its begin and up to its end
-past_along : (s : Size) (d : Direction) (v a w b : ℕ) → IsRun s (part d v a) → IsRun s (part d w b) → ((apart : ℕ) → w ≡ v + apart * rise d s → a < apart) → run_number s (part d v a) ≤ run_number s (part d w b) → run_number s (part d v a) + a ≤ run_number s (part d w b)
+past_along : (s : Size) (d : Direction) (v a w b : ℕ) → IsRun s (part d v a) → IsRun s (part d w b) → ((apart : ℕ) → w ≡ v + apart * rise d s → a < apart) → run_number s (part d v a) ≤ run_number s (part d w b) → run_number s (part d v a) + a < run_number s (part d w b)
 past_along s d v a w b first second past order =
     let k = rise d s in
     let n = per_line d s in
@@ -144,22 +144,34 @@ past_along s d v a w b first second past order =
     let steps : w / k * k ≡ v / k * k + apart * k = omega (arith, ap (λ q. q * k) on) in
     let far : a < apart = past apart (omega (arith, mod-add-div' v k, mod-add-div' w k, steps, same)) in
     omega (arith, here, there, rows_same, on, far))
-    (λ (passed : v % k * n + v / k + a ≤ w % k * n + w / k). omega (arith, here, there, passed))
+    (λ (passed : v % k * n + v / k + a < w % k * n + w / k). omega (arith, here, there, passed))
     (lines (v % k) (v / k) a (w % k) (w / k) n one.1 place sorted)
 
--- what doesn't go on with a run and is counted no earlier is counted past its end
-pub run_past : (s : Size) (run next : Run) → IsRun s run → IsRun s next → IsPast s run next → run_number s run ≤ run_number s next → run_number s run + run.count ≤ run_number s next
+-- what doesn't go on with a run and is counted no earlier is counted past its end, and not next behind it
+pub run_past : (s : Size) (run next : Run) → IsRun s run → IsRun s next → IsPast s run next → run_number s run ≤ run_number s next → run_number s run + run.count < run_number s next
 run_past s run next is_run is_next past order =
     let first = run_within s run is_run in
     let second = run_within s next is_next in
     ⊎_elim
     (λ (same : run.direction ≡ next.direction).
     let P : Direction → Type 0 = λ e. IsRun s (part e next.first.0 next.count) → ((apart : ℕ) → (e ≡ run.direction) × (next.first.0 ≡ run.first.0 + apart * rise run.direction s) → run.count < apart)
-    → run_number s run ≤ run_number s (part e next.first.0 next.count) → run_number s run + run.count ≤ run_number s (part e next.first.0 next.count) in
+    → run_number s run ≤ run_number s (part e next.first.0 next.count) → run_number s run + run.count < run_number s (part e next.first.0 next.count) in
     let along : P run.direction = λ is behind up. past_along s run.direction run.first.0 run.count next.first.0 next.count is_run is (λ apart at. behind apart (refl, at)) up in
     subst P same along is_next past order)
     (λ other. ⊎_elim (λ below. omega (arith, below, first.1, second.0)) (λ above. absurd (omega (arith, above, first.0, second.1, order))) other)
     (directions s run.direction next.direction)
+
+-- a run that begins behind another on its line is counted so many pieces behind it
+run_behind : (s : Size) (run next : Run) (apart : ℕ) → IsBehind s run next apart → run_number s next ≡ run_number s run + apart
+run_behind s run next apart behind =
+    ap (λ d. line_number s d next.first.0) behind.0 ∙ ap (line_number s run.direction) behind.1 ∙ line_number-on s run.direction run.first.0 apart
+
+-- runs of which the one is counted past the other's end, and not next behind it, are apart
+pub apart_by_number : (s : Size) (run next : Run) → run_number s run + run.count < run_number s next → IsPast s run next × IsPast s next run
+apart_by_number s run next far = (
+  λ apart behind. omega (arith, far, run_behind s run next apart behind),
+  λ apart behind. absurd (omega (arith, far, run_behind s next run apart behind)),
+)
 
 -- the number of a piece, when all are counted line by line
 number_along : Size → Axis → ℕ → ℕ

@@ -1,5 +1,5 @@
 -- Lists of runs in which neighbours are joined one after another.
-use Rattle.std.proofs.Common.{◌≡◌, ℕ, ◌+◌, ◌-◌, ◌*◌, ◌<◌, ◌≤◌, ◌⊎◌, ◌↔◌, All, List, [], ◌∷◌, ◌++◌, Contains, length, append_assoc, length-append, get_or, take, refl, sym, ◌∙◌, ap, subst, inl, inr, ⊎_elim, arith}
+use Rattle.std.proofs.Common.{◌≡◌, ◌≢◌, ℕ, ◌+◌, ◌-◌, ◌*◌, ◌<◌, ◌≤◌, ◌⊎◌, ◌↔◌, All, List, [], ◌∷◌, ◌++◌, Contains, length, append_assoc, length-append, get_or, take, refl, sym, ◌∙◌, ap, subst, inl, inr, ⊎_elim, arith}
 use Rattle.std.specs.List.Sorted.{IsNonDecreasingBy, IsPermutation}
 use Rattle.std.proofs.lemmas.Bool.{cases_lt}
 use Rattle.std.proofs.lemmas.Grind.{flat_map-append}
@@ -12,13 +12,13 @@ use Rattle.grid_base.specs.declared.piece.Piece.{Piece}
 use Rattle.grid_base.specs.declared.size.Size.{Size}
 use Rattle.grid_base.specs.Lists.{At, HasNoRepeats}
 use Rattle.grid_base.specs.Numbers.{IsPiece}
-use Rattle.grid_base.proofs.Lists.{member_from_place, head_or_rest, Contains-rest}
+use Rattle.grid_base.proofs.Lists.{At-push_cases, member_from_place, head_or_rest, Contains-rest}
 use Rattle.grid_base.proofs.NoRepeats.{HasNoRepeats-push, first_once, rest_once}
 use Rattle.block_runs.specs.declared.run.Run.{Run}
 use Rattle.block_runs.specs.Lines.{rise, piece_towards}
-use Rattle.block_runs.specs.Merging.{AreMerged, Continues, IsBehind, IsPast}
+use Rattle.block_runs.specs.Merging.{AreApart, AreMerged, Continues, IsBehind, IsPast}
 use Rattle.block_runs.specs.Runs.{IsRun, run_piece, run_pieces, pieces_of, run_number}
-use Rattle.block_runs.proofs.Lines.{run_past, piece_number, piece_number-run}
+use Rattle.block_runs.proofs.Lines.{run_past, apart_by_number, piece_number, piece_number-run}
 
 -- the piece is one of the run
 abbrev pub IsOfRun : Size → Run → Piece → Type 0
@@ -110,6 +110,14 @@ run_together s run next count one two on = record {
   each = λ i below. ⊎_elim (of_grid s run one (run_piece s run i)) (of_grid s next two (run_piece s run i)) (together s run next count on (run_piece s run i) (i, below, refl));
 }
 
+-- each run ends before the later ones begin, when all pieces are counted line by line, and a piece at least is between
+abbrev pub AreSpaced : Size → List Run → Type 0
+AreSpaced s runs = (i j : ℕ) (run next : Run) → i < j → At runs i run → At runs j next → run_number s run + run.count < run_number s next
+
+-- so do these before another one
+abbrev pub AreSpacedFrom : Size → List Run → Run → Type 0
+AreSpacedFrom s runs next = (i : ℕ) (run : Run) → At runs i run → run_number s run + run.count < run_number s next
+
 -- so many of the sorted runs are joined: some are kept, and the last may still go on
 pub record IsMerging (s : Size) (sorted : List Run) (i : ℕ) (kept : List Run) (last : Run) : Type 0 where
   pub runs : All (IsRun s) kept
@@ -117,6 +125,8 @@ pub record IsMerging (s : Size) (sorted : List Run) (i : ℕ) (kept : List Run) 
   pub same : (p : Piece) → (Contains (pieces_of s kept) p ⊎ IsOfRun s last p) ↔ Contains (pieces_of s (take i sorted)) p
   pub distinct : HasNoRepeats (pieces_of s kept)
   pub before : (p : Piece) → Contains (pieces_of s kept) p → piece_number s p < run_number s last
+  pub spaced : AreSpaced s kept
+  pub last_spaced : AreSpacedFrom s kept last
   pub later : (d : Run) → run_number s last ≤ run_number s (get_or sorted (i - 1) d)
   pub fewer : length kept + 1 ≤ i
 
@@ -160,9 +170,37 @@ goes_on s sorted kept i count last next up is_run within is merging on = record 
   );
   distinct = merging.distinct;
   before = merging.before;
+  spaced = merging.spaced;
+  last_spaced = merging.last_spaced;
   later = λ d. omega (arith, not_before s sorted kept i last next up within is merging d, at_next s sorted i next d within is);
   fewer = omega (arith, merging.fewer);
 }
+
+spaced_pushed : (s : Size) (kept : List Run) (last : Run) → AreSpaced s kept → AreSpacedFrom s kept last → AreSpaced s (kept ++ last ∷ [])
+spaced_pushed s kept last spaced before i j run next order at_i at_j = ⊎_elim
+    (λ (p : At kept j next). ⊎_elim
+    (λ (q : At kept i run). spaced i j run next order q p)
+    (λ (q : (i ≡ length kept) × (run ≡ last)). absurd (omega (arith, order, q.0, slice_get_within kept j next p)))
+    (At-push_cases kept last run i at_i))
+    (λ (p : (j ≡ length kept) × (next ≡ last)). ⊎_elim
+    (λ (q : At kept i run). omega (arith, before i run q, ap (run_number s) p.1))
+    (λ (q : (i ≡ length kept) × (run ≡ last)). absurd (omega (arith, order, p.0, q.0)))
+    (At-push_cases kept last run i at_i))
+    (At-push_cases kept last next j at_j)
+
+from_next : (s : Size) (kept : List Run) (last next : Run) → AreSpacedFrom s kept last → run_number s last + last.count < run_number s next → AreSpacedFrom s (kept ++ last ∷ []) next
+from_next s kept last next before far i run at = ⊎_elim
+    (λ (p : At kept i run). omega (arith, before i run p, far))
+    (λ (p : (i ≡ length kept) × (run ≡ last)). subst (λ r. run_number s r + r.count < run_number s next) (sym p.1) far)
+    (At-push_cases kept last run i at)
+
+apart_when_spaced : (s : Size) (runs : List Run) → AreSpaced s runs → AreApart s runs
+apart_when_spaced s runs spaced i j run next other at_i at_j = ⊎_elim
+    (λ (below : i < j). (apart_by_number s run next (spaced i j run next below at_i at_j)).0)
+    (λ (above : j ≤ i).
+    let more : j < i = omega (arith, above, other) in
+    (apart_by_number s next run (spaced j i next run more at_j at_i)).1)
+    (cases_lt i j)
 
 -- the last is kept: no piece of it was kept before
 kept_once : (s : Size) (sorted kept : List Run) (i : ℕ) (last : Run) → IsMerging s sorted i kept last → HasNoRepeats (pieces_of s (kept ++ last ∷ []))
@@ -199,9 +237,17 @@ goes_past s sorted kept i last next up is_run within is merging past =
           let at : piece_number s p ≡ run_number s last + one.0 = ap (piece_number s) one.2 ∙ piece_number-run s last one.0 in
           omega (arith, at, one.1, beyond))
           (pushed_pieces s kept last p held);
+      spaced = spaced_pushed s kept last merging.spaced merging.last_spaced;
+      last_spaced = from_next s kept last next merging.last_spaced beyond;
       later = λ d. omega (arith, at_next s sorted i next d within is);
       fewer = omega (arith, merging.fewer, length-append kept (last ∷ []));
     }
+
+none_spaced : (s : Size) → AreSpaced s []
+none_spaced s i j run next order at_i at_j = absurd (omega (arith, slice_get_within [] i run at_i))
+
+none_spaced_from : (s : Size) (next : Run) → AreSpacedFrom s [] next
+none_spaced_from s next i run at = absurd (omega (arith, slice_get_within [] i run at))
 
 -- the first run alone
 pub first_alone : (s : Size) (sorted : List Run) (first : Run) → All (IsRun s) sorted → 0 < length sorted → first ≡ get_or sorted 0 first → IsMerging s sorted 1 [] first
@@ -214,6 +260,8 @@ first_alone s sorted first all some is = record {
   );
   distinct = λ i j p at_i at_j. absurd (omega (arith, slice_get_within [] i p at_i));
   before = λ p none. absurd (omega (arith, none.1));
+  spaced = none_spaced s;
+  last_spaced = none_spaced_from s first;
   later = λ d. omega (arith, ap (run_number s) (is ∙ get_or_default sorted 0 first d some));
   fewer = omega arith;
 }
@@ -228,6 +276,7 @@ all_merged s sorted kept i last all within merging =
         λ held. push_pieces s kept last p ((merging.same p).1 (subst (λ runs. Contains (pieces_of s runs) p) (sym whole) held)),
       );
       distinct = kept_once s sorted kept i last merging;
+      longest = apart_when_spaced s (kept ++ last ∷ []) (spaced_pushed s kept last merging.spaced merging.last_spaced);
       runs = kept_runs s sorted kept i last merging;
       fewer = omega (arith, merging.fewer, within, length-append kept (last ∷ []));
     }
@@ -260,6 +309,7 @@ merged_in_order s given sorted kept moves merged = record {
     λ held. (merged.same p).1 (moved s given sorted p moves held),
   );
   distinct = merged.distinct;
+  longest = merged.longest;
   runs = merged.runs;
   fewer = omega (arith, merged.fewer, length_permutation given sorted moves);
 }

@@ -1,8 +1,8 @@
 -- Runs of one line that overlap or adjoin.
-use Rattle.std.specs.Prelude.{ℕ, ◌+◌, ◌*◌, ◌<◌, ◌≤◌, ◌≡◌, ◌↔◌, max, All, Contains, List, length, Option, Some, None}
+use Rattle.std.specs.Prelude.{ℕ, ◌+◌, ◌*◌, ◌<◌, ◌≤◌, ◌≡◌, ◌≢◌, ◌↔◌, max, All, Contains, List, length, Option, Some, None}
 use Rattle.grid_base.specs.declared.piece.Piece.{Piece}
 use Rattle.grid_base.specs.declared.size.Size.{Size}
-use Rattle.grid_base.specs.Lists.{HasNoRepeats}
+use Rattle.grid_base.specs.Lists.{At, HasNoRepeats}
 use Rattle.block_runs.specs.declared.run.Run.{Run}
 use Rattle.block_runs.specs.Lines.{rise}
 use Rattle.block_runs.specs.Runs.{IsRun, pieces_of}
@@ -27,9 +27,14 @@ abbrev pub IsTogether : Size → Run → Run → Option ℕ → Type 0
 IsTogether s run next (Some count) = Continues s run next count
 IsTogether s run next None = IsPast s run next
 
--- runs of the same pieces, none of which is in two of them, and no more of them
+-- none of the runs begins on the line of another where that one stands or ends, so two of them are never one longer run
+abbrev pub AreApart : Size → List Run → Type 0
+AreApart s runs = (i j : ℕ) (run next : Run) → i ≢ j → At runs i run → At runs j next → IsPast s run next
+
+-- runs of the same pieces, none of which is in two of them, as long as can be, and no more of them
 pub record AreMerged (s : Size) (given kept : List Run) : Type 0 where
   pub same : (p : Piece) → Contains (pieces_of s kept) p ↔ Contains (pieces_of s given) p
   pub distinct : HasNoRepeats (pieces_of s kept)
+  pub longest : AreApart s kept
   pub runs : All (IsRun s) kept
   pub fewer : length kept ≤ length given

@@ -28,6 +28,10 @@ pub record IsRun (s : Size) (run : Run) : Type 0 where
 abbrev pub run_number : Size → Run → ℕ
 run_number s run = line_number s run.direction run.first.0
 
+-- a run beside that number
+abbrev pub numbered : Size → Run → ℕ × Run
+numbered s run = (run_number s run, run)
+
 -- where its last piece ends
 abbrev pub run_end : Size → Run → ℕ
 run_end s run = run.first.0 + run.count * rise run.direction s

@@ -15,10 +15,10 @@
 //!
 //! It stands on `tree_set`, `grid_graph` and `grid_base`. Want of memory alone is a free answer.
 //!
-//! Promised: merged runs have the same pieces, none of them twice; a count is that of the run's edges of the kind; the loads are
-//! those of the sets of the added nets; and where `joins_surely` says so, walks in the runs' pieces join the terminals; a no
-//! promises nothing. Nothing here takes steps for each piece, but for `set_of_runs`, the vias of a stack, and one pass over the
-//! edges of the grid before the first run and behind the last.
+//! Promised: merged runs have the same pieces, none of them twice, and no two of them overlap or adjoin on one line; a count is
+//! that of the run's edges of the kind; the loads are those of the sets of the added nets; and where `joins_surely` says so,
+//! walks in the runs' pieces join the terminals; a no promises nothing. Nothing here takes steps for each piece, but for
+//! `set_of_runs`, the vias of a stack, and one pass over the edges of the grid before the first run and behind the last.
 
 #![tactic(auto)]
 

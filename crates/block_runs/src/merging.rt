@@ -1,9 +1,9 @@
 //! Runs made disjoint and as long as they can be.
 
-ghost use Rattle.std.specs.Prelude.{All, IfOk};
-ghost use Rattle.std.specs.List.Sorted.{IsNonDecreasingBy};
+ghost use Rattle.std.specs.Prelude.{◌≡◌, All, IfOk, map};
+ghost use Rattle.std.specs.List.Sorted.{IsNonDecreasingBy, IsPermutation};
 ghost use Rattle.block_runs.specs.Merging.{AreMerged, IsTogether};
-ghost use Rattle.block_runs.specs.Runs.{IsRun, run_number};
+ghost use Rattle.block_runs.specs.Runs.{IsRun, numbered, run_number};
 
 use crate::run::Run;
 use grid_base::{NoMemory, Size};
@@ -50,13 +50,45 @@ fn join_neighbours(alloc: Global, size: Size, sorted: &[Run]) -> Result<Vec<Run>
     Ok(kept)
 }
 
-/// Runs of the same pieces, none of them twice. They are as long as can be, which no clause says.
+/// Runs beside their numbers, each of which takes three divisions.
+fn numbered_runs(alloc: Global, size: Size, runs: &[Run]) -> Result<Vec<(u64, Run)>, NoMemory>
+    ensures { IfOk result (λ pairs. pairs.items ≡ map (numbered size) runs.now) }
+{
+    let mut pairs = Vec::with_capacity(alloc, runs.len())?;
+    for run in runs {
+        pairs.push((run.direction.line_number(size, run.first), *run))?;
+    }
+    Ok(pairs)
+}
+
+/// The runs of such pairs.
+fn runs_of(alloc: Global, pairs: &[(u64, Run)]) -> Result<Vec<Run>, NoMemory>
+    ensures { IfOk result (λ runs. runs.items ≡ map (λ pair. pair.1) pairs.now) }
+{
+    let mut runs = Vec::with_capacity(alloc, pairs.len())?;
+    for pair in pairs {
+        runs.push(pair.1)?;
+    }
+    Ok(runs)
+}
+
+/// Runs sorted by line and place. The number of each is found once.
+fn in_order(alloc: Global, size: Size, runs: Vec<Run>) -> Result<Vec<Run>, NoMemory>
+    ensures same { IfOk result (λ sorted. IsPermutation runs.items sorted.items) }
+    ensures sorted { IfOk result (λ sorted. IsNonDecreasingBy (run_number size) sorted.items) }
+{
+    let mut pairs = numbered_runs(alloc, size, runs.as_slice())?;
+    pairs.sort_unstable_by_key(|pair| pair.0);
+    runs_of(alloc, pairs.as_slice())
+}
+
+/// Runs of the same pieces, none of them twice, as long as can be.
 ///
 /// Takes about `n log n` steps for n runs, however long they are.
-pub fn merged(alloc: Global, size: Size, mut runs: Vec<Run>) -> Result<Vec<Run>, NoMemory>
+pub fn merged(alloc: Global, size: Size, runs: Vec<Run>) -> Result<Vec<Run>, NoMemory>
     requires runs { All (IsRun size) runs.items }
     ensures { IfOk result (λ kept. AreMerged size runs.items kept.items) }
 {
-    runs.sort_unstable_by_key(|run| run.direction.line_number(size, run.first));
-    join_neighbours(alloc, size, runs.as_slice())
+    let sorted = in_order(alloc, size, runs)?;
+    join_neighbours(alloc, size, sorted.as_slice())
 }

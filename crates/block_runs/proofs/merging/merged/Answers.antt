@@ -1,9 +1,9 @@
-use Rattle.std.proofs.Common.{All, Global, List, Result, Ok, Err, Vec, sym, subst, rules}
+use Rattle.std.proofs.Common.{All, Global, List, Result, Ok, Err, Vec, sym, subst}
 use Rattle.std.specs.List.Sorted.{IsNonDecreasingBy, IsPermutation}
 use Rattle.std.specs.Prelude.{IfOk}
+use Rattle.std.proofs.lemmas.List.Sorted.{All-permutation}
 use Rattle.grid_base.specs.declared.no_memory.NoMemory.{NoMemory}
 use Rattle.grid_base.specs.declared.size.Size.{Size}
-use Rattle.std.proofs.lemmas.List.Sorted.{All-permutation, IsNonDecreasingBy-from_sort_by_key}
 use Rattle.block_runs.specs.declared.run.Run.{Run}
 use Rattle.block_runs.specs.Merging.{AreMerged}
 use Rattle.block_runs.specs.Runs.{IsRun, run_number}
@@ -13,12 +13,11 @@ use Rattle.block_runs.proofs.merging.merged.Goals as goal
 pub join_neighbours-requires-clause-runs : goal.join_neighbours-requires-clause-runs
 join_neighbours-requires-clause-runs c =
     subst (λ runs. All (IsRun c.args.size) runs) (sym c.as_slice.ensures.value)
-    (All-permutation (IsRun c.args.size) c.args.runs.items c.sort_unstable_by_key.new.self.items c.sort_unstable_by_key.ensures.permutation c.requires.runs)
+    (All-permutation (IsRun c.args.size) c.args.runs.items c.in_ok-sorted.sorted.items c.in_ok-sorted.ensures.same c.requires.runs)
 
 pub join_neighbours-requires-clause-sorted : goal.join_neighbours-requires-clause-sorted
 join_neighbours-requires-clause-sorted c =
-    subst (λ runs. IsNonDecreasingBy (run_number c.args.size) runs) (sym c.as_slice.ensures.value)
-    (IsNonDecreasingBy-from_sort_by_key (run_number c.args.size) _ c.sort_unstable_by_key.ensures.sorted (λ a r q k. search rules))
+    subst (λ runs. IsNonDecreasingBy (run_number c.args.size) runs) (sym c.as_slice.ensures.value) c.in_ok-sorted.ensures.sorted
 
 ordered : (s : Size) (given sorted : List Run) (result : Result (Vec Run Global) NoMemory) → IsPermutation given sorted → IfOk result (λ kept. AreMerged s sorted kept.items) → IfOk result (λ kept. AreMerged s given kept.items)
 ordered s given sorted (Ok kept) moves merged = merged_in_order s given sorted kept.items moves merged
@@ -26,5 +25,5 @@ ordered s given sorted (Err e) moves merged = tt
 
 pub returns : goal.returns
 returns c =
-    ordered c.args.size c.args.runs.items c.sort_unstable_by_key.new.self.items c.join_neighbours.result c.sort_unstable_by_key.ensures.permutation
+    ordered c.args.size c.args.runs.items c.in_ok-sorted.sorted.items c.join_neighbours.result c.in_ok-sorted.ensures.same
     (subst (λ runs. IfOk c.join_neighbours.result (λ kept. AreMerged c.args.size runs kept.items)) c.as_slice.ensures.value c.join_neighbours.ensures)
