@@ -31,4 +31,5 @@ kind_count g k pieces = count_by (is_of_kind g k) pieces
 pub record AreCounts (g : Grid) (k : Kind) (direction : Direction) (counts : List ℕ) : Type 0 where
   pub long : length counts ≡ vertices (size_of g)
   pub small : (v : ℕ) → slice_index counts v ≤ v
-  pub next : (v : ℕ) → v + rise direction (size_of g) < vertices (size_of g) → slice_index counts (v + rise direction (size_of g)) ≡ slice_index counts v + cond (is_of_kind g k (piece_towards direction v)) 1 0
+  pub next : (v : ℕ) → v + rise direction (size_of g) < vertices (size_of g)
+      → slice_index counts (v + rise direction (size_of g)) ≡ slice_index counts v + cond (is_of_kind g k (piece_towards direction v)) 1 0

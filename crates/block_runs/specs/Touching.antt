@@ -27,7 +27,8 @@ first_of runs i = (slice_index_or runs i no_run).first.0
 
 -- walks in the pieces lead from each vertex of a list to that of its parent
 abbrev pub AreChained : Size → List Piece → (ℕ → ℕ) → Groups → Type 0
-AreChained s pieces at groups = (i : ℕ) → i < length groups.parents.items → WalkBetween s (InPieces pieces) (at i) (at (slice_index groups.parents.items i))
+AreChained s pieces at groups =
+    (i : ℕ) → i < length groups.parents.items → WalkBetween s (InPieces pieces) (at i) (at (slice_index groups.parents.items i))
 
 -- walks in the runs' pieces lead from the begin of each run to that of its parent
 pub record AreGroups (s : Size) (runs : List Run) (groups : Groups) : Type 0 where

@@ -6,8 +6,8 @@ use std::collections::{BTreeMap, BTreeSet};
 
 /// The runs of columns that the row of a sweep crosses or touches, in stretches whose runs are known to be joined.
 ///
-/// A run that enters splits at most one stretch, so over a sweep there are at most three times as many stretches as runs (Imai and
-/// Asano, Finding the connected components and a maximum clique of an intersection graph of rectangles in the plane, 1983).
+/// A run that enters splits at most one stretch, so over a sweep there are at most three times as many stretches as runs (Imai
+/// and Asano, Finding the connected components and a maximum clique of an intersection graph of rectangles in the plane, 1983).
 #[derive(Drop)]
 pub(crate) struct Columns {
     runs: BTreeMap<u32, usize>,

@@ -40,8 +40,10 @@ impl Groups {
         requires { i < length self.old.parents.items }
         ensures within { result ≤ i }
         ensures long { length self.new.parents.items ≡ length self.old.parents.items }
-        ensures joined { (s : Size) (pieces : List Piece) (at : ℕ → ℕ) → AreChained s pieces at self.old → WalkBetween s (InPieces pieces) (at i) (at result) }
-        ensures chained { (s : Size) (pieces : List Piece) (at : ℕ → ℕ) → AreChained s pieces at self.old → AreChained s pieces at self.new }
+        ensures joined { (s : Size) (pieces : List Piece) (at : ℕ → ℕ) → AreChained s pieces at self.old
+            → WalkBetween s (InPieces pieces) (at i) (at result) }
+        ensures chained { (s : Size) (pieces : List Piece) (at : ℕ → ℕ) → AreChained s pieces at self.old
+            → AreChained s pieces at self.new }
     {
         let mut root = i;
         while self.parents[root] != root {
@@ -57,7 +59,8 @@ impl Groups {
         requires i { i < length self.old.parents.items }
         requires j { j < length self.old.parents.items }
         ensures long { length self.new.parents.items ≡ length self.old.parents.items }
-        ensures chained { (s : Size) (pieces : List Piece) (at : ℕ → ℕ) → WalkBetween s (InPieces pieces) (at i) (at j) → AreChained s pieces at self.old → AreChained s pieces at self.new }
+        ensures chained { (s : Size) (pieces : List Piece) (at : ℕ → ℕ) → WalkBetween s (InPieces pieces) (at i) (at j)
+            → AreChained s pieces at self.old → AreChained s pieces at self.new }
     {
         let one = self.root(i);
         let other = self.root(j);

@@ -68,8 +68,8 @@ fn are_in_one_group(
     true
 }
 
-/// Whether it is sure that walks in the runs' pieces lead from each of the terminals to each other one. No promise goes with a no,
-/// which is meant to be right where the runs are merged.
+/// Whether it is sure that walks in the runs' pieces lead from each of the terminals to each other one. No promise goes with a
+/// no, which is meant to be right where the runs are merged.
 ///
 /// Takes about n log n steps for n runs and terminals, however long the runs are and however often they cross.
 pub fn joins_surely(

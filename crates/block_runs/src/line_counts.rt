@@ -59,7 +59,8 @@ impl<'a> LineCounts<'a> {
     /// Whether one of some runs has an edge of the kind.
     pub fn has_any(&self, runs: &[Run]) -> bool
         requires { All (IsRun (size_of self.now.grid.now)) runs.now }
-        ensures { result ≡ list_any (is_of_kind self.now.grid.now self.now.kind) (pieces_of (size_of self.now.grid.now) runs.now) }
+        ensures { result
+            ≡ list_any (is_of_kind self.now.grid.now self.now.kind) (pieces_of (size_of self.now.grid.now) runs.now) }
     {
         for run in runs {
             if self.count(*run) > 0 {

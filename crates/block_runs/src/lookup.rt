@@ -17,8 +17,8 @@ pub(crate) fn numbers_of(alloc: Global, size: Size, runs: &[Run]) -> Result<Vec<
     Ok(numbers)
 }
 
-/// The number in the list of a run of this direction that has the vertex. Where the runs are merged, and these are the numbers of
-/// their first pieces, it is found if there is one.
+/// The number in the list of a run of this direction that has the vertex. Where the runs are merged, and these are the numbers
+/// of their first pieces, it is found if there is one.
 pub(crate) fn run_with(
     size: Size,
     runs: &[Run],
