@@ -68,81 +68,44 @@ fn trial_shown(alloc: Global, request: &TrialRequest) -> Result<String, AllocErr
     format!(in alloc; "trial {seed} {cols} {rows} {layers} {nets}")
 }
 
+/// Words, and behind a bar what they are read as.
+///
+/// `route`: the names, the workers, the phases, the rounds, the seed, and the budget or 0. `make` and `trial`: the name or the
+/// seed, then the rest in the order seed, cols, rows, layers, nets.
+const COMMANDS: &str = "route a b c|route a b c 1 4 4 0 0
+route in.gr x/y.routes z-|route in.gr x/y.routes z- 1 4 4 0 0
+route 1 2 3 --workers 2|route 1 2 3 2 4 4 0 0
+route a b c --workers 1 --phases 1 --rounds 0 --seed 0 --budget 1|route a b c 1 1 0 0 1
+route a b c --workers 8 --phases 16 --rounds 16 --seed 18446744073709551615 --budget 4398046511104|route a b c 8 16 16 18446744073709551615 4398046511104
+route a b c --budget 4 --seed 7 --rounds 3 --phases 6 --workers 5|route a b c 5 6 3 7 4
+route a b c --seed 3 --workers 1|route a b c 1 4 4 3 0
+route a b c --rounds 5|route a b c 1 4 5 0 0
+route a b c --workers 008|route a b c 8 4 4 0 0
+route a b c --seed 00000000000000000009|route a b c 1 4 4 9 0
+route route a+ =b|route route a+ =b 1 4 4 0 0
+route a b workers --seed 0|route a b workers 1 4 4 0 0
+measure a b|measure a b
+measure measure in.gr|measure measure in.gr
+judge a b c|judge a b c
+judge 1 2 seed|judge 1 2 seed
+make a|make a 0 16 16 4 200
+make make|make make 0 16 16 4 200
+make a --seed 0 --cols 2 --rows 2 --layers 2 --nets 0|make a 0 2 2 2 0
+make a --seed 18446744073709551615 --cols 1024 --rows 1024 --layers 8 --nets 1048576|make a 18446744073709551615 1024 1024 8 1048576
+make a --nets 7 --layers 3 --rows 5 --cols 6 --seed 4|make a 4 6 5 3 7
+make a --rows 00000000000000000005|make a 0 16 5 4 200
+trial 0|trial 0 16 16 4 200
+trial 007|trial 7 16 16 4 200
+trial 18446744073709551615|trial 18446744073709551615 16 16 4 200
+trial 00000000000000000042 --layers 2|trial 42 16 16 2 200
+trial 1 --cols 2 --rows 2 --layers 2 --nets 0|trial 1 2 2 2 0
+trial 1 --cols 1024 --rows 1024 --layers 8 --nets 1048576|trial 1 1024 1024 8 1048576
+trial 12 --nets 7 --layers 3 --rows 5 --cols 6|trial 12 6 5 3 7";
+
 #[test]
 fn commands_are_read(rt: HostRuntime) -> Result<(), Fail> {
-    // route: the names, the workers, the phases, the rounds, the seed, and the budget or 0.
-    // make and trial: the name or the seed, then the rest in the order seed, cols, rows, layers, nets.
-    let cases: [(&str, &str); 29] = [
-        ("route a b c", "route a b c 1 4 4 0 0"),
-        (
-            "route in.gr x/y.routes z-",
-            "route in.gr x/y.routes z- 1 4 4 0 0",
-        ),
-        ("route 1 2 3 --workers 2", "route 1 2 3 2 4 4 0 0"),
-        (
-            "route a b c --workers 1 --phases 1 --rounds 0 --seed 0 --budget 1",
-            "route a b c 1 1 0 0 1",
-        ),
-        (
-            "route a b c --workers 8 --phases 16 --rounds 16 --seed 18446744073709551615 --budget 4398046511104",
-            "route a b c 8 16 16 18446744073709551615 4398046511104",
-        ),
-        (
-            "route a b c --budget 4 --seed 7 --rounds 3 --phases 6 --workers 5",
-            "route a b c 5 6 3 7 4",
-        ),
-        ("route a b c --seed 3 --workers 1", "route a b c 1 4 4 3 0"),
-        ("route a b c --rounds 5", "route a b c 1 4 5 0 0"),
-        ("route a b c --workers 008", "route a b c 8 4 4 0 0"),
-        (
-            "route a b c --seed 00000000000000000009",
-            "route a b c 1 4 4 9 0",
-        ),
-        ("route route a+ =b", "route route a+ =b 1 4 4 0 0"),
-        ("route a b workers --seed 0", "route a b workers 1 4 4 0 0"),
-        ("measure a b", "measure a b"),
-        ("measure measure in.gr", "measure measure in.gr"),
-        ("judge a b c", "judge a b c"),
-        ("judge 1 2 seed", "judge 1 2 seed"),
-        ("make a", "make a 0 16 16 4 200"),
-        ("make make", "make make 0 16 16 4 200"),
-        (
-            "make a --seed 0 --cols 2 --rows 2 --layers 2 --nets 0",
-            "make a 0 2 2 2 0",
-        ),
-        (
-            "make a --seed 18446744073709551615 --cols 1024 --rows 1024 --layers 8 --nets 1048576",
-            "make a 18446744073709551615 1024 1024 8 1048576",
-        ),
-        (
-            "make a --nets 7 --layers 3 --rows 5 --cols 6 --seed 4",
-            "make a 4 6 5 3 7",
-        ),
-        ("make a --rows 00000000000000000005", "make a 0 16 5 4 200"),
-        ("trial 0", "trial 0 16 16 4 200"),
-        ("trial 007", "trial 7 16 16 4 200"),
-        (
-            "trial 18446744073709551615",
-            "trial 18446744073709551615 16 16 4 200",
-        ),
-        (
-            "trial 00000000000000000042 --layers 2",
-            "trial 42 16 16 2 200",
-        ),
-        (
-            "trial 1 --cols 2 --rows 2 --layers 2 --nets 0",
-            "trial 1 2 2 2 0",
-        ),
-        (
-            "trial 1 --cols 1024 --rows 1024 --layers 8 --nets 1048576",
-            "trial 1 1024 1024 8 1048576",
-        ),
-        (
-            "trial 12 --nets 7 --layers 3 --rows 5 --cols 6",
-            "trial 12 6 5 3 7",
-        ),
-    ];
-    for (line, want) in cases {
+    for case in COMMANDS.split('\n') {
+        let (line, want) = case.split_once('|').ok_or("bar")?;
         let words = cut(rt.alloc(), line)?;
         let found = shown(rt.alloc(), words.as_slice())?;
         assert_eq!(rt; found.as_str(), want);
@@ -150,131 +113,139 @@ fn commands_are_read(rt: HostRuntime) -> Result<(), Fail> {
     Ok(())
 }
 
+/// Words that are refused, a line each; the first line is empty.
+const REFUSED: &str = "
+route
+Route a b c
+rout a b c
+routes a b c
+--help
+--version
+help
+eco a b c
+route --help
+route a b
+route a b c d
+route a a c
+route a b a
+route a b b
+route  b c
+route a  c
+route -a b c
+route a - c
+route a b --help
+route a b c --help
+route a b c --version
+route a b c -h
+route a b c --
+route a b c -- --seed 1
+route a b c --seed
+route a b c --seed=2
+route a b c --workers=2
+route a b c --work 2
+route a b c -workers 2
+route a b c workers 2
+route a b c --cols 2
+route a b c --seed 1 --seed 1
+route a b c --seed 1 --budget 2 --seed 3
+route a b c --seed +3
+route a b c --seed -1
+route a b c --seed 1x
+route --seed 1 a b c
+route a b --seed 1 c
+route a b c --seed 000000000000000000001
+route a b c --seed 18446744073709551616
+route a b c --seed 99999999999999999999
+route a b c --workers 0
+route a b c --workers 9
+route a b c --phases 0
+route a b c --phases 17
+route a b c --rounds 17
+route a b c --budget 0
+route a b c --budget 4398046511105
+measure
+measure a
+measure a a
+measure a b c
+measure  b
+measure -a b
+measure a -
+measure a b --seed 1
+measure a b --
+measure a b --help
+measure --version
+judge
+judge a b
+judge a b a
+judge a a c
+judge a b b
+judge a b c d
+judge a b -
+judge  b c
+judge a b c --workers 1
+judge a b c --help
+make
+make -a
+make a b
+make a --workers 1
+make a --budget 1
+make a --seed 1 --seed 1
+make a --col 3
+make a --cols=3
+make a --cols +3
+make a --cols -1
+make a --nets
+make a --nets 000000000000000000001
+make a --seed 18446744073709551616
+make a --cols 1
+make a --cols 1025
+make a --rows 1
+make a --rows 1025
+make a --layers 1
+make a --layers 9
+make a --nets 1048577
+trial
+trial x
+trial 1x
+trial +3
+trial -1
+trial 18446744073709551616
+trial 99999999999999999999
+trial 000000000000000000007
+trial 1 2
+trial 1 --seed 1
+trial 1 --workers 1
+trial --help
+trial --cols 2 1
+trial 1 --cols 2 --cols 2
+trial 1 --cols 1
+trial 1 --cols 1025
+trial 1 --rows 1
+trial 1 --rows 1025
+trial 1 --layers 1
+trial 1 --layers 9
+trial 1 --nets 1048577";
+
+/// Words that are refused with an empty word behind them, a line each.
+const REFUSED_WITH_AN_EMPTY_WORD: &str = "route a b
+route a b c --seed
+route a b c --seed 1
+measure a
+make
+trial";
+
 #[test]
 fn other_words_are_refused(rt: HostRuntime) -> Result<(), Fail> {
-    let cases: [&str; 117] = [
-        "",
-        "route",
-        "Route a b c",
-        "rout a b c",
-        "routes a b c",
-        "--help",
-        "--version",
-        "help",
-        "eco a b c",
-        "route --help",
-        "route a b",
-        "route a b c d",
-        "route a a c",
-        "route a b a",
-        "route a b b",
-        "route  b c",
-        "route a  c",
-        "route a b ",
-        "route -a b c",
-        "route a - c",
-        "route a b --help",
-        "route a b c --help",
-        "route a b c --version",
-        "route a b c -h",
-        "route a b c --",
-        "route a b c -- --seed 1",
-        "route a b c --seed",
-        "route a b c --seed=2",
-        "route a b c --workers=2",
-        "route a b c --work 2",
-        "route a b c -workers 2",
-        "route a b c workers 2",
-        "route a b c --cols 2",
-        "route a b c --seed 1 --seed 1",
-        "route a b c --seed 1 --budget 2 --seed 3",
-        "route a b c --seed +3",
-        "route a b c --seed -1",
-        "route a b c --seed 1x",
-        "route a b c --seed ",
-        "route a b c --seed 1 ",
-        "route --seed 1 a b c",
-        "route a b --seed 1 c",
-        "route a b c --seed 000000000000000000001",
-        "route a b c --seed 18446744073709551616",
-        "route a b c --seed 99999999999999999999",
-        "route a b c --workers 0",
-        "route a b c --workers 9",
-        "route a b c --phases 0",
-        "route a b c --phases 17",
-        "route a b c --rounds 17",
-        "route a b c --budget 0",
-        "route a b c --budget 4398046511105",
-        "measure",
-        "measure a",
-        "measure a a",
-        "measure a b c",
-        "measure  b",
-        "measure a ",
-        "measure -a b",
-        "measure a -",
-        "measure a b --seed 1",
-        "measure a b --",
-        "measure a b --help",
-        "measure --version",
-        "judge",
-        "judge a b",
-        "judge a b a",
-        "judge a a c",
-        "judge a b b",
-        "judge a b c d",
-        "judge a b -",
-        "judge  b c",
-        "judge a b c --workers 1",
-        "judge a b c --help",
-        "make",
-        "make ",
-        "make -a",
-        "make a b",
-        "make a --workers 1",
-        "make a --budget 1",
-        "make a --seed 1 --seed 1",
-        "make a --col 3",
-        "make a --cols=3",
-        "make a --cols +3",
-        "make a --cols -1",
-        "make a --nets",
-        "make a --nets 000000000000000000001",
-        "make a --seed 18446744073709551616",
-        "make a --cols 1",
-        "make a --cols 1025",
-        "make a --rows 1",
-        "make a --rows 1025",
-        "make a --layers 1",
-        "make a --layers 9",
-        "make a --nets 1048577",
-        "trial",
-        "trial ",
-        "trial x",
-        "trial 1x",
-        "trial +3",
-        "trial -1",
-        "trial 18446744073709551616",
-        "trial 99999999999999999999",
-        "trial 000000000000000000007",
-        "trial 1 2",
-        "trial 1 --seed 1",
-        "trial 1 --workers 1",
-        "trial --help",
-        "trial --cols 2 1",
-        "trial 1 --cols 2 --cols 2",
-        "trial 1 --cols 1",
-        "trial 1 --cols 1025",
-        "trial 1 --rows 1",
-        "trial 1 --rows 1025",
-        "trial 1 --layers 1",
-        "trial 1 --layers 9",
-        "trial 1 --nets 1048577",
-    ];
-    for line in cases {
+    for line in REFUSED.split('\n') {
         let words = cut(rt.alloc(), line)?;
         let found = shown(rt.alloc(), words.as_slice())?;
         assert!(rt; found.as_str() == "refused", "{line}");
+    }
+    for line in REFUSED_WITH_AN_EMPTY_WORD.split('\n') {
+        let mut words = cut(rt.alloc(), line)?;
+        words.push(String::from_str(rt.alloc(), "")?)?;
+        let found = shown(rt.alloc(), words.as_slice())?;
+        assert!(rt; found.as_str() == "refused", "{line} and an empty word");
     }
     let none = Vec::new(rt.alloc());
     let found = shown(rt.alloc(), none.as_slice())?;
