@@ -31,7 +31,7 @@ pub run-said : (sources : List Source) (IsRight : Answer → Type 0) (a b c : To
     → IsAnsweredRun sources IsRight a c status
 run-said sources IsRight a b c status answer apart inputs accepted right reads calm says =
     run-left sources [] (SaysRight IsRight) a b c status (answer_outcome answer) inputs tt accepted (answer, right, refl) reads
-        calm (leaves-answer answer b c status says)
+    calm (leaves-answer answer b c status says)
 
 -- a run that was refused
 pub run-not_said : (sources : List Source) (IsRight : Answer → Type 0) (a b c : Told) (status n : ℕ) (r : Refusal)

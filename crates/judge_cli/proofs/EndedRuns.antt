@@ -63,7 +63,7 @@ touches-then read made a b c inputs outputs reads touches still = record {
   inputs = λ p at.
       let same : c.ports p ≡ b.ports p =
       touches.others p (none_in p) (λ in_made. made_not_read read made p inputs outputs in_made at)
-          (λ is. report_not_read read inputs (subst (λ (x : Port). Contains (ports_of read) x) is at)) in
+      (λ is. report_not_read read inputs (subst (λ (x : Port). Contains (ports_of read) x) is at)) in
       rw same (reads.inputs p at);
   outputs = λ p at. subst (λ (x : PortTold). c.ports p ≡ but_for_output x (c.ports p))
       (reads.others p (made_not_read read made p inputs outputs at)) (touches.outputs p at);

@@ -87,7 +87,7 @@ run-unbegun : (read made : List Source) (IsRight : RunOutcome → Type 0) (a c :
     → (¬ OutputFailed a c → Adds a c Report (lines_of NoMemory)) → IsCommandRun read made IsRight a c status
 run-unbegun read made IsRight a c status n inputs outputs is part whole =
     run-refused read made IsRight a a c status n NoMemory inputs outputs (cause-unbegun read a) (reads-nothing read a)
-        (λ _. refl) is part whole
+    (λ _. refl) is part whole
 
 -- a run on words that are no command
 run-no_command : (a c : Told) (status n : ℕ) (r : Refusal) → (r ≡ NoCommand) ⊎ (r ≡ NoMemory)

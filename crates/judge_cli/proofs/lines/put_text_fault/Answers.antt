@@ -14,7 +14,7 @@ returns-in-Some-clause-puts g c =
     let number = rw (c.from.ensures, c.number.ensures) at c.put_fields.ensures.puts in
     let IsPut : List ℕ → Type 0 = Puts (pen_told told c.args.pen.now) (pen_told told c.put_fields-in-Some.new.pen) in
     subst IsPut (fields-then (slice_index (text_fault_fields fault) 0) (c.in-Some.at ∷ []) ∙ ap fields
-        (with-place fault c.in-Some.at (sym c.place.ensures ∙ c.in-Some.is)))
+    (with-place fault c.in-Some.at (sym c.place.ensures ∙ c.in-Some.is)))
     (puts-then number c.put_fields-in-Some.ensures.puts)
 
 pub returns-in-None-clause-puts : goal.returns-in-None-clause-puts
@@ -23,4 +23,4 @@ returns-in-None-clause-puts g c =
     let fault = c.args.fault in
     let number = rw (c.from.ensures, c.number.ensures) at c.put_fields.ensures.puts in
     subst (Puts (pen_told told c.args.pen.now) (pen_told told c.put_fields.new.pen))
-        (ap fields (without-place fault (sym c.place.ensures ∙ c.in-None.is))) number
+    (ap fields (without-place fault (sym c.place.ensures ∙ c.in-None.is))) number

@@ -22,14 +22,14 @@ returns-in-Ok g c =
     let line = made_line q.shape.nets in
     let shape = c.shape_of-shape.ensures.shape in
     let makes = subst (λ (s : Shape). Makes a b DesignOut q.output (made_text q.seed s) c.make_design.result) shape
-        c.make_design.ensures in
+    c.make_design.ensures in
     let says = subst (λ (s : Shape). SaysDone (made_line s.nets) b d c.say_made.result) shape c.say_made.ensures in
     let leaves : Leaves (make_files q) (made_outcome q) a d c.say_made.result =
     leaves-file (record { port = DesignOut; name = q.output }) [] text (record { texts = []; report = line; objects = false })
-        a b d c.say_made.result c.make_design.result
+    a b d c.say_made.result c.make_design.result
     (make-outputs q) (rw c.in-Ok.is refl) makes (leaves-text line b d c.say_made.result says) in
     run-left [] (make_files q) (λ outcome. outcome ≡ made_outcome q) a a d c.say_made.result (made_outcome q) tt
-        (make-outputs q) tt refl (reads-nothing [] a) refl leaves
+    (make-outputs q) tt refl (reads-nothing [] a) refl leaves
 
 pub returns-in-Err : goal.returns-in-Err
 returns-in-Err g c =
@@ -41,10 +41,10 @@ returns-in-Err g c =
     let text = made_text q.seed q.shape in
     let said = c.say_unwritten.ensures in
     let makes = subst (λ (s : Shape). Makes a b DesignOut q.output (made_text q.seed s) c.make_design.result)
-        c.shape_of-shape.ensures.shape c.make_design.ensures in
+    c.shape_of-shape.ensures.shape c.make_design.ensures in
     let leaves : Leaves (make_files q) (made_outcome q) a d c.say_unwritten.result =
     leaves-unmade (record { port = DesignOut; name = q.output }) [] text [] (made_line q.shape.nets) a b d
-        c.say_unwritten.result said.part.0 c.make_design.result
+    c.say_unwritten.result said.part.0 c.make_design.result
     (make-outputs q) (rw c.in-Err.is refl) makes said.status said.part.1 said.whole in
     run-left [] (make_files q) (λ outcome. outcome ≡ made_outcome q) a a d c.say_unwritten.result (made_outcome q) tt
-        (make-outputs q) tt refl (reads-nothing [] a) refl leaves
+    (make-outputs q) tt refl (reads-nothing [] a) refl leaves

@@ -15,8 +15,8 @@ returns-in-Ok g c =
     leaves-file (record { port = CertOut; name = q.cert }) [] (cert_text r.cert) (record (routed_outcome r) { texts = [] })
     (told c.args.desk.now) (told c.make_cert.new.desk) (told c.report.new.desk) c.report.result c.make_cert.result
     (cert-output q.cert) (rw c.in-Ok.is refl) c.make_cert.ensures
-        (leaves-text (routed_outcome r).report (told c.make_cert.new.desk) (told c.report.new.desk) c.report.result
-            c.report.ensures)
+    (leaves-text (routed_outcome r).report (told c.make_cert.new.desk) (told c.report.new.desk) c.report.result
+    c.report.ensures)
 
 pub returns-in-Err : goal.returns-in-Err
 returns-in-Err g c =
@@ -26,5 +26,5 @@ returns-in-Err g c =
     let said = c.say_unwritten.ensures in
     leaves-unmade (record { port = CertOut; name = q.cert }) [] (cert_text r.cert) [] (routed_outcome r).report
     (told c.args.desk.now) (told c.make_cert.new.desk) (told c.say_unwritten.new.desk) c.say_unwritten.result said.part.0
-        c.make_cert.result
+    c.make_cert.result
     (cert-output q.cert) (rw c.in-Err.is refl) c.make_cert.ensures said.status said.part.1 said.whole

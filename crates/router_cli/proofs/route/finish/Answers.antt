@@ -27,7 +27,7 @@ returns-in-Ok g c =
     let q = task_of c.args.request.now in
     let r = c.args.routed.now in
     leaves-file (record { port = RoutesOut; name = q.routes }) (record { port = CertOut; name = q.cert } ∷ [])
-        (routes_text r.design.grid r.design.nets r.trees) (record (routed_outcome r) { texts = cert_text r.cert ∷ [] })
+    (routes_text r.design.grid r.design.nets r.trees) (record (routed_outcome r) { texts = cert_text r.cert ∷ [] })
     (told c.args.desk.now) (told c.make_routes.new.desk) (told c.certify.new.desk) c.certify.result c.make_routes.result
     (route-outputs q) (rw c.in-Ok.is refl) (rw c.list.ensures at c.make_routes.ensures) c.certify.ensures
 
@@ -38,7 +38,7 @@ returns-in-Err g c =
     let r = c.args.routed.now in
     let said = c.say_unwritten.ensures in
     leaves-unmade (record { port = RoutesOut; name = q.routes }) (record { port = CertOut; name = q.cert } ∷ [])
-        (routes_text r.design.grid r.design.nets r.trees) (cert_text r.cert ∷ []) (routed_outcome r).report
+    (routes_text r.design.grid r.design.nets r.trees) (cert_text r.cert ∷ []) (routed_outcome r).report
     (told c.args.desk.now) (told c.make_routes.new.desk) (told c.say_unwritten.new.desk) c.say_unwritten.result said.part.0
-        c.make_routes.result
+    c.make_routes.result
     (route-outputs q) (rw c.in-Err.is refl) (rw c.list.ensures at c.make_routes.ensures) said.status said.part.1 said.whole

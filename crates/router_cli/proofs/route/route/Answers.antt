@@ -18,11 +18,11 @@ returns-in-Ok g c =
     let d = r.design in
     let is_true : IsRoutedDesign q.settings r = rw c.settings_of-settings.ensures at done.routed in
     run-left (design_source q.input) (route_files q) (IsRouteOutcome q.input q.settings (told c.args.desk.now))
-        (told c.args.desk.now) (told c.prepare.new.desk) (told c.finish.new.desk) c.finish.result (routed_outcome r)
+    (told c.args.desk.now) (told c.prepare.new.desk) (told c.finish.new.desk) c.finish.result (routed_outcome r)
     (refl, tt) (route-outputs q)
     ((λ bytes under. (d, done.named bytes under, routed_reachable d.grid d.nets r.trees is_true.routing)), tt)
     (record { routed = r; named = done.named; is_true = is_true; outcome_is = refl }) done.reads.reads
-        (done.reads.quiet (λ h. cc)) c.finish.ensures
+    (done.reads.quiet (λ h. cc)) c.finish.ensures
 
 pub returns-in-Err : goal.returns-in-Err
 returns-in-Err g c =
@@ -31,7 +31,7 @@ returns-in-Err g c =
     let r = c.in-Err.refusal in
     let failed = c.in-Err.ensures.reads in
     run-refused (design_source q.input) (route_files q) (IsRouteOutcome q.input q.settings (told c.args.desk.now))
-        (told c.args.desk.now) (told c.prepare.new.desk) (told c.refuse.new.desk) c.refuse.result c.refuse.ensures.part.0 r
+    (told c.args.desk.now) (told c.prepare.new.desk) (told c.refuse.new.desk) c.refuse.result c.refuse.ensures.part.0 r
     (refl, tt) (route-outputs q) (failed.refused r refl) failed.reads
-        (λ not. failed.quiet (λ is. not (let same : r ≡ Unread = cc in same))) c.refuse.ensures.status c.refuse.ensures.part.1
-            c.refuse.ensures.whole
+    (λ not. failed.quiet (λ is. not (let same : r ≡ Unread = cc in same))) c.refuse.ensures.status c.refuse.ensures.part.1
+    c.refuse.ensures.whole

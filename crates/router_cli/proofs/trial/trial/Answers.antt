@@ -12,7 +12,7 @@ returns-in-Ok g c =
     let b = told c.say_tried.new.desk in
     let r = c.in-Ok.routed in
     run-left [] [] (IsTrialOutcome (trial_task_of c.args.request.now)) a a b c.say_tried.result (tried_outcome r) tt tt tt
-        c.in-Ok.ensures.outcome (reads-nothing [] a) refl
+    c.in-Ok.ensures.outcome (reads-nothing [] a) refl
     (leaves-text (trial_text r.rounded r.rounds r.cert) a b c.say_tried.result c.say_tried.ensures)
 
 pub returns-in-Err : goal.returns-in-Err
@@ -23,4 +23,4 @@ returns-in-Err g c =
     let memory = c.in-Err.ensures.refused r refl in
     let said = c.refuse.ensures in
     run-refused [] [] (IsTrialOutcome (trial_task_of c.args.request.now)) a a (told c.refuse.new.desk) c.refuse.result
-        said.part.0 r tt tt memory (reads-nothing [] a) (λ _. refl) said.status said.part.1 said.whole
+    said.part.0 r tt tt memory (reads-nothing [] a) (λ _. refl) said.status said.part.1 said.whole
