@@ -44,8 +44,8 @@ fn joins_net(alloc: Global, design: &Design, place: usize, runs: &[Run]) -> Resu
     runs_join(alloc, design.grid.size(), runs, net.terminals.list())
 }
 
-/// The runs of a block, disjoint; the block has this number in the text and is of the net at this place. Their pieces have to join
-/// the net's terminals.
+/// The runs of a block, disjoint; the block has this number in the text and is of the net at this place. Their pieces have to
+/// join the net's terminals.
 fn joining_runs_of(
     alloc: Global,
     design: &Design,

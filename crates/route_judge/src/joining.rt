@@ -12,8 +12,8 @@ use tree_set::joins;
 
 /// Whether walks in the runs' pieces lead from each of the terminals to each other one.
 ///
-/// Where it is sure that they do, this takes about `n log n` steps for n runs and terminals. Else the runs' pieces are gone through
-/// one by one, so this should happen once: where the runs are merged, the answer then is a no.
+/// Where it is sure that they do, this takes about `n log n` steps for n runs and terminals. Else the runs' pieces are gone
+/// through one by one; where the runs are merged, the answer then is a no.
 pub(crate) fn runs_join(
     alloc: Global,
     size: Size,

@@ -9,13 +9,13 @@
 //! }
 //! let cert = read_cert(alloc, certificate)?;
 //! let verdict = judge(&rt, alloc, &design, grounds.as_slice(), blocks.as_slice(), &cert)?;
-//! let loads = loads_of(alloc, &design, grounds.as_slice(), blocks.as_slice())?;    // the edges' loads, of blocks that are routes
+//! let loads = loads_of(alloc, &design, grounds.as_slice(), blocks.as_slice())?;    // the edges' loads, of routes
 //! let trees = trees_of(alloc, &design, blocks.as_slice())?;    // and the nets' sets
 //! ```
 //!
-//! It stands on `route_text` and `cert_text` for what was read, on `block_runs` for blocks as straight runs, on `tree_set` for sets
-//! and measures, on `dual_bound` and `edge_prices` for the bound at a certificate's prices, and on `grid_graph` and `grid_base`. It
-//! knows nothing of how routes are found.
+//! It stands on `route_text` and `cert_text` for what was read, on `block_runs` for blocks as straight runs, on `tree_set` for
+//! sets and measures, on `dual_bound` and `edge_prices` for the bound at a certificate's prices, and on `grid_graph` and
+//! `grid_base`. It knows nothing of how routes are found.
 //!
 //! Promised: the reason is that of the first objection that applies, in the order of `specs/Orders.antt`, and there is none
 //! exactly where the answer is a yes. A yes has the measure of the sets that the blocks give the nets, each of which joins its

@@ -25,7 +25,8 @@ fn has_wall(grid: &Grid, walls: &LineCounts<'_>, run: Run) -> bool
     walls.count(run) > 0
 }
 
-/// Puts the run between two places in line on the list, if there is a piece between them. A wall on it is refused for the reason.
+/// Puts the run between two places in line on the list, if there is a piece between them. A wall on it is refused for the
+/// reason.
 pub(crate) fn add_between(
     grid: &Grid,
     walls: &LineCounts<'_>,

@@ -49,9 +49,9 @@ pub(crate) fn measure_routes(
 ///
 /// A set may use choked edges that are outside its net's ground. The answer counts the nets whose sets do.
 ///
-/// Takes about `n log n` steps for n nets, segments and terminals, however long the segments are and however often they overlap,
-/// and a few passes over the grid. Where a block leaves its net's terminals apart, its pieces are gone through one by one, and that
-/// ends the work.
+/// Takes about `n log n` steps for n nets, segments and terminals, however long the segments are and however often they
+/// overlap, and a few passes over the grid. Where a block leaves its net's terminals apart, its pieces are gone through one by
+/// one, and that ends the work.
 pub fn judge_routes(
     alloc: Global,
     design: &Design,

@@ -35,8 +35,8 @@ fn are_in_line(from: Place, to: Place) -> bool
     same_row && same_layer || same_col && same_layer || same_col && same_row
 }
 
-/// Puts the run of a segment on the list, if the segment has a piece. The segment has this number in its block, and the block has
-/// its own in the text.
+/// Puts the run of a segment on the list, if the segment has a piece. The segment has this number in its block, and the block
+/// has its own in the text.
 fn add_segment(
     design: &Design,
     walls: &LineCounts<'_>,
