@@ -1,76 +1,117 @@
 //! The columns that a sweep over the rows meets.
 
+use crate::marks::Marks;
 use grid_base::NoMemory;
 use std::alloc::Global;
-use std::collections::{BTreeMap, BTreeSet};
 
-/// The runs of columns that the row of a sweep crosses or touches, in stretches whose runs are known to be joined.
+/// A run of a column. Rows are counted through all layers.
+#[derive(Drop, Clone, Copy)]
+pub(crate) struct Upright {
+    /// Its number in the list of runs.
+    pub run: usize,
+    /// The number of its column among those with a run.
+    pub place: usize,
+    pub col: u32,
+    /// The row at which it begins.
+    pub begin: u32,
+    /// The row at which it ends.
+    pub end: u32,
+}
+
+/// The columns with runs, and of each the run that the sweep met last. Those that the sweep's row may cross or touch are kept in
+/// stretches whose runs are known to be joined.
 ///
-/// A run that enters splits at most one stretch, so over a sweep there are at most three times as many stretches as runs (Imai
+/// A run that is met splits at most one stretch, so over a sweep there are at most three times as many stretches as runs (Imai
 /// and Asano, Finding the connected components and a maximum clique of an intersection graph of rectangles in the plane, 1983).
+/// Runs that have ended are forgotten where they are found.
 #[derive(Drop)]
 pub(crate) struct Columns {
-    runs: BTreeMap<u32, usize>,
-    starts: BTreeSet<u32>,
+    /// For each column its number in the grid, rising.
+    cols: Vec<u32>,
+    met: Vec<Option<Upright>>,
+    /// The columns with a run that isn't forgotten.
+    kept: Marks,
+    /// The columns with which a stretch begins.
+    starts: Marks,
 }
 
 impl Columns {
-    /// No run.
-    pub fn none(alloc: Global) -> Columns {
-        Columns {
-            runs: BTreeMap::new(alloc),
-            starts: BTreeSet::new(alloc),
+    /// No run is met of these columns.
+    pub fn of(alloc: Global, cols: Vec<u32>) -> Result<Columns, NoMemory> {
+        let count = cols.len();
+        Ok(Columns {
+            cols,
+            met: vec![in alloc; None; count]?,
+            kept: Marks::none(alloc, count)?,
+            starts: Marks::none(alloc, count)?,
+        })
+    }
+
+    /// The place of the first column from one of the grid on.
+    pub fn place_of(&self, col: u32) -> usize {
+        self.cols.partition_point(|c| *c < col)
+    }
+
+    /// The run of a column that was met last.
+    pub fn met_at(&self, place: usize) -> Option<Upright> {
+        *self.met.get(place)?
+    }
+
+    /// A run is met: it is a stretch of its own, and what is behind it is another.
+    pub fn meet(&mut self, upright: Upright) {
+        if let Some(met) = self.met.get_mut(upright.place) {
+            *met = Some(upright);
+        }
+        self.kept.insert(upright.place);
+        self.starts.insert(upright.place);
+        self.start_behind(upright.place);
+    }
+
+    /// Begins a stretch at the first kept run behind a column.
+    fn start_behind(&mut self, place: usize) {
+        if let Some(next) = self.kept.next(place.saturating_add(1)) {
+            self.starts.insert(next);
         }
     }
 
-    /// The first column with a run from one on.
-    fn first_from(&self, col: u32) -> Option<u32> {
-        let (found, _) = self.runs.range(col..).next()?;
-        Some(*found)
-    }
-
-    /// Begins a stretch at the first column behind one.
-    fn start_behind(&mut self, col: u32) -> Result<(), NoMemory> {
-        if let Some(next) = self.first_from(col.saturating_add(1)) {
-            self.starts.insert(next)?;
+    /// Forgets a run. If a stretch began with it, it begins with the next.
+    fn forget(&mut self, place: usize) {
+        self.kept.remove(place);
+        if self.starts.contains(place) {
+            self.starts.remove(place);
+            self.start_behind(place);
         }
-        Ok(())
     }
 
-    /// A run of a column begins: it is a stretch of its own, and what is behind it is another.
-    pub fn enter(&mut self, col: u32, run: usize) -> Result<(), NoMemory> {
-        self.runs.insert(col, run)?;
-        self.starts.insert(col)?;
-        self.start_behind(col)
-    }
-
-    /// A run of a column has ended. If a stretch began with it, it begins with the next.
-    pub fn leave(&mut self, col: u32) -> Result<(), NoMemory> {
-        self.runs.remove(&col);
-        if self.starts.remove(&col) {
-            self.start_behind(col)?;
+    /// The first run from a place on, and up to a column of the grid, that reaches the row.
+    pub fn first_between(&mut self, from: usize, to: u32, row: u32) -> Option<Upright> {
+        for _ in 0..self.cols.len() {
+            let found = self.met_at(self.kept.next(from)?)?;
+            if found.col > to {
+                return None;
+            }
+            if found.end >= row {
+                return Some(found);
+            }
+            self.forget(found.place);
         }
-        Ok(())
+        None
     }
 
-    /// The first column from one to another that has a run, and the run.
-    pub fn first_between(&self, from: u32, to: u32) -> Option<(u32, usize)> {
-        let (col, run) = self.runs.range(from..).next()?;
-        if *col > to {
-            return None;
+    /// The first run behind a place, and up to a column of the grid, that reaches the row and with which a stretch begins. The
+    /// stretch is part of the one before it from now on.
+    pub fn take_start(&mut self, behind: usize, to: u32, row: u32) -> Option<Upright> {
+        for _ in 0..self.cols.len() {
+            let found = self.met_at(self.starts.next(behind.saturating_add(1))?)?;
+            if found.col > to {
+                return None;
+            }
+            if found.end >= row {
+                self.starts.remove(found.place);
+                return Some(found);
+            }
+            self.forget(found.place);
         }
-        Some((*col, *run))
-    }
-
-    /// The first column behind one and up to another with which a stretch begins, and its run. The stretch is part of the one
-    /// before it from now on.
-    pub fn take_start(&mut self, behind: u32, to: u32) -> Option<(u32, usize)> {
-        let col = *self.starts.range(behind.saturating_add(1)..).next()?;
-        if col > to {
-            return None;
-        }
-        self.starts.remove(&col);
-        let run = *self.runs.get(&col)?;
-        Some((col, run))
+        None
     }
 }

@@ -28,7 +28,7 @@ impl Groups {
         ensures long { IfOk result (λ groups. length groups.parents.items ≡ count) }
         ensures own { IfOk result (λ groups. (i : ℕ) → i < count → slice_index groups.parents.items i ≡ i) }
     {
-        let mut parents = Vec::new(alloc);
+        let mut parents = Vec::with_capacity(alloc, count)?;
         for i in 0..count {
             parents.push(i)?;
         }

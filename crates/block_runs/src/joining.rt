@@ -10,8 +10,7 @@ use crate::groups::Groups;
 use crate::linking::single_runs;
 use crate::lookup::{numbers_of, run_at};
 use crate::run::Run;
-use crate::stacks::link_stacks;
-use crate::sweep::link_crossings;
+use crate::sweep::link_touching;
 use grid_base::{NoMemory, Size, Vertex};
 use std::alloc::Global;
 
@@ -89,8 +88,7 @@ pub fn joins_surely(
         return Ok(true);
     }
     let mut groups = single_runs(alloc, size, runs)?;
+    link_touching(alloc, size, runs, &mut groups)?;
     let numbers = numbers_of(alloc, size, runs)?;
-    link_crossings(alloc, size, runs, &mut groups)?;
-    link_stacks(size, runs, &numbers, &mut groups);
     Ok(are_in_one_group(size, runs, &numbers, &mut groups, terminals))
 }

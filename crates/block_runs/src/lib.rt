@@ -28,15 +28,16 @@ mod counting;
 mod direction;
 mod groups;
 mod joining;
+mod kinds;
 mod line_counts;
 mod linking;
 mod listed;
 mod load_sums;
 mod lookup;
+mod marks;
 mod merging;
 mod run;
 mod spanned;
-mod stacks;
 mod summing;
 mod sweep;
 

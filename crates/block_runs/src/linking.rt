@@ -1,14 +1,20 @@
 //! Runs in groups by the vertices that they share.
 
-ghost use Rattle.std.specs.Prelude.{◌≡◌, All, IfOk, IfSome, OnOk};
+ghost use Rattle.std.specs.Prelude.{◌≡◌, All, IfOk, IsTrue};
 ghost use Rattle.block_runs.specs.Runs.{IsRun};
 ghost use Rattle.block_runs.specs.Touching.{AreGroups, IsRunWith};
 
-use crate::direction::Direction;
 use crate::groups::Groups;
 use crate::run::Run;
 use grid_base::{NoMemory, Size, Vertex};
 use std::alloc::Global;
+
+/// A vertex of a run: the run's number in the list, and how many of its pieces lead to the vertex.
+#[derive(Drop, Clone, Copy)]
+pub(crate) struct Spot {
+    pub run: usize,
+    pub steps: u32,
+}
 
 /// Each run alone.
 pub(crate) fn single_runs(alloc: Global, size: Size, runs: &[Run]) -> Result<Groups, NoMemory>
@@ -18,17 +24,29 @@ pub(crate) fn single_runs(alloc: Global, size: Size, runs: &[Run]) -> Result<Gro
     Groups::single(alloc, runs.len())
 }
 
-/// Unites the groups of two runs, by their numbers, if both have the vertex.
-pub(crate) fn link(size: Size, runs: &[Run], groups: &mut Groups, i: usize, j: usize, at: Vertex)
+/// Whether the run has the vertex there.
+fn is_at(size: Size, runs: &[Run], spot: Spot, at: Vertex) -> bool
+    ensures { IsTrue result → IsRunWith size runs.now at.0 spot.run }
+{
+    spot.run < runs.len() && runs[spot.run].leads_to(size, spot.steps, at)
+}
+
+/// Unites the groups of two runs if both have the vertex where they are said to. Answers whether they have it.
+pub(crate) fn link(
+    size: Size,
+    runs: &[Run],
+    groups: &mut Groups,
+    one: Spot,
+    other: Spot,
+    at: Vertex,
+) -> bool
     requires runs { All (IsRun size) runs.now }
     requires groups { AreGroups size runs.now groups.old }
     ensures { AreGroups size runs.now groups.new }
 {
-    if i < runs.len()
-        && j < runs.len()
-        && runs[i].has_vertex(size, at)
-        && runs[j].has_vertex(size, at)
-    {
-        groups.unite(i, j);
+    if !is_at(size, runs, one, at) || !is_at(size, runs, other, at) {
+        return false;
     }
+    groups.unite(one.run, other.run);
+    true
 }

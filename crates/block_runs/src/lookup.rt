@@ -10,7 +10,7 @@ use std::alloc::Global;
 
 /// The numbers of the runs' first pieces, when all pieces are counted line by line.
 pub(crate) fn numbers_of(alloc: Global, size: Size, runs: &[Run]) -> Result<Vec<u64>, NoMemory> {
-    let mut numbers = Vec::new(alloc);
+    let mut numbers = Vec::with_capacity(alloc, runs.len())?;
     for run in runs {
         numbers.push(run.direction.line_number(size, run.first))?;
     }

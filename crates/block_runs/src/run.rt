@@ -27,6 +27,16 @@ impl Run {
         Vertex(self.first.0 + self.count * self.direction.rise(size))
     }
 
+    /// Whether so many of its pieces lead from its begin to the vertex.
+    pub(crate) fn leads_to(self, size: Size, steps: u32, v: Vertex) -> bool
+        ensures { IsTrue result → HasVertex size self v.0 }
+    {
+        let Some(apart) = steps.checked_mul(self.direction.rise(size)) else {
+            return false;
+        };
+        steps <= self.count && v.0 >= self.first.0 && v.0 - self.first.0 == apart
+    }
+
     /// Whether a piece goes from the vertex or ends there.
     pub fn has_vertex(self, size: Size, v: Vertex) -> bool
         ensures { IsTrue result → HasVertex size self v.0 }

@@ -1,59 +1,67 @@
-//! Runs of rows, and the runs of columns that they cross.
+//! A sweep over the vertices that links the runs which have one in common.
 
 ghost use Rattle.std.specs.Prelude.{◌≡◌, All, OnOk};
 ghost use Rattle.block_runs.specs.Runs.{IsRun};
 ghost use Rattle.block_runs.specs.Touching.{AreGroups};
 
-use crate::columns::Columns;
+use crate::columns::{Columns, Upright};
 use crate::direction::Direction;
 use crate::groups::Groups;
-use crate::linking::link;
+use crate::kinds::{Kinds, Stack};
+use crate::linking::{Spot, link};
 use crate::run::Run;
 use grid_base::{NoMemory, Size, Vertex};
 use std::alloc::Global;
 
-/// What happens at a row, in this order.
-#[derive(Drop, Clone, Copy, PartialEq, Eq, PartialOrd, Ord)]
-enum Step {
-    /// A run of a column begins.
-    Enter,
-    /// There is a run of the row.
-    Cross,
-    /// A run of a column ends.
-    Leave,
+/// What a sweep over the vertices, in the order of their numbers, has met and has left to meet.
+#[derive(Drop)]
+struct Sweep {
+    columns: Columns,
+    /// By the rows at which they begin.
+    uprights: Vec<Upright>,
+    met_uprights: usize,
+    /// The numbers of the runs of rows.
+    rows: Vec<usize>,
+    met_rows: usize,
 }
 
-/// What happens to a run at a row. Rows are counted through all layers.
-#[derive(Drop, Clone, Copy, PartialEq, Eq, PartialOrd, Ord)]
-struct Event {
-    row: u32,
-    step: Step,
-    run: usize,
-}
-
-/// What happens to the runs of edges.
-fn events_of(alloc: Global, size: Size, runs: &[Run]) -> Result<Vec<Event>, NoMemory>
-    requires { All (IsRun size) runs.now }
-{
-    let mut events = Vec::new(alloc);
-    for run in 0..runs.len() {
-        let row = runs[run].first.0 / size.cols();
-        match runs[run].direction {
-            Direction::East => {
-                let step = Step::Cross;
-                events.push(Event { row, step, run })?;
-            }
-            Direction::North => {
-                let step = Step::Enter;
-                events.push(Event { row, step, run })?;
-                let row = runs[run].end(size).0 / size.cols();
-                let step = Step::Leave;
-                events.push(Event { row, step, run })?;
-            }
-            Direction::Up => {}
+/// Meets the runs of columns that begin up to a row. Rows are counted through all layers.
+fn meet_uprights(sweep: &mut Sweep, row: u32) {
+    for i in sweep.met_uprights..sweep.uprights.len() {
+        let Some(upright) = sweep.uprights.get(i).copied() else {
+            return;
+        };
+        if upright.begin > row {
+            return;
         }
+        sweep.columns.meet(upright);
+        sweep.met_uprights = i + 1;
     }
-    Ok(events)
+}
+
+/// Links the run of a row with the run of a column, if they cross or touch.
+fn link_crossing(
+    size: Size,
+    runs: &[Run],
+    groups: &mut Groups,
+    number: usize,
+    run: Run,
+    upright: Upright,
+)
+    requires runs { All (IsRun size) runs.now }
+    requires groups { AreGroups size runs.now groups.old }
+    ensures { AreGroups size runs.now groups.new }
+{
+    let row = run.first.0 / size.cols();
+    let col = run.first.0 % size.cols();
+    let steps = upright.col.wrapping_sub(col);
+    let one = Spot { run: number, steps };
+    let other = Spot {
+        run: upright.run,
+        steps: row.wrapping_sub(upright.begin),
+    };
+    let at = Vertex(run.first.0.wrapping_add(steps));
+    link(size, runs, groups, one, other, at);
 }
 
 /// Links the run of a row with those of the columns that it crosses or touches: with one of each stretch.
@@ -69,65 +77,115 @@ fn cross(
     requires groups { AreGroups size runs.now groups.old }
     ensures { AreGroups size runs.now groups.new }
 {
+    let row = run.first.0 / size.cols();
     let from = run.first.0 % size.cols();
     let to = from.saturating_add(run.count);
-    let before = run.first.0 - from;
-    let Some((first, other)) = columns.first_between(from, to) else {
+    let place = columns.place_of(from);
+    let Some(first) = columns.first_between(place, to, row) else {
         return;
     };
-    link(
-        size,
-        runs,
-        groups,
-        number,
-        other,
-        Vertex(before.wrapping_add(first)),
-    );
+    link_crossing(size, runs, groups, number, run, first);
     for _ in 0..u64::MAX {
-        let Some((col, other)) = columns.take_start(first, to) else {
+        let Some(next) = columns.take_start(first.place, to, row) else {
             break;
         };
-        link(
-            size,
-            runs,
-            groups,
-            number,
-            other,
-            Vertex(before.wrapping_add(col)),
-        );
+        link_crossing(size, runs, groups, number, run, next);
     }
 }
 
-/// Goes over one event.
-fn go_over(
-    size: Size,
-    runs: &[Run],
-    groups: &mut Groups,
-    columns: &mut Columns,
-    event: Event,
-) -> Result<(), NoMemory>
+/// Meets the runs of rows that begin up to a vertex.
+fn meet_rows(size: Size, runs: &[Run], groups: &mut Groups, sweep: &mut Sweep, at: Vertex)
     requires runs { All (IsRun size) runs.now }
     requires groups { AreGroups size runs.now groups.old }
     ensures { AreGroups size runs.now groups.new }
 {
-    let Some(run) = runs.get(event.run) else {
-        return Ok(());
-    };
-    let col = run.first.0 % size.cols();
-    match event.step {
-        Step::Enter => columns.enter(col, event.run),
-        Step::Cross => {
-            cross(size, runs, groups, columns, event.run, *run);
-            Ok(())
+    for i in sweep.met_rows..sweep.rows.len() {
+        let number = sweep.rows.get(i).copied().unwrap_or(runs.len());
+        let Some(run) = runs.get(number).copied() else {
+            return;
+        };
+        if run.first.0 > at.0 {
+            return;
         }
-        Step::Leave => columns.leave(col),
+        meet_uprights(sweep, run.first.0 / size.cols());
+        cross(size, runs, groups, &mut sweep.columns, number, run);
+        sweep.met_rows = i + 1;
     }
 }
 
-/// Links all runs of rows with the runs of columns that they cross or touch.
+/// The vertex of the run of a row that was met last, if it reaches this far.
+fn spot_of_row(runs: &[Run], sweep: &Sweep, at: Vertex) -> Option<Spot> {
+    let number = *sweep.rows.get(sweep.met_rows.checked_sub(1)?)?;
+    let run = runs.get(number)?;
+    let steps = at.0.checked_sub(run.first.0)?;
+    if steps > run.count {
+        return None;
+    }
+    Some(Spot { run: number, steps })
+}
+
+/// Links a stack of vias with a run of edges at its vertex on a layer. Where one of a row and one of a column meet there, they
+/// are linked already.
+fn link_stack(
+    size: Size,
+    runs: &[Run],
+    groups: &mut Groups,
+    sweep: &mut Sweep,
+    stack: Stack,
+    layer: u32,
+)
+    requires runs { All (IsRun size) runs.now }
+    requires groups { AreGroups size runs.now groups.old }
+    ensures { AreGroups size runs.now groups.new }
+{
+    let tiles = Direction::Up.rise(size);
+    let at = Vertex(layer.wrapping_mul(tiles).wrapping_add(stack.tile));
+    meet_rows(size, runs, groups, sweep, at);
+    let steps = layer.wrapping_sub(stack.layer);
+    let here = Spot {
+        run: stack.run,
+        steps,
+    };
+    if let Some(spot) = spot_of_row(runs, sweep, at) {
+        if link(size, runs, groups, here, spot, at) {
+            return;
+        }
+    }
+    let row = layer.wrapping_mul(size.rows()).wrapping_add(stack.row);
+    meet_uprights(sweep, row);
+    if let Some(upright) = sweep.columns.met_at(stack.place) {
+        let steps = row.wrapping_sub(upright.begin);
+        let run = upright.run;
+        link(size, runs, groups, here, Spot { run, steps }, at);
+    }
+}
+
+/// Links the stacks of vias that reach a layer with the runs of edges there.
+fn sweep_layer(
+    size: Size,
+    runs: &[Run],
+    groups: &mut Groups,
+    sweep: &mut Sweep,
+    stacks: &[Stack],
+    layer: u32,
+)
+    requires runs { All (IsRun size) runs.now }
+    requires groups { AreGroups size runs.now groups.old }
+    ensures { AreGroups size runs.now groups.new }
+{
+    for stack in stacks {
+        if layer >= stack.layer && layer - stack.layer <= stack.vias {
+            link_stack(size, runs, groups, sweep, *stack, layer);
+        }
+    }
+}
+
+/// Links the runs that have a vertex in common, through others where there are such: runs of rows with the runs of columns that
+/// they cross or touch, and stacks of vias with the runs of edges at their vertices.
 ///
-/// Goes over the rows of all layers once, and takes about n log n steps for n runs, however often they cross.
-pub(crate) fn link_crossings(
+/// Goes over the layers once, and takes about n log n steps for n runs, however often they cross, and one for each layer of a
+/// stack. It is meant to be right where the runs are merged, in their order.
+pub(crate) fn link_touching(
     alloc: Global,
     size: Size,
     runs: &[Run],
@@ -137,11 +195,19 @@ pub(crate) fn link_crossings(
     requires groups { AreGroups size runs.now groups.old }
     ensures { OnOk result (AreGroups size runs.now groups.new) }
 {
-    let mut events = events_of(alloc, size, runs)?;
-    events.sort_unstable();
-    let mut columns = Columns::none(alloc);
-    for event in events.as_slice() {
-        go_over(size, runs, groups, &mut columns, *event)?;
+    let kinds = Kinds::of(alloc, size, runs)?;
+    let mut uprights = kinds.uprights;
+    uprights.sort_unstable_by_key(|upright| upright.begin);
+    let mut sweep = Sweep {
+        columns: Columns::of(alloc, kinds.cols)?,
+        uprights,
+        met_uprights: 0,
+        rows: kinds.rows,
+        met_rows: 0,
+    };
+    for layer in 0..size.layers() {
+        sweep_layer(size, runs, groups, &mut sweep, &kinds.stacks, layer);
     }
+    meet_rows(size, runs, groups, &mut sweep, Vertex(u32::MAX));
     Ok(())
 }

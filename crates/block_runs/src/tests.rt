@@ -1,13 +1,14 @@
 //! Runs that are drawn by hand.
 
 ghost use Rattle.std.specs.Prelude.{All, IsTrue};
-ghost use Rattle.grid_base.specs.Numbers.{IsVertex};
+ghost use Rattle.grid_base.specs.Numbers.{IsPiece, IsVertex};
 ghost use Rattle.block_runs.specs.Runs.{IsRun};
 
-use crate::{Direction, LoadSums, Run, joins_surely, merged, piece_count};
-use grid_base::{Size, Vertex};
+use crate::{Direction, LoadSums, Run, joins_surely, merged, piece_count, set_of_runs};
+use grid_base::{Piece, Size, Vertex};
 use std::alloc::Global;
 use std::test::Fail;
+use tree_set::joins;
 
 /// Whether a run has a piece, and all that it names are pieces of the grid.
 fn is_run(size: Size, run: Run) -> bool
@@ -44,6 +45,12 @@ fn are_vertices(size: Size, terminals: &[Vertex]) -> bool
     ensures { IsTrue result → All (λ t. IsVertex size t.0) terminals.now }
 {
     terminals.iter().all(|t| t.0 < size.vertices())
+}
+
+fn are_pieces(size: Size, pieces: &[Piece]) -> bool
+    ensures { IsTrue result → All (IsPiece size) pieces.now }
+{
+    pieces.iter().all(|p| size.is_piece(*p))
 }
 
 /// What `joins_surely` answers of merged runs.
@@ -186,5 +193,51 @@ fn loads_stand_on_the_edges_of_the_added_runs(rt: HostRuntime) -> Result<(), Fai
     let row = [2, 0, 2, 0, 5, 0, 3, 0, 3, 0, 3, 0, 3, 0, 0, 0];
     assert_eq!(rt; loads.len(), 256);
     assert_eq!(rt; &loads[16..32], row.as_slice());
+    Ok(())
+}
+
+/// The next of some numbers that look drawn (Knuth, The Art of Computer Programming, volume 2, 1997), below a limit.
+fn drawn(state: &mut u64, limit: u32) -> u32 {
+    *state = state
+        .wrapping_mul(6_364_136_223_846_793_005)
+        .wrapping_add(1_442_695_040_888_963_407);
+    ((*state >> 33) as u32).checked_rem(limit).unwrap_or(0)
+}
+
+/// Some runs on a grid of 60 vertices.
+fn drawn_runs(alloc: Global, size: Size, state: &mut u64) -> Result<Vec<Run>, Fail> {
+    let mut runs = Vec::new(alloc);
+    for _ in 0..16 {
+        let direction = match drawn(state, 3) {
+            0 => Direction::East,
+            1 => Direction::North,
+            _ => Direction::Up,
+        };
+        let run = run(direction, drawn(state, 60), 1 + drawn(state, 4) % 4);
+        if is_run(size, run) {
+            runs.push(run)?;
+        }
+    }
+    Ok(runs)
+}
+
+#[test]
+fn drawn_runs_are_joined_where_a_flood_says_so(rt: HostRuntime) -> Result<(), Fail> {
+    let size = Size::new(5, 4, 3).ok_or("size")?;
+    let mut state = 1;
+    let mut some_yes = false;
+    let mut some_no = false;
+    for _ in 0..500 {
+        let runs = drawn_runs(rt.alloc(), size, &mut state)?;
+        let ends = [Vertex(drawn(&mut state, 60)), Vertex(drawn(&mut state, 60))];
+        let sure = are_joined(rt.alloc(), size, &runs, ends.as_slice())?;
+        assert!(rt; are_runs(size, &runs) && are_vertices(size, ends.as_slice()));
+        let tree = set_of_runs(rt.alloc(), size, &runs)?;
+        assert!(rt; are_pieces(size, tree.pieces()));
+        assert_eq!(rt; sure, joins(rt.alloc(), size, &tree, ends.as_slice())?);
+        some_yes |= sure;
+        some_no |= !sure;
+    }
+    assert!(rt; some_yes && some_no);
     Ok(())
 }

@@ -1,5 +1,5 @@
 use Rattle.block_runs.specs.Touching.{AreGroups}
-use Rattle.block_runs.proofs.stacks.link_stacks.Given as goal
+use Rattle.block_runs.proofs.sweep.meet_rows.Given as goal
 
 -- walks lead through the groups
 abbrev pub invariant-loop-i : goal.invariant-loop-i
