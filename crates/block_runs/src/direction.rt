@@ -57,13 +57,13 @@ impl Direction {
     pub fn line_number(self, size: Size, start: Vertex) -> u64
         ensures { result ≡ line_number size self start.0 }
     {
-        let rise = self.rise(size);
         let vertices = size.vertices();
         let before = match self {
-            Direction::East => 0,
+            Direction::East => return u64::from(start.0),
             Direction::North => u64::from(vertices),
             Direction::Up => 2 * u64::from(vertices),
         };
+        let rise = self.rise(size);
         let lines_before = u64::from(start.0 % rise);
         before + lines_before * u64::from(vertices / rise) + u64::from(start.0 / rise)
     }
