@@ -65,6 +65,14 @@ lines_are_whole Up s = omega arith
 lines_counted : (d : Direction) (s : Size) → vertices s / rise d s ≡ per_line d s
 lines_counted d s = ap (λ n. n / rise d s) (lines_are_whole d s) ∙ mul-div_cancel (per_line d s) (rise-positive d s)
 
+pub column_counted : (s : Size) → vertices s / cols s ≡ rows s * layers s
+unfolding per_line
+column_counted s = lines_counted North s
+
+pub stack_counted : (s : Size) → vertices s / (cols s * rows s) ≡ layers s
+unfolding per_line
+stack_counted s = lines_counted Up s
+
 -- the next piece of a line is counted next
 pub line_number-on : (s : Size) (d : Direction) (v i : ℕ) → line_number s d (v + i * rise d s) ≡ line_number s d v + i
 line_number-on s d v i =

@@ -54,17 +54,24 @@ impl Direction {
 
     /// The number of the piece that leads from the vertex, when all pieces are counted line by line: first those to the east
     /// row by row, then those to the north column by column, then the vias stack by stack.
+    #[tactic(auto, using(crate::proofs::Lines::column_counted, crate::proofs::Lines::stack_counted))]
     pub fn line_number(self, size: Size, start: Vertex) -> u64
         ensures { result ≡ line_number size self start.0 }
     {
-        let vertices = size.vertices();
-        let before = match self {
-            Direction::East => return u64::from(start.0),
-            Direction::North => u64::from(vertices),
-            Direction::Up => 2 * u64::from(vertices),
-        };
-        let rise = self.rise(size);
-        let lines_before = u64::from(start.0 % rise);
-        before + lines_before * u64::from(vertices / rise) + u64::from(start.0 / rise)
+        let vertices = u64::from(size.vertices());
+        match self {
+            Direction::East => u64::from(start.0),
+            Direction::North => {
+                let lines_before = u64::from(start.0 % size.cols());
+                let long = u64::from(size.rows() * size.layers());
+                vertices + lines_before * long + u64::from(start.0 / size.cols())
+            }
+            Direction::Up => {
+                let tiles = self.rise(size);
+                let lines_before = u64::from(start.0 % tiles);
+                let long = u64::from(size.layers());
+                2 * vertices + lines_before * long + u64::from(start.0 / tiles)
+            }
+        }
     }
 }

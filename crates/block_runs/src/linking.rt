@@ -32,6 +32,7 @@ fn is_at(size: Size, runs: &[Run], spot: Spot, at: Vertex) -> bool
 }
 
 /// Unites the groups of two runs if both have the vertex where they are said to. Answers whether they have it.
+#[inline(always)]
 pub(crate) fn link(
     size: Size,
     runs: &[Run],

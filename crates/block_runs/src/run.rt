@@ -28,6 +28,7 @@ impl Run {
     }
 
     /// Whether so many of its pieces lead from its begin to the vertex.
+    #[inline]
     pub(crate) fn leads_to(self, size: Size, steps: u32, v: Vertex) -> bool
         ensures { IsTrue result → HasVertex size self v.0 }
     {

@@ -13,6 +13,13 @@ use crate::run::Run;
 use grid_base::{NoMemory, Size, Vertex};
 use std::alloc::Global;
 
+/// A run of a row, with its number in the list.
+#[derive(Drop, Clone, Copy)]
+struct Row {
+    number: usize,
+    run: Run,
+}
+
 /// What a sweep over the vertices, in the order of their numbers, has met and has left to meet.
 #[derive(Drop)]
 struct Sweep {
@@ -20,9 +27,22 @@ struct Sweep {
     /// By the rows at which they begin.
     uprights: Vec<Upright>,
     met_uprights: usize,
+    /// No run of a column that is left begins at a row before this one.
+    next_begin: u32,
     /// The numbers of the runs of rows.
     rows: Vec<usize>,
     met_rows: usize,
+    /// No run of a row that is left begins at a vertex before this one.
+    next_first: u32,
+    last_row: Option<Row>,
+}
+
+/// A layer, with its first vertex and its first row. Rows are counted through all layers.
+#[derive(Drop, Clone, Copy)]
+struct Level {
+    layer: u32,
+    vertex: u32,
+    row: u32,
 }
 
 /// Meets the runs of columns that begin up to a row. Rows are counted through all layers.
@@ -31,12 +51,14 @@ fn meet_uprights(sweep: &mut Sweep, row: u32) {
         let Some(upright) = sweep.uprights.get(i).copied() else {
             return;
         };
+        sweep.next_begin = upright.begin;
         if upright.begin > row {
             return;
         }
         sweep.columns.meet(upright);
         sweep.met_uprights = i + 1;
     }
+    sweep.next_begin = u32::MAX;
 }
 
 /// Links the run of a row with the run of a column, if they cross or touch.
@@ -104,27 +126,31 @@ fn meet_rows(size: Size, runs: &[Run], groups: &mut Groups, sweep: &mut Sweep, a
         let Some(run) = runs.get(number).copied() else {
             return;
         };
+        sweep.next_first = run.first.0;
         if run.first.0 > at.0 {
             return;
         }
         meet_uprights(sweep, run.first.0 / size.cols());
         cross(size, runs, groups, &mut sweep.columns, number, run);
         sweep.met_rows = i + 1;
+        sweep.last_row = Some(Row { number, run });
     }
+    sweep.next_first = u32::MAX;
 }
 
-/// The vertex of the run of a row that was met last, if it reaches this far.
-fn spot_of_row(runs: &[Run], sweep: &Sweep, at: Vertex) -> Option<Spot> {
-    let number = *sweep.rows.get(sweep.met_rows.checked_sub(1)?)?;
-    let run = runs.get(number)?;
-    let steps = at.0.checked_sub(run.first.0)?;
-    if steps > run.count {
+/// The vertex of a run of a row, if it reaches this far.
+fn spot_of(row: Row, at: Vertex) -> Option<Spot> {
+    let steps = at.0.checked_sub(row.run.first.0)?;
+    if steps > row.run.count {
         return None;
     }
-    Some(Spot { run: number, steps })
+    Some(Spot {
+        run: row.number,
+        steps,
+    })
 }
 
-/// Links a stack of vias with a run of edges at its vertex on a layer. Where one of a row and one of a column meet there, they
+/// Links a stack of vias with a run of edges at its vertex on a level. Where one of a row and one of a column meet there, they
 /// are linked already.
 fn link_stack(
     size: Size,
@@ -132,27 +158,29 @@ fn link_stack(
     groups: &mut Groups,
     sweep: &mut Sweep,
     stack: Stack,
-    layer: u32,
+    level: Level,
 )
     requires runs { All (IsRun size) runs.now }
     requires groups { AreGroups size runs.now groups.old }
     ensures { AreGroups size runs.now groups.new }
 {
-    let tiles = Direction::Up.rise(size);
-    let at = Vertex(layer.wrapping_mul(tiles).wrapping_add(stack.tile));
-    meet_rows(size, runs, groups, sweep, at);
-    let steps = layer.wrapping_sub(stack.layer);
+    let at = Vertex(level.vertex.wrapping_add(stack.tile));
+    if sweep.next_first <= at.0 {
+        meet_rows(size, runs, groups, sweep, at);
+    }
     let here = Spot {
         run: stack.run,
-        steps,
+        steps: level.layer.wrapping_sub(stack.layer),
     };
-    if let Some(spot) = spot_of_row(runs, sweep, at) {
+    if let Some(spot) = sweep.last_row.and_then(|row| spot_of(row, at)) {
         if link(size, runs, groups, here, spot, at) {
             return;
         }
     }
-    let row = layer.wrapping_mul(size.rows()).wrapping_add(stack.row);
-    meet_uprights(sweep, row);
+    let row = level.row.wrapping_add(stack.row);
+    if sweep.next_begin <= row {
+        meet_uprights(sweep, row);
+    }
     if let Some(upright) = sweep.columns.met_at(stack.place) {
         let steps = row.wrapping_sub(upright.begin);
         let run = upright.run;
@@ -167,15 +195,15 @@ fn sweep_layer(
     groups: &mut Groups,
     sweep: &mut Sweep,
     stacks: &[Stack],
-    layer: u32,
+    level: Level,
 )
     requires runs { All (IsRun size) runs.now }
     requires groups { AreGroups size runs.now groups.old }
     ensures { AreGroups size runs.now groups.new }
 {
     for stack in stacks {
-        if layer >= stack.layer && layer - stack.layer <= stack.vias {
-            link_stack(size, runs, groups, sweep, *stack, layer);
+        if level.layer >= stack.layer && level.layer - stack.layer <= stack.vias {
+            link_stack(size, runs, groups, sweep, *stack, level);
         }
     }
 }
@@ -202,11 +230,20 @@ pub(crate) fn link_touching(
         columns: Columns::of(alloc, kinds.cols)?,
         uprights,
         met_uprights: 0,
+        next_begin: 0,
         rows: kinds.rows,
         met_rows: 0,
+        next_first: 0,
+        last_row: None,
     };
+    let tiles = Direction::Up.rise(size);
     for layer in 0..size.layers() {
-        sweep_layer(size, runs, groups, &mut sweep, &kinds.stacks, layer);
+        let level = Level {
+            layer,
+            vertex: layer.wrapping_mul(tiles),
+            row: layer.wrapping_mul(size.rows()),
+        };
+        sweep_layer(size, runs, groups, &mut sweep, &kinds.stacks, level);
     }
     meet_rows(size, runs, groups, &mut sweep, Vertex(u32::MAX));
     Ok(())
