@@ -47,8 +47,13 @@ impl Columns {
         })
     }
 
-    /// The place of the first column from one of the grid on.
+    /// The place of the first column from one of the grid on. Where no column is left out before it, that needs no search.
     pub fn place_of(&self, col: u32) -> usize {
+        let first = self.cols.first().copied().unwrap_or(0);
+        let guess = col.saturating_sub(first) as usize;
+        if self.cols.get(guess) == Some(&col) {
+            return guess;
+        }
         self.cols.partition_point(|c| *c < col)
     }
 

@@ -62,6 +62,7 @@ fn meet_uprights(sweep: &mut Sweep, row: u32) {
 }
 
 /// Links the run of a row with the run of a column, if they cross or touch.
+#[inline(always)]
 fn link_crossing(
     size: Size,
     runs: &[Run],
