@@ -23,7 +23,7 @@ use Rattle.judge_cli.proofs.FilePorts.{AreInputs, AreOutputs, made_apart, made_n
 use Rattle.judge_cli.proofs.LeftOutcomes.{creates-since, early-since, gains-since, made-since}
 use Rattle.judge_cli.proofs.Outcomes.{status-no_report, status-no_objection}
 use Rattle.judge_cli.proofs.RefusedRuns.{is_refused}
-use Rattle.judge_cli.proofs.Traces.{none_in, touches-more, in_order-after_reads}
+use Rattle.judge_cli.proofs.Traces.{none_in, touches-more, touches-read, in_order-after_reads}
 
 -- ---- the files of a command
 
@@ -74,13 +74,46 @@ touches-then read made a b c inputs outputs reads touches still = record {
   out_count = rw reads.still at touches.out_count;
 }
 
+-- where no file was made, these might have been
+touches-unmade : (read made : List Source) (a c : Told) → AreInputs read → AreOutputs made → TouchesOnly (ports_of read) [] a c
+    → TouchesOnly (ports_of read) (ports_of made) a c
+touches-unmade read made a c inputs outputs touches =
+    touches-more (ports_of read) (ports_of made) a c (λ p at. made_not_read read made p inputs outputs at)
+    (λ p at. made_apart made p outputs at) touches
+
+-- ---- the files that an outcome leaves
+
+-- an objection leaves none
+abbrev pub left_files : Bool → List Source → List Source
+left_files false made = made
+left_files true made = []
+
+left_outputs : (objects : Bool) (made : List Source) → AreOutputs made → AreOutputs (left_files objects made)
+left_outputs false made outputs = outputs
+left_outputs true made outputs = tt
+
+left_creates : (objects : Bool) (read made : List Source) (a : Told) → AreOutputs made → ExpectsNames (read ++ made) a
+    → AreOrderlyCreates a (left_files objects made)
+left_creates false read made a outputs expects = expected_creates read made a outputs expects
+left_creates true read made a outputs expects = tt
+
+left_touches : (objects : Bool) (read made : List Source) (a c : Told) → AreInputs read → AreOutputs made
+    → TouchesOnly (ports_of read) (ports_of (left_files objects made)) a c → TouchesOnly (ports_of read) (ports_of made) a c
+left_touches false read made a c inputs outputs touches = touches
+left_touches true read made a c inputs outputs touches = touches-unmade read made a c inputs outputs touches
+
+-- nor does any outcome of a command that makes none
+pub left_none : (objects : Bool) → left_files objects [] ≡ []
+left_none false = refl
+left_none true = refl
+
 -- ---- by its status
 
 -- whole or cut short, with the status that belongs to it
 abbrev EndsWith : List Source → (RunOutcome → Type 0) → Bool → Told → Told → ℕ → Type 0
 EndsWith made IsRight objects a c status =
-    (status ≡ whole_status objects) × IsWhole made IsRight objects a c
-    ⊎ (status ≡ cut_status objects) × IsCutShort made IsRight objects a c
+    (status ≡ whole_status objects) × IsWhole (left_files objects made) IsRight objects a c
+    ⊎ (status ≡ cut_status objects) × IsCutShort (left_files objects made) IsRight objects a c
 
 if_done : (made : List Source) (IsRight : RunOutcome → Type 0) (objects : Bool) (a c : Told) (status : ℕ)
     → EndsWith made IsRight objects a c status
@@ -92,7 +125,7 @@ if_done made IsRight true a c status (inr (is, cut)) zero = let clash : done_sta
 
 if_objected : (made : List Source) (IsRight : RunOutcome → Type 0) (objects : Bool) (a c : Told) (status : ℕ)
     → EndsWith made IsRight objects a c status
-    → status ≡ objected_status → IsWhole made IsRight true a c ⊎ IsCutShort made IsRight true a c
+    → status ≡ objected_status → IsWhole [] IsRight true a c ⊎ IsCutShort [] IsRight true a c
 if_objected made IsRight false a c status (inl (is, whole)) one = let clash : objected_status ≡ done_status = sym one ∙ is in cc
 if_objected made IsRight false a c status (inr (is, cut)) one =
     let clash : objected_status ≡ unwritten_status = sym one ∙ is in cc
@@ -109,6 +142,15 @@ if_unwritten made IsRight true a c status (inl (is, whole)) seven =
     let clash : unwritten_status ≡ objected_status = sym seven ∙ is in cc
 if_unwritten made IsRight true a c status (inr (is, cut)) seven =
     let clash : unwritten_status ≡ objected_status = sym seven ∙ is in cc
+
+-- a file is made only by a run that is done or unwritten
+if_neither : (read made : List Source) (IsRight : RunOutcome → Type 0) (objects : Bool) (a c : Told) (status : ℕ)
+    → EndsWith made IsRight objects a c status
+    → TouchesOnly (ports_of read) (ports_of (left_files objects made)) a c
+    → status ≢ done_status → status ≢ unwritten_status → TouchesOnly (ports_of read) [] a c
+if_neither read made IsRight false a c status (inl (is, whole)) touches not_zero not_seven = absurd (not_zero is)
+if_neither read made IsRight false a c status (inr (is, cut)) touches not_zero not_seven = absurd (not_seven is)
+if_neither read made IsRight true a c status ends touches not_zero not_seven = touches
 
 one_of_three : (made : List Source) (IsRight : RunOutcome → Type 0) (objects : Bool) (a c : Told) (status : ℕ)
     → EndsWith made IsRight objects a c status
@@ -128,11 +170,13 @@ pub run-left : (read made : List Source) (IsRight : RunOutcome → Type 0) (a b 
     → IsRight outcome
     → OnlyReads read a b
     → b.in_faults ≡ a.in_faults
-    → Leaves made outcome b c status
+    → Leaves (left_files outcome.objects made) outcome b c status
     → IsCommandRun read made IsRight a c status
 run-left read made IsRight a b c status outcome inputs outputs accepted right reads calm leaves =
     let objects = outcome.objects in
-    let kept : AreUnopened made a b = λ p at. reads.others p (made_not_read read made p inputs outputs at) in
+    let files = left_files objects made in
+    let written : AreOutputs files = left_outputs objects made outputs in
+    let kept : AreUnopened files a b = λ p at. reads.others p (made_not_read read files p inputs written at) in
     let report : b.ports Report ≡ a.ports Report = reads.others Report (report_not_read read inputs) in
     let ends : EndsWith made IsRight objects a c status = elim leaves.ends [
       | inl whole ↦ inl (
@@ -141,7 +185,7 @@ run-left read made IsRight a b c status outcome inputs outputs accepted right re
           outcome = outcome;
           is_right = right;
           objects_is = refl;
-          files = made-since made outcome.texts a b c kept whole.1;
+          files = made-since files outcome.texts a b c kept whole.1;
           report = gains-since a b c outcome.report report whole.2;
           quiet = whole.3 ∙ reads.still;
         },
@@ -152,12 +196,14 @@ run-left read made IsRight a b c status outcome inputs outputs accepted right re
           outcome = outcome;
           is_right = right;
           objects_is = refl;
-          early = early-since made outcome.texts outcome.report a b c kept report reads.still cut.1;
+          early = early-since files outcome.texts outcome.report a b c kept report reads.still cut.1;
           failed = subst (λ (n : ℕ). Rose n c.out_faults) reads.still cut.2;
         },
       )
     ] in
     let statuses = one_of_three made IsRight objects a c status ends in
+    let touches : TouchesOnly (ports_of read) (ports_of files) a c =
+    touches-then read files a b c inputs written reads leaves.touches leaves.still in
     record {
       done = if_done made IsRight objects a c status ends;
       objected = if_objected made IsRight objects a c status ends;
@@ -177,9 +223,10 @@ run-left read made IsRight a b c status outcome inputs outputs accepted right re
           | inr seven ↦ absurd (out_ok (if_unwritten made IsRight objects a c status ends seven).failed)
         ]
       ];
-      touches = touches-then read made a b c inputs outputs reads leaves.touches leaves.still;
+      touches = left_touches objects read made a c inputs outputs touches;
+      uncreated = if_neither read made IsRight objects a c status ends touches;
       unread = λ not_six. leaves.still ∙ calm;
-      in_order = λ expects. leaves.in_order (creates-since made a b kept (expected_creates read made a outputs expects))
+      in_order = λ expects. leaves.in_order (creates-since files a b kept (left_creates objects read made a outputs expects))
           ∙ reads.in_order (expected_opens read made a inputs expects);
     }
 
@@ -195,10 +242,12 @@ pub run-refused : (read made : List Source) (IsRight : RunOutcome → Type 0) (a
     → (¬ OutputFailed b c → Adds b c Report (lines_of r))
     → IsCommandRun read made IsRight a c status
 run-refused read made IsRight a b c status n r inputs outputs why reads calm is part whole =
-    let refused = is_refused read a b c status n r (report_not_read read inputs) why reads is part whole in
+    let apart = report_not_read read inputs in
+    let refused = is_refused read a b c status n r apart why reads is part whole in
+    let touches : TouchesOnly (ports_of read) [] a c = touches-read read a b c (take n (lines_of r)) apart reads part in
     record {
       done = λ zero. absurd {A = IsWhole made IsRight false a c} ((status-no_report r).0 (sym is ∙ zero));
-      objected = λ one. absurd {A = IsWhole made IsRight true a c ⊎ IsCutShort made IsRight true a c}
+      objected = λ one. absurd {A = IsWhole [] IsRight true a c ⊎ IsCutShort [] IsRight true a c}
           (status-no_objection r (sym is ∙ one));
       cut_short = λ seven. absurd {A = IsCutShort made IsRight false a c} ((status-no_report r).1 (sym is ∙ seven));
       refused = λ not_zero not_one not_seven. refused;
@@ -207,8 +256,8 @@ run-refused read made IsRight a b c status n r inputs outputs why reads calm is 
         | inr memory ↦ inr (is ∙ ap status_of memory)
       ];
       complete = λ all in_ok out_ok. inr (inr (is ∙ ap status_of (cause-accepted read a c r refused.cause all in_ok)));
-      touches = touches-more (ports_of read) (ports_of made) a c (λ p at. made_not_read read made p inputs outputs at)
-          (λ p at. made_apart made p outputs at) refused.touches;
+      touches = touches-unmade read made a c inputs outputs touches;
+      uncreated = λ not_zero not_seven. touches;
       unread = λ not_six. part.still ∙ calm (λ six. not_six (is ∙ ap status_of six));
       in_order = λ expects. in_order-after_reads read a b c (take n (lines_of r)) reads part
           (expected_opens read made a inputs expects);

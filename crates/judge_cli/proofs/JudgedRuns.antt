@@ -1,10 +1,10 @@
 -- Why what was read for a measure or a judgement is accepted.
-use Rattle.std.proofs.Common.{◌≡◌, ◌<◌, ℕ, List, [], ◌∷◌, length, Contains, Some, Ok, false, refl, sym, ◌∙◌, arith, le-ltb, get_or, inl, inr}
+use Rattle.std.proofs.Common.{◌≡◌, ◌<◌, ℕ, List, [], ◌∷◌, length, Some, Ok, false, refl, sym, ◌∙◌, arith, le-ltb, get_or, inl, inr}
 use Rattle.std.specs.Prelude.{nat_lt}
 use Rattle.std.proofs.lemmas.Option.{slice_get-get_or, slice_get_within}
 use Rattle.std.proofs.lemmas.Slice.Zip.{AllZip-long}
 use Rattle.cert_text.specs.declared.cert.Cert.{Cert}
-use Rattle.gr_desk.specs.declared.port.Port.TheVariants.{In, RoutesIn, CertIn, Report}
+use Rattle.gr_desk.specs.declared.port.Port.TheVariants.{In, RoutesIn, CertIn}
 use Rattle.gr_desk.specs.Told.{Told}
 use Rattle.grid_base.proofs.Lists.{AllZip-at}
 use Rattle.grid_graph.specs.declared.design.Design.{Design}
@@ -20,11 +20,9 @@ use Rattle.ispd_reader.specs.Limits.{max_bytes}
 use Rattle.judge_cli.specs.JudgeRun.{JudgeTask, IsReadCert, judge_sources}
 use Rattle.judge_cli.specs.MeasureRun.{MeasureTask, AreReadRoutes, measure_sources}
 use Rattle.judge_cli.specs.Refusals.{AreReachable, IsAcceptedIfTold}
-use Rattle.judge_cli.specs.Sources.{ports_of}
 use Rattle.judge_cli.proofs.Causes.{AreAcceptedIfTold}
 use Rattle.judge_cli.proofs.ReadFiles.{AreApart}
 use Rattle.judge_cli.proofs.Traces.{contained_in_two, only_of}
-use Rattle.grid_base.proofs.Lists.{head_or_rest}
 
 -- the nets of a design with grounds are reachable
 grounds_reachable : (g : Grid) (nets : List NetSpec) (over : List Ground) → AreGrounds g nets over → AreReachable g nets
@@ -68,19 +66,4 @@ pub routed-apart : (q : MeasureTask) (cert : List ℕ) → AreApart (measure_sou
 routed-apart q cert p at other = elim (contained_in_two p In RoutesIn at) [
   | inl is ↦ (let same : In ≡ CertIn = sym is ∙ only_of p CertIn other in cc)
   | inr is ↦ (let same : RoutesIn ≡ CertIn = sym is ∙ only_of p CertIn other in cc)
-]
-
-pub report-not_measured : (q : MeasureTask) → ¬ Contains (ports_of (measure_sources q)) Report
-report-not_measured q at = elim (head_or_rest In (RoutesIn ∷ []) Report at) [
-  | inl same ↦ cc
-  | inr rest ↦ (let same : Report ≡ RoutesIn = only_of Report RoutesIn rest in cc)
-]
-
-pub report-not_judged : (q : JudgeTask) → ¬ Contains (ports_of (judge_sources q)) Report
-report-not_judged q at = elim (head_or_rest In (RoutesIn ∷ CertIn ∷ []) Report at) [
-  | inl same ↦ cc
-  | inr rest ↦ elim (head_or_rest RoutesIn (CertIn ∷ []) Report rest) [
-    | inl same ↦ cc
-    | inr last ↦ (let same : Report ≡ CertIn = only_of Report CertIn last in cc)
-  ]
 ]

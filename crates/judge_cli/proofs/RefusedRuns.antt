@@ -11,7 +11,7 @@ use Rattle.judge_cli.specs.Sources.{Source, ports_of}
 use Rattle.judge_cli.specs.Steps.{OnlyReads}
 use Rattle.judge_cli.specs.Traces.{OutputFailed}
 use Rattle.judge_cli.proofs.Causes.{cause-later}
-use Rattle.judge_cli.proofs.Traces.{gains-after_reads, failed-after_reads, touches-read}
+use Rattle.judge_cli.proofs.Traces.{gains-after_reads, failed-after_reads}
 
 -- it read, and then said why it is refused
 abbrev pub is_refused : (sources : List Source) (a b c : Told) (status n : ℕ) (r : Refusal)
@@ -31,5 +31,4 @@ is_refused sources a b c status n r apart why reads is part whole = record {
     part = gains-after_reads sources a b c (take n (lines_of r)) apart reads part;
     whole = λ ok. gains-after_reads sources a b c (lines_of r) apart reads (whole (λ failed. ok (failed-after_reads sources a b c reads failed)));
   };
-  touches = touches-read sources a b c (take n (lines_of r)) apart reads part;
 }

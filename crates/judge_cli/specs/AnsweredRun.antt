@@ -1,10 +1,10 @@
 -- A command that reads files, makes none, and says its answer on the report: `measure` and `judge`.
-use Rattle.std.specs.Prelude.{◌≡◌, ◌⊎◌, ℕ, Bool, true, false, List, []}
+use Rattle.std.specs.Prelude.{◌≡◌, ℕ, Bool, true, false, List, []}
 use Rattle.gr_desk.specs.Told.{Told}
 use Rattle.judge_cli.specs.declared.answer.Answer.{Answer}
 use Rattle.judge_cli.specs.declared.answer.Answer.TheVariants.{Measured, Yes, No}
 use Rattle.judge_cli.specs.AnswerLines.{answer_text}
-use Rattle.judge_cli.specs.CommandRun.{RunOutcome, IsWhole, IsCutShort, IsCommandRun}
+use Rattle.judge_cli.specs.CommandRun.{RunOutcome, IsCommandRun}
 use Rattle.judge_cli.specs.Sources.{Source}
 
 -- the answer is a reason against what was judged
@@ -24,8 +24,3 @@ SaysRight IsRight outcome = (answer : Answer) × IsRight answer × (outcome ≡ 
 -- a run that reads these files, in this order, and says an answer that is right
 abbrev pub IsAnsweredRun : List Source → (Answer → Type 0) → Told → Told → ℕ → Type 0
 IsAnsweredRun sources IsRight before after status = IsCommandRun sources [] (SaysRight IsRight) before after status
-
--- a reason that is right was said as far as it can be: whole, or some part of its line from the front, and then a write failed
-abbrev pub IsObjected : (Answer → Type 0) → Told → Told → Type 0
-IsObjected IsRight before after =
-    IsWhole [] (SaysRight IsRight) true before after ⊎ IsCutShort [] (SaysRight IsRight) true before after

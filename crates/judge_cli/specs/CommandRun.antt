@@ -68,8 +68,8 @@ pub record ExpectsNames (files : List Source) (told : Told) : Type 0 where
 pub record IsCommandRun (read made : List Source) (IsRight : RunOutcome → Type 0) (before after : Told) (status : ℕ) : Type 0 where
   -- a run that is done has made the files whole, and said so
   pub done : status ≡ done_status → IsWhole made IsRight false before after
-  -- a run that has an objection says it; where that fails the status stays
-  pub objected : status ≡ objected_status → IsWhole made IsRight true before after ⊎ IsCutShort made IsRight true before after
+  -- a run that has an objection makes no file and says it; where that fails the status stays
+  pub objected : status ≡ objected_status → IsWhole [] IsRight true before after ⊎ IsCutShort [] IsRight true before after
   -- a run that is unwritten could not make or say all of it
   pub cut_short : status ≡ unwritten_status → IsCutShort made IsRight false before after
   -- every other status is that of a refusal, which has its cause and is said on the report
@@ -87,6 +87,8 @@ pub record IsCommandRun (read made : List Source) (IsRight : RunOutcome → Type
       → (status ≡ done_status) ⊎ (status ≡ objected_status) ⊎ (status ≡ status_of NoMemory)
   -- nothing but the files is opened or read, created or written, and nothing else changes but the report
   pub touches : TouchesOnly (ports_of read) (ports_of made) before after
+  -- a file is created only by a run that has all it will write
+  pub uncreated : status ≢ done_status → status ≢ unwritten_status → TouchesOnly (ports_of read) [] before after
   -- where an open or a read failed, the status says so
   pub unread : status ≢ status_of Unread → after.in_faults ≡ before.in_faults
   -- it opens and creates the names where they belong and no others, and reads and writes what it opened and created

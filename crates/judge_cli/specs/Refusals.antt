@@ -17,7 +17,7 @@ use Rattle.judge_cli.specs.declared.refusal.Refusal.TheVariants.{NoCommand, Inpu
 use Rattle.judge_cli.specs.JudgedTexts.{blocks_or_refusal, stated_or_refusal}
 use Rattle.judge_cli.specs.Lines.{status_of}
 use Rattle.judge_cli.specs.Sources.{Source, ports_of}
-use Rattle.judge_cli.specs.Traces.{ReportsRefusal, TouchesOnly, InputFailed}
+use Rattle.judge_cli.specs.Traces.{ReportsRefusal, InputFailed}
 
 -- ---- what is wrong with a text
 
@@ -97,11 +97,9 @@ IsCause (s ∷ later) before after refusal =
 
 -- ---- what a refused run leaves
 
--- the run, which reads these files, was refused: for a cause, with the status of the refusal, and it said so; no file was
--- created
+-- the run, which reads these files, was refused: for a cause, with the status of the refusal, and it said so
 pub record IsRefused (sources : List Source) (before after : Told) (status : ℕ) : Type 0 where
   pub refusal : Refusal
   pub status_is : status ≡ status_of refusal
   pub cause : IsCause sources before after refusal
   pub says : ReportsRefusal before after refusal
-  pub touches : TouchesOnly (ports_of sources) [] before after
