@@ -1,7 +1,6 @@
 pub mod Above
 pub mod Kept
 pub mod FindingParts
-pub mod MadeAndSaid
 pub mod NewCerts
-pub mod OutcomeParts
+pub mod TwoLists
 pub mod WholeRuns

@@ -7,7 +7,8 @@ pub use Rattle.dual_bound.specs.DesignBounds
 pub use Rattle.dual_bound.specs.LeastOverflow
 pub use Rattle.dual_bound.specs.Prices
 pub use Rattle.edge_prices.specs.Weights
-pub use Rattle.judge_cli.specs.AnsweredRun
+pub use Rattle.judge_cli.specs.AnswerLines
+pub use Rattle.judge_cli.specs.CommandRun
 pub use Rattle.judge_cli.specs.JudgeRun
 pub use Rattle.judge_cli.specs.Lines
 pub use Rattle.judge_cli.specs.MeasureRun
@@ -30,4 +31,3 @@ pub mod Words
 pub mod Report
 pub mod PricedEdges
 pub mod ShownLists
-pub mod Outcomes

@@ -1,28 +1,28 @@
 -- What the program `unavoidable` promises: `run_unavoidable`, which its `main` calls, ensures `IsWholeRun` and nothing else.
 --
 -- Read in this order:
---   FoundHeadline   what a run that ends with status 0 has written and reported
---   Findings        what is true of it
---   UnavoidableRun  what a run leaves on each status
+--   FoundHeadline   what a run has to leave: what is found where the judge accepts routes and certificate, and else the reason
+--   Findings        what is true of what is found
+--   UnavoidableRun  which files a run reads and makes
 --   Words           which words are a command, and what they ask for
 --   Report          the report, and
 --   PricedEdges     its lines for edges
--- and in the crates below: `JudgeRun`, `AnsweredRun`, `Refusals`, `Traces` and `Outputs` of `judge_cli` for what a run shares with
--- one of `judge`, `LeastOverflow` of `dual_bound` for what a price list shows.
-use Rattle.std.specs.Prelude.{◌≡◌, ℕ, List, [], map, string_bytes, take, true, false}
+-- and in the crates below: `CommandRun` of `judge_cli` for what a run leaves on each status, which is the same for every command,
+-- `Refusals`, `Traces` and `Outputs` there for its words, and `LeastOverflow` of `dual_bound` for what a price list shows.
+use Rattle.std.specs.Prelude.{◌≡◌, ℕ, List, [], map, string_bytes, true, false}
 use Rattle.std.specs.declared.string.String.{String}
 use Rattle.gr_desk.specs.Told.{Told}
-use Rattle.judge_cli.specs.Traces.{ReportGains, TouchesOnly, OutputFailed}
+use Rattle.judge_cli.specs.declared.refusal.Refusal.TheVariants.{NoCommand}
+use Rattle.judge_cli.specs.Lines.{status_of}
+use Rattle.judge_cli.specs.Traces.{ReportsSince, TouchesOnly}
 use Rattle.unavoidable_cli.specs.UnavoidableRun.{IsUnavoidableRun}
-use Rattle.unavoidable_cli.specs.Words.{are_four_names, unavoidable_task_of_words, usage_status, usage_text}
+use Rattle.unavoidable_cli.specs.Words.{are_four_names, unavoidable_task_of_words, usage_text}
 
 -- a run on words that are no command
 pub record IsUsageRun (before after : Told) (status : ℕ) : Type 0 where
-  pub status_is : status ≡ usage_status
+  pub status_is : status ≡ status_of NoCommand
   -- the report says how to call the program, as far as it can be written, and all of it where no write failed
-  pub count : ℕ
-  pub part : ReportGains before after (take count usage_text)
-  pub whole : ¬ OutputFailed before after → ReportGains before after usage_text
+  pub says : ReportsSince before.out_faults before after usage_text
   -- nothing is opened, created or read
   pub touches : TouchesOnly [] [] before after
   pub unread : after.in_faults ≡ before.in_faults

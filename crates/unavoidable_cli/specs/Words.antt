@@ -3,7 +3,6 @@
 use Rattle.std.specs.Prelude.{◌==◌, ◌&&◌, ℕ, Bool, List, [], length, codes, slice_index_or}
 use Rattle.std.specs.List.{list_all}
 use Rattle.command_words.specs.CommandLine.{all_differ, is_file_name}
-use Rattle.judge_cli.specs.JudgeRun.{JudgeTask}
 use Rattle.unavoidable_cli.specs.declared.names.Names.{Names}
 
 -- four names of files, no two of them equal
@@ -30,14 +29,6 @@ unavoidable_task_of_words words = record {
   new = slice_index_or words 3 [];
 }
 
--- what `judge` is asked of the same design, routes and certificate
-abbrev pub judged_part : UnavoidableTask → JudgeTask
-judged_part q = record { input = q.input; routes = q.routes; cert = q.cert }
-
 -- what is said where the words are no command
 abbrev pub usage_text : List ℕ
 usage_text = codes "refused 2\nusage: unavoidable IN ROUTES CERT NEW\n"
-
--- and the status
-abbrev pub usage_status : ℕ
-usage_status = 2

@@ -5,7 +5,7 @@ ghost use Rattle.cert_text.specs.Certs.{IsCertWithin};
 ghost use Rattle.grid_graph.specs.Grounds.{AreGrounds};
 ghost use Rattle.judge_cli.specs.Steps.{ReadsSources};
 ghost use Rattle.route_judge.specs.Limits.{AreBlocks};
-ghost use Rattle.unavoidable_cli.specs.Outcomes.{IsOutcome, IsOutcomeOf};
+ghost use Rattle.unavoidable_cli.specs.FoundHeadline.{IsOutcome, IsOutcomeOf};
 ghost use Rattle.unavoidable_cli.specs.UnavoidableRun.{unavoidable_sources};
 ghost use Rattle.unavoidable_cli.specs.Words.{unavoidable_task_of};
 

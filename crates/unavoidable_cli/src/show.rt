@@ -1,10 +1,10 @@
 //! What the program does where its words are a command.
 
 ghost use Rattle.std.specs.Prelude.{◌≡◌};
-ghost use Rattle.judge_cli.specs.Saying.{SaysDone};
-ghost use Rattle.unavoidable_cli.specs.Outcomes.{EndsShowing, texts_of_finding};
+ghost use Rattle.judge_cli.specs.Saying.{Leaves, SaysDone};
+ghost use Rattle.unavoidable_cli.specs.FoundHeadline.{run_outcome};
 ghost use Rattle.unavoidable_cli.specs.Report.{HasEdges, finding_report};
-ghost use Rattle.unavoidable_cli.specs.UnavoidableRun.{IsUnavoidableRun};
+ghost use Rattle.unavoidable_cli.specs.UnavoidableRun.{IsUnavoidableRun, unavoidable_files};
 ghost use Rattle.unavoidable_cli.specs.Words.{unavoidable_task_of};
 
 use crate::finding::Finding;
@@ -36,7 +36,7 @@ pub(crate) fn show<R: Threads + Sync, D: Desk>(
 /// Makes the file of the new certificate and writes the report, and answers the status.
 fn finish<D: Desk>(desk: &mut D, names: &Names<'_>, finding: &Finding) -> u8
     requires { HasEdges finding.now }
-    ensures { EndsShowing (unavoidable_task_of names.now) (texts_of_finding finding.now) (D.told desk.old) (D.told desk.new) result }
+    ensures { Leaves (unavoidable_files (unavoidable_task_of names.now)) (run_outcome (Outcome.Found finding.now)) (D.told desk.old) (D.told desk.new) result }
 {
     match make_cert(desk, names.new_certificate, &finding.new) {
         Ok(()) => say_finding(desk, finding),

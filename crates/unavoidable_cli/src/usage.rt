@@ -4,8 +4,10 @@ ghost use Rattle.std.specs.Prelude.{◌≡◌, ℕ, take};
 ghost use Rattle.gr_desk.specs.declared.port.Port.TheVariants.{Report};
 ghost use Rattle.gr_desk.specs.Pens.{Ends};
 ghost use Rattle.gr_desk.specs.Runs.{Adds};
+ghost use Rattle.judge_cli.specs.declared.refusal.Refusal.TheVariants.{NoCommand};
+ghost use Rattle.judge_cli.specs.Lines.{status_of};
 ghost use Rattle.judge_cli.specs.Traces.{OutputFailed};
-ghost use Rattle.unavoidable_cli.specs.Words.{usage_status, usage_text};
+ghost use Rattle.unavoidable_cli.specs.Words.{usage_text};
 
 use gr_desk::{Desk, Failed, Pen, Port};
 
@@ -23,7 +25,7 @@ fn write_usage<D: Desk>(desk: &mut D) -> Result<(), Failed>
 
 /// Says on the report how the program is called, and answers the status, which stays where that fails.
 pub(crate) fn say_usage<D: Desk>(desk: &mut D) -> u8
-    ensures status { result ≡ usage_status }
+    ensures status { result ≡ status_of NoCommand }
     ensures part { (n : ℕ) × Adds (D.told desk.old) (D.told desk.new) Report (take n usage_text) }
     ensures whole { ¬ OutputFailed (D.told desk.old) (D.told desk.new) → Adds (D.told desk.old) (D.told desk.new) Report usage_text }
 {

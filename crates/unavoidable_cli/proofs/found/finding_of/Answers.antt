@@ -3,7 +3,7 @@ use Rattle.unavoidable_cli.specs.Findings.{IsSameOrBetter}
 use Rattle.unavoidable_cli.specs.ShownLists.{IsShownList}
 use Rattle.unavoidable_cli.proofs.FindingParts.{better_most, judged_routes}
 use Rattle.unavoidable_cli.proofs.NewCerts.{accepted-new}
-use Rattle.unavoidable_cli.proofs.OutcomeParts.{most_of_lists, one_of_lists}
+use Rattle.unavoidable_cli.proofs.TwoLists.{most_of_lists, one_of_lists}
 use Rattle.unavoidable_cli.proofs.found.finding_of.Goals as goal
 
 pub cuts_of-requires-clause-routes : goal.cuts_of-requires-clause-routes
