@@ -12,18 +12,19 @@ use Rattle.judge_cli.specs.declared.refusal.Refusal.{Refusal}
 use Rattle.judge_cli.specs.declared.refusal.Refusal.TheVariants.{NoCommand, Input, Unreachable, Text, Unread, NoMemory}
 use Rattle.gr_desk.specs.declared.port.Port.{Port}
 use Rattle.gr_desk.specs.declared.port.Port.TheVariants.{In, RoutesIn, CertIn, RoutesOut, CertOut, DesignOut, Report}
-use Rattle.judge_cli.specs.Refusals.{AreReachable, IsRefusedFor, IsRefusedAt, IsAcceptedAt, IsAcceptedIfTold, AreUnopened, HasToBeRefused, AreAccepted, IsCause, IsCauseAt, IsCutOffText}
-use Rattle.judge_cli.specs.Sources.{Source, ports_of, design_source}
+use Rattle.judge_cli.specs.Refusals.{AreReachable, IsRefusedAt, IsAcceptedAt, AreUnopened, HasToBeRefused, AreAccepted, IsCause, IsCauseAt}
+use Rattle.judge_cli.specs.Sources.{Source, IfTold, ports_of, design_source}
 use Rattle.judge_cli.specs.Traces.{InputFailed}
 use Rattle.grid_base.proofs.Lists.{Contains-rest}
 use Rattle.judge_cli.proofs.Traces.{none_in, ports-either}
 
 -- the first net that is cut off is one, in whatever design of the text
-one_cut_off : (text : List ℕ) (id id' t t' : ℕ) → IsCutOffText text id t → IsCutOffText text id' t' → (id ≡ id') × (t ≡ t')
-one_cut_off text id id' t t' cut other =
-    let alike = one_design text cut.design other.design cut.named other.named in
-    first_cut_off-once other.design.grid other.design.nets id id' t t'
-    (IsFirstCutOff-alike cut.design.grid other.design.grid other.design.nets id t alike.grids (rw alike.nets at cut.first)) other.first
+one_cut_off : (text : List ℕ) (net other : UnreachableNet) → IsRefusedAt In text (Unreachable net) → IsRefusedAt In text (Unreachable other)
+    → (net.id ≡ other.id) × (net.terminal ≡ other.terminal)
+one_cut_off text net other (d, named, first) (e, named_too, first_too) =
+    let alike = one_design text d e named named_too in
+    first_cut_off-once e.grid e.nets net.id other.id net.terminal other.terminal
+    (IsFirstCutOff-alike d.grid e.grid e.nets net.id net.terminal alike.grids (rw alike.nets at first)) first_too
 
 same_net : (net other : UnreachableNet) → net.id ≡ other.id → net.terminal ≡ other.terminal → net ≡ other
 same_net net other id terminal =
@@ -32,7 +33,7 @@ same_net net other id terminal =
     ap with_id id ∙ ap with_terminal terminal
 
 -- the text of a design is refused for one cause
-pub refused_once : (text : List ℕ) (r x : Refusal) → IsRefusedFor text r → IsRefusedFor text x → r ≡ x
+pub refused_once : (text : List ℕ) (r x : Refusal) → IsRefusedAt In text r → IsRefusedAt In text x → r ≡ x
 refused_once text NoCommand x h k = absurd h
 refused_once text Unread x h k = absurd h
 refused_once text NoMemory x h k = absurd h
@@ -42,20 +43,20 @@ refused_once text r Unread h k = absurd k
 refused_once text r NoMemory h k = absurd k
 refused_once text r (Text fault) h k = absurd k
 refused_once text (Input fault) (Input other) h k = let same : Err fault ≡ Err other = sym h ∙ k in cc
-refused_once text (Input fault) (Unreachable net) h k = let same : Err fault ≡ Ok k.named.contents = sym h ∙ k.named.read in cc
-refused_once text (Unreachable net) (Input fault) h k = let same : Err fault ≡ Ok h.named.contents = sym k ∙ h.named.read in cc
-refused_once text (Unreachable net) (Unreachable other) h k = let same = one_cut_off text net.id other.id net.terminal other.terminal h k in ap (λ (n : UnreachableNet). Unreachable n) (same_net net other same.0 same.1)
+refused_once text (Input fault) (Unreachable net) h k = let same : Err fault ≡ Ok k.1.contents = sym h ∙ k.1.read in cc
+refused_once text (Unreachable net) (Input fault) h k = let same : Err fault ≡ Ok h.1.contents = sym k ∙ h.1.read in cc
+refused_once text (Unreachable net) (Unreachable other) h k = let same = one_cut_off text net other h k in ap (λ (n : UnreachableNet). Unreachable n) (same_net net other same.0 same.1)
 
 -- a text that names a design of reachable nets is not refused
-pub not_refused : (text : List ℕ) (d : Design) (r : Refusal) → IsDesignOfText text d → AreReachable d.grid d.nets → IsRefusedFor text r → ⊥
+pub not_refused : (text : List ℕ) (d : Design) (r : Refusal) → IsDesignOfText text d → AreReachable d.grid d.nets → IsRefusedAt In text r → ⊥
 not_refused text d NoCommand named reachable h = h
 not_refused text d Unread named reachable h = h
 not_refused text d NoMemory named reachable h = h
 not_refused text d (Text fault) named reachable h = h
 not_refused text d (Input fault) named reachable h = let same : Err fault ≡ Ok named.contents = sym h ∙ named.read in cc
-not_refused text d (Unreachable net) named reachable h =
-    let alike = one_design text h.design d h.named named in
-    cut_off-unreachable d.grid d.nets net.id net.terminal (IsFirstCutOff-alike h.design.grid d.grid d.nets net.id net.terminal alike.grids (rw alike.nets at h.first)) reachable
+not_refused text d (Unreachable net) named reachable (e, named_too, first) =
+    let alike = one_design text e d named_too named in
+    cut_off-unreachable d.grid d.nets net.id net.terminal (IsFirstCutOff-alike e.grid d.grid d.nets net.id net.terminal alike.grids (rw alike.nets at first)) reachable
 
 -- a text at a port is refused for one cause
 pub refused_once_at : (port : Port) (text : List ℕ) (r x : Refusal) → IsRefusedAt port text r → IsRefusedAt port text x → r ≡ x
@@ -105,10 +106,10 @@ cause-due (s ∷ later) a c r x (inr (accepted, rest)) (bytes, under, inr more) 
 pub cause-accepted : (sources : List Source) (a c : Told) (r : Refusal) → IsCause sources a c r → AreAccepted a.files sources → ¬ InputFailed a c → r ≡ NoMemory
 cause-accepted [] a c r cause all calm = cause
 cause-accepted (s ∷ later) a c r (inl (at, unopened)) all calm = elim (cause_at-says s a c r at calm) [
-  | inl says ↦ absurd (not_refused_at s.port all.0 r all.2 (says all.0 all.1))
+  | inl says ↦ absurd (not_refused_at s.port all.0.0 r all.0.2 (says all.0.0 all.0.1))
   | inr memory ↦ memory
 ]
-cause-accepted (s ∷ later) a c r (inr (accepted, rest)) all calm = cause-accepted later a c r rest all.3 calm
+cause-accepted (s ∷ later) a c r (inr (accepted, rest)) all calm = cause-accepted later a c r rest all.1 calm
 
 -- ---- a run that reads one file
 
@@ -121,7 +122,7 @@ cause-at s a b r (inl (at, unopened)) = at
 cause-at s a b r (inr (accepted, memory)) = subst (IsCauseAt s a b) (sym memory) tt
 
 -- of a design alone
-pub text_or_memory : (name text : List ℕ) (a c : Told) (r : Refusal) → IsCause (design_source name) a c r → a.files name ≡ Some text → ¬ InputFailed a c → IsRefusedFor text r ⊎ (r ≡ NoMemory)
+pub text_or_memory : (name text : List ℕ) (a c : Told) (r : Refusal) → IsCause (design_source name) a c r → a.files name ≡ Some text → ¬ InputFailed a c → IsRefusedAt In text r ⊎ (r ≡ NoMemory)
 text_or_memory name text a c r cause under calm =
     let design : Source = record { port = In; name = name } in
     elim (cause_at-says design a c r (cause-at design a c r cause) calm) [
@@ -131,22 +132,26 @@ text_or_memory name text a c r cause under calm =
 
 -- what the text of a design is refused for is a cause, and so is want of memory
 cause_at-of_text : (name text : List ℕ) (a b : Told) (r : Refusal) → ((bytes : List ℕ) → a.files name ≡ Some bytes → text ≡ bytes)
-    → IsRefusedFor text r ⊎ (r ≡ NoMemory) → IsCauseAt (record { port = In; name = name }) a b r
+    → IsRefusedAt In text r ⊎ (r ≡ NoMemory) → IsCauseAt (record { port = In; name = name }) a b r
 cause_at-of_text name text a b NoCommand same (inl for) = absurd for
 cause_at-of_text name text a b Unread same (inl for) = absurd for
 cause_at-of_text name text a b (Text fault) same (inl for) = absurd for
 cause_at-of_text name text a b NoMemory same for = tt
-cause_at-of_text name text a b (Input fault) same (inl for) = λ bytes under. subst (λ (t : List ℕ). IsRefusedFor t (Input fault)) (same bytes under) for
-cause_at-of_text name text a b (Unreachable net) same (inl for) = λ bytes under. subst (λ (t : List ℕ). IsRefusedFor t (Unreachable net)) (same bytes under) for
+cause_at-of_text name text a b (Input fault) same (inl for) = λ bytes under. subst (λ (t : List ℕ). IsRefusedAt In t (Input fault)) (same bytes under) for
+cause_at-of_text name text a b (Unreachable net) same (inl for) = λ bytes under. subst (λ (t : List ℕ). IsRefusedAt In t (Unreachable net)) (same bytes under) for
 cause_at-of_text name text a b r same (inr memory) = subst (IsCauseAt (record { port = In; name = name }) a b) (sym memory) tt
 
 pub cause-of_text : (name text : List ℕ) (a b : Told) (r : Refusal) → ((bytes : List ℕ) → a.files name ≡ Some bytes → text ≡ bytes)
-    → IsRefusedFor text r ⊎ (r ≡ NoMemory) → IsCause (design_source name) a b r
+    → IsRefusedAt In text r ⊎ (r ≡ NoMemory) → IsCause (design_source name) a b r
 cause-of_text name text a b r same for = cause-alone (record { port = In; name = name }) a b r (cause_at-of_text name text a b r same for)
 
 -- ---- causes of parts of a run
 
--- what the desk tells of the files' bytes is accepted
+-- what the desk tells of a file's bytes is accepted
+abbrev pub IsAcceptedIfTold : (List ℕ → Option (List ℕ)) → Source → Type 0
+IsAcceptedIfTold files s = IfTold files s.name (IsAcceptedAt s.port)
+
+-- and so of each of some files
 abbrev pub AreAcceptedIfTold : (List ℕ → Option (List ℕ)) → List Source → Type 0
 AreAcceptedIfTold files [] = Unit {0}
 AreAcceptedIfTold files (s ∷ later) = IsAcceptedIfTold files s × AreAcceptedIfTold files later

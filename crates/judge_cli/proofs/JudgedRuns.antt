@@ -19,8 +19,8 @@ use Rattle.route_text.specs.declared.block.Block.{Block}
 use Rattle.ispd_reader.specs.Limits.{max_bytes}
 use Rattle.judge_cli.specs.JudgeRun.{JudgeTask, IsReadCert, judge_sources}
 use Rattle.judge_cli.specs.MeasureRun.{MeasureTask, AreReadRoutes, measure_sources}
-use Rattle.judge_cli.specs.Refusals.{AreReachable, IsAcceptedIfTold}
-use Rattle.judge_cli.proofs.Causes.{AreAcceptedIfTold}
+use Rattle.judge_cli.specs.Refusals.{AreReachable}
+use Rattle.judge_cli.proofs.Causes.{AreAcceptedIfTold, IsAcceptedIfTold}
 use Rattle.judge_cli.proofs.ReadFiles.{AreApart}
 use Rattle.judge_cli.proofs.Traces.{contained_in_two, only_of}
 

@@ -14,7 +14,7 @@ use Rattle.grid_base.proofs.Lists.{Contains-rest}
 use Rattle.judge_cli.specs.declared.refusal.Refusal.{Refusal}
 use Rattle.judge_cli.specs.declared.refusal.Refusal.TheVariants.{Unread, NoMemory}
 use Rattle.ispd_reader.specs.Limits.{max_bytes}
-use Rattle.judge_cli.specs.Refusals.{AreUnopened, IsRefusedFor, IsRefusedAt, IsCause}
+use Rattle.judge_cli.specs.Refusals.{AreUnopened, IsRefusedAt, IsCause}
 use Rattle.judge_cli.specs.Sources.{Source, ports_of, design_source, AreOrderlyOpens}
 use Rattle.judge_cli.specs.Steps.{OnlyReads, ReadsSources, too_long_at}
 use Rattle.judge_cli.proofs.Causes.{AreAcceptedIfTold, cause-alone, cause-of_text, cause-read, cause-early, cause-behind}
@@ -195,7 +195,7 @@ error_of (Err y) e is = ap (λ (z : Refusal). Err z) is
 -- what a design's text is refused for, once it was read
 pub source-text : {T U : Type 0} (name text : List ℕ) (a b : Told) (v : T) (x : Result U Refusal)
     → ReadsSources {T = T} (design_source name) a b (Ok v) → ((bytes : List ℕ) → a.files name ≡ Some bytes → text ≡ bytes)
-    → ((q : Refusal) → x ≡ Err q → IsRefusedFor text q ⊎ (q ≡ NoMemory)) → ReadsSources (design_source name) a b x
+    → ((q : Refusal) → x ≡ Err q → IsRefusedAt In text q ⊎ (q ≡ NoMemory)) → ReadsSources (design_source name) a b x
 source-text name text a b v x read same for = record {
   refused = λ q is. cause-of_text name text a b q same (for q is);
   reads = read.reads;

@@ -19,7 +19,7 @@ use Rattle.judge_cli.specs.declared.routes_report.RoutesReport.{RoutesReport}
 use Rattle.judge_cli.specs.AnsweredRun.{IsAnsweredRun}
 use Rattle.ispd_reader.specs.Limits.{max_bytes}
 use Rattle.judge_cli.specs.MeasureRun.{AreReadRoutes, IsReportOf}
-use Rattle.judge_cli.specs.Sources.{Source}
+use Rattle.judge_cli.specs.Sources.{Source, IfTold}
 
 -- ---- what its words ask for
 
@@ -50,8 +50,7 @@ judge_sources q =
 
 -- the certificate that the bytes under the name have, where the desk tells these bytes
 abbrev pub IsReadCert : List ℕ → Told → Cert → Type 0
-IsReadCert name told cert =
-    (bytes : List ℕ) → told.files name ≡ Some bytes → (length bytes ≤ max_bytes) × IsCertOf bytes cert
+IsReadCert name told cert = IfTold told.files name (λ bytes. (length bytes ≤ max_bytes) × IsCertOf bytes cert)
 
 -- routes and a certificate are accepted: nothing can be objected to them, the report is that of the routes with the certificate's
 -- budget, and what is stated is the certificate's bound, which is at most the greatest load/capacity of every routing, whole

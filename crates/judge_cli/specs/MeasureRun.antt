@@ -18,7 +18,7 @@ use Rattle.judge_cli.specs.declared.answer.Answer.TheVariants.{Measured, Yes, No
 use Rattle.judge_cli.specs.declared.routes_report.RoutesReport.{RoutesReport}
 use Rattle.judge_cli.specs.AnsweredRun.{IsAnsweredRun}
 use Rattle.judge_cli.specs.JudgedTexts.{blocks_or_refusal}
-use Rattle.judge_cli.specs.Sources.{Source}
+use Rattle.judge_cli.specs.Sources.{Source, IfTold}
 
 -- ---- what its words ask for
 
@@ -46,9 +46,9 @@ measure_sources q = record { port = In; name = q.input } ∷ record { port = Rou
 
 -- a design with its nets' grounds, and blocks: those that the bytes under the names say, where the desk tells these bytes
 pub record AreReadRoutes (input routes : List ℕ) (told : Told) (d : Design) (over : List Ground) (blocks : List Block) : Type 0 where
-  pub named : (bytes : List ℕ) → told.files input ≡ Some bytes → IsDesignOfText bytes d
+  pub named : IfTold told.files input (λ bytes. IsDesignOfText bytes d)
   pub grounds : AreGrounds d.grid d.nets over
-  pub blocks_are : (bytes : List ℕ) → told.files routes ≡ Some bytes → blocks_or_refusal bytes ≡ Ok blocks
+  pub blocks_are : IfTold told.files routes (λ bytes. blocks_or_refusal bytes ≡ Ok blocks)
 
 -- the counts of nets and of forced nets, the measure of the sets that the blocks give the nets, with or without a budget, and
 -- how many nets go beyond their grounds

@@ -1,5 +1,6 @@
 -- Why a run is refused.
 use Rattle.std.specs.Prelude.{◌≡◌, ◌⊎◌, ℕ, List, [], ◌∷◌, Contains, Option, Some, Ok, Err}
+use Rattle.std.specs.List.{AllByRecursion}
 use Rattle.cert_text.specs.declared.stated.Stated.{Stated}
 use Rattle.gr_desk.specs.declared.port.Port.{Port}
 use Rattle.gr_desk.specs.declared.port.Port.TheVariants.{In, RoutesIn, CertIn}
@@ -13,10 +14,10 @@ use Rattle.grid_base.specs.Lists.{At}
 use Rattle.ispd_reader.specs.Designs.{contents_of, IsDesignOfText}
 use Rattle.route_text.specs.declared.block.Block.{Block}
 use Rattle.judge_cli.specs.declared.refusal.Refusal.{Refusal}
-use Rattle.judge_cli.specs.declared.refusal.Refusal.TheVariants.{NoCommand, Input, Unreachable, Text, Unread, NoMemory}
+use Rattle.judge_cli.specs.declared.refusal.Refusal.TheVariants.{NoCommand, Input, Unreachable, Unread, NoMemory}
 use Rattle.judge_cli.specs.JudgedTexts.{blocks_or_refusal, stated_or_refusal}
 use Rattle.judge_cli.specs.Lines.{status_of}
-use Rattle.judge_cli.specs.Sources.{Source, ports_of}
+use Rattle.judge_cli.specs.Sources.{Source, IfTold, ports_of}
 use Rattle.judge_cli.specs.Traces.{ReportsRefusal, InputFailed}
 
 -- ---- what is wrong with a text
@@ -25,24 +26,11 @@ use Rattle.judge_cli.specs.Traces.{ReportsRefusal, InputFailed}
 abbrev pub AreReachable : Grid → List NetSpec → Type 0
 AreReachable g nets = (k : ℕ) (n : NetSpec) → At nets k n → JoinsTerminals g WithChoked n.terminals
 
--- the text names a design of which this net is the first that is cut off, and this its first terminal
-pub record IsCutOffText (text : List ℕ) (id terminal : ℕ) : Type 0 where
-  pub design : Design
-  pub named : IsDesignOfText text design
-  pub first : IsFirstCutOff design.grid design.nets id terminal
-
--- the text of a design is refused for this; the other refusals are not for what it says
-abbrev pub IsRefusedFor : List ℕ → Refusal → Type 0
-IsRefusedFor text (Input fault) = contents_of text ≡ Err fault
-IsRefusedFor text (Unreachable net) = IsCutOffText text net.id net.terminal
-IsRefusedFor text (Text fault) = ⊥
-IsRefusedFor text NoCommand = ⊥
-IsRefusedFor text Unread = ⊥
-IsRefusedFor text NoMemory = ⊥
-
--- the text that is read at the port is refused for this
+-- the text that is read at the port is refused for this: that of a design for a fault of its format, or for the first of its nets
+-- that is cut off, at the first of that net's terminals that is; no other refusal is for what the text of a design says
 abbrev pub IsRefusedAt : Port → List ℕ → Refusal → Type 0
-IsRefusedAt In text refusal = IsRefusedFor text refusal
+IsRefusedAt In text (Input fault) = contents_of text ≡ Err fault
+IsRefusedAt In text (Unreachable net) = (d : Design) × IsDesignOfText text d × IsFirstCutOff d.grid d.nets net.id net.terminal
 IsRefusedAt RoutesIn text refusal = blocks_or_refusal text ≡ Err refusal
 IsRefusedAt CertIn text refusal = stated_or_refusal text ≡ Err refusal
 IsRefusedAt _ text refusal = ⊥
@@ -65,9 +53,8 @@ HasToBeRefused files (s ∷ later) refusal =
 
 -- the desk tells the bytes of all of them, and none is refused
 abbrev pub AreAccepted : (List ℕ → Option (List ℕ)) → List Source → Type 0
-AreAccepted files [] = Unit {0}
-AreAccepted files (s ∷ later) =
-    (bytes : List ℕ) × (files s.name ≡ Some bytes) × IsAcceptedAt s.port bytes × AreAccepted files later
+AreAccepted files sources =
+    AllByRecursion (λ s. (bytes : List ℕ) × (files s.name ≡ Some bytes) × IsAcceptedAt s.port bytes) sources
 
 -- ---- why a run ends that reads files in this order
 
@@ -77,11 +64,7 @@ abbrev pub IsCauseAt : Source → Told → Told → Refusal → Type 0
 IsCauseAt s before after NoCommand = ⊥
 IsCauseAt s before after Unread = InputFailed before after
 IsCauseAt s before after NoMemory = Unit {0}
-IsCauseAt s before after refusal = (bytes : List ℕ) → before.files s.name ≡ Some bytes → IsRefusedAt s.port bytes refusal
-
--- what the desk tells of the bytes under the name is accepted
-abbrev pub IsAcceptedIfTold : (List ℕ → Option (List ℕ)) → Source → Type 0
-IsAcceptedIfTold files s = (bytes : List ℕ) → files s.name ≡ Some bytes → IsAcceptedAt s.port bytes
+IsCauseAt s before after refusal = IfTold before.files s.name (λ bytes. IsRefusedAt s.port bytes refusal)
 
 -- none of these files was opened: their ports are as they were
 abbrev pub AreUnopened : List Source → Told → Told → Type 0
@@ -93,7 +76,7 @@ abbrev pub IsCause : List Source → Told → Told → Refusal → Type 0
 IsCause [] before after refusal = refusal ≡ NoMemory
 IsCause (s ∷ later) before after refusal =
     IsCauseAt s before after refusal × AreUnopened later before after
-    ⊎ IsAcceptedIfTold before.files s × IsCause later before after refusal
+    ⊎ IfTold before.files s.name (IsAcceptedAt s.port) × IsCause later before after refusal
 
 -- ---- what a refused run leaves
 

@@ -1,5 +1,5 @@
 -- The files that a command reads, and those that it makes.
-use Rattle.std.specs.Prelude.{ℕ, List, [], ◌∷◌, map}
+use Rattle.std.specs.Prelude.{◌≡◌, ℕ, List, [], ◌∷◌, map, Option, Some}
 use Rattle.gr_desk.specs.declared.port.Port.{Port}
 use Rattle.gr_desk.specs.declared.port.Port.TheVariants.{In}
 use Rattle.gr_desk.specs.Calls.{IsOrderlyOpen, IsOrderlyCreate}
@@ -13,6 +13,10 @@ pub record Source : Type 0 where
 -- the ports of files
 abbrev pub ports_of : List Source → List Port
 ports_of sources = map (λ s. s.port) sources
+
+-- what is said of the bytes under the name, where these bytes are told
+abbrev pub IfTold : (List ℕ → Option (List ℕ)) → List ℕ → (List ℕ → Type 0) → Type 0
+IfTold files name IsSo = (bytes : List ℕ) → files name ≡ Some bytes → IsSo bytes
 
 -- what `route` reads: the design
 abbrev pub design_source : List ℕ → List Source

@@ -12,7 +12,7 @@ ghost use Rattle.ispd_reader.specs.Limits.{max_bytes};
 ghost use Rattle.judge_cli.specs.JudgedTexts.{blocks_or_refusal};
 ghost use Rattle.judge_cli.specs.JudgeRun.{IsReadCert, judge_sources};
 ghost use Rattle.judge_cli.specs.MeasureRun.{AreReadRoutes, measure_sources};
-ghost use Rattle.judge_cli.specs.Refusals.{IsRefusedFor};
+ghost use Rattle.judge_cli.specs.Refusals.{IsRefusedAt};
 ghost use Rattle.judge_cli.specs.Sources.{design_source};
 ghost use Rattle.judge_cli.specs.Steps as steps;
 ghost use Rattle.judge_cli.specs.Steps.{ReadsSources};
@@ -65,7 +65,7 @@ fn read_source<D: Desk>(
 pub fn grounded(alloc: Global, bytes: &[u8]) -> Result<GroundedDesign, Refusal>
     ensures named { IfOk result (λ g. IsDesignOfText bytes.now g.design) }
     ensures grounds { IfOk result (λ g. AreGrounds g.design.grid g.design.nets g.grounds.items) }
-    ensures refused { (r : Refusal) → IsErrOf result r → IsRefusedFor bytes.now r ⊎ (r ≡ Refusal.NoMemory) }
+    ensures refused { (r : Refusal) → IsErrOf result r → IsRefusedAt Port.In bytes.now r ⊎ (r ≡ Refusal.NoMemory) }
 {
     let design = read_design(alloc, bytes)?;
     let grounds = design.grounds()?;

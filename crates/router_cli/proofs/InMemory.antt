@@ -3,6 +3,7 @@ use Rattle.std.proofs.Common.{◌≡◌, ℕ, List, [], ◌++◌, Bool, false, S
 use Rattle.std.specs.Prelude.{Result, Option, option_map, is_err}
 use Rattle.std.specs.Io.KnownBytes.{Appends}
 use Rattle.gr_desk.specs.declared.port.Port.{Port}
+use Rattle.gr_desk.specs.declared.port.Port.TheVariants.{In}
 use Rattle.gr_desk.specs.Told.{Told, PortTold}
 use Rattle.gr_make.specs.MadeText.{made_text}
 use Rattle.gr_make.specs.Shapes.{IsShape}
@@ -24,7 +25,7 @@ use Rattle.route_text.specs.Blocks.{blocks_of}
 use Rattle.route_text.specs.Reads.{RefusesRoute}
 use Rattle.judge_cli.specs.JudgedTexts.{of_route_error, of_cert_error}
 use Rattle.judge_cli.specs.Outputs.{Makes}
-use Rattle.judge_cli.specs.Refusals.{IsRefusedFor}
+use Rattle.judge_cli.specs.Refusals.{IsRefusedAt}
 
 -- what was appended to nothing is all that there is
 all_there_is : (x y : Option (List ℕ)) (text bytes : List ℕ) → x ≡ Some [] → y ≡ Some bytes → Appends x y text → bytes ≡ text
@@ -39,10 +40,10 @@ written_whole before after port name text old bytes (Ok v) makes whole told now 
 written_whole before after port name text old bytes (Err e) makes whole told now = absurd (cc whole)
 
 -- a generated design is never refused
-pub made_not_refused : (seed : ℕ) (shape : Shape) → IsShape shape → (r : Refusal) → ¬ IsRefusedFor (made_text seed shape) r
+pub made_not_refused : (seed : ℕ) (shape : Shape) → IsShape shape → (r : Refusal) → ¬ IsRefusedAt In (made_text seed shape) r
 made_not_refused seed shape fits (Input fault) for_it = let both = sym (made_text_says seed shape fits) ∙ for_it in absurd (cc both)
 made_not_refused seed shape fits (Unreachable net) for_it =
-    for_it.first.cut_off.apart (made_nets_reachable seed shape fits for_it.design for_it.named for_it.first.place for_it.first.net for_it.first.stands)
+    for_it.2.cut_off.apart (made_nets_reachable seed shape fits for_it.0 for_it.1 for_it.2.place for_it.2.net for_it.2.stands)
 made_not_refused seed shape fits (Text fault) for_it = for_it
 made_not_refused seed shape fits NoCommand for_it = for_it
 made_not_refused seed shape fits Unread for_it = for_it

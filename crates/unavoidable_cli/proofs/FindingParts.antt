@@ -24,9 +24,10 @@ use Rattle.route_judge.proofs.Found.{none_before}
 use Rattle.route_text.specs.declared.block.Block.{Block}
 use Rattle.unavoidable_cli.specs.declared.finding.Finding.{Finding}
 use Rattle.unavoidable_cli.specs.declared.priced_edge.PricedEdge.{PricedEdge}
-use Rattle.unavoidable_cli.specs.Findings.{IsBetter, IsFinding, IsNoneOrShown, IsSameOrBetter}
-use Rattle.unavoidable_cli.specs.PricedEdges.{IsEdgeOf, has_price, priced_edges, with_price}
+use Rattle.unavoidable_cli.specs.Findings.{IsFinding, IsSameOrBetter}
+use Rattle.unavoidable_cli.specs.PricedEdges.{IsEdgeOf, priced_edges}
 use Rattle.unavoidable_cli.specs.Report.{HasEdges}
+use Rattle.unavoidable_cli.proofs.Kept.{has_price, with_price}
 
 -- blocks that are accepted with a certificate are routes
 pub judged_routes : (d : Design) (over : List Ground) (blocks : List Block) (cert : Cert) → IsJudged d over blocks cert None → AreRoutes d blocks
@@ -70,11 +71,11 @@ pub finding_edges : (over : List Ground) (blocks : List Block) (cert : Cert) (f 
 finding_edges over blocks cert f is = record {
   bottleneck = elim is.new [
     | inl same ↦ none_of f.design.grid f.bottleneck.items same.1
-    | inr better ↦ all_of f.design.grid better.prices f.bottleneck.items better.are_prices better.edges_are
+    | inr better ↦ all_of f.design.grid better.prices f.bottleneck.items better.pricing.1.are_prices better.pricing.1.edges_are
   ];
   cut = elim is.shown [
     | inl none ↦ none_of f.design.grid f.cut.items none.1
-    | inr some ↦ all_of f.design.grid some.prices f.cut.items some.are_prices some.edges_are
+    | inr some ↦ all_of f.design.grid some.1.0 f.cut.items some.1.1.are_prices some.1.1.edges_are
   ];
 }
 
@@ -85,10 +86,8 @@ pub better_most : (d : Design) (old new : Cert) (edges : List PricedEdge) (least
 better_most d old new edges least most at (inl same) = inl same
 better_most d old new edges least most at (inr is) = inr (record {
   prices = is.prices;
-  are_prices = is.are_prices;
   is_new = is.is_new;
   is_bound = is.is_bound;
   above = is.above;
-  edges_are = is.edges_are;
-  shows = (is.shows.0, is.shows.1, omega (arith, is.shows.2, at));
+  pricing = (is.pricing.0, is.pricing.1, omega (arith, is.pricing.2, at));
 })

@@ -1,10 +1,11 @@
 -- Numbers that pass a test, one number more.
 use Rattle.std.proofs.Common.{◌≡◌, ◌+◌, ℕ, Bool, true, false, List, [], ◌∷◌, ◌++◌, map, refl, sym, ◌∙◌, ap, zero-add}
-use Rattle.std.specs.Prelude.{filter}
+use Rattle.std.specs.Prelude.{filter, ltb, slice_index}
 use Rattle.std.specs.List.{range_with_len}
 use Rattle.std.proofs.lemmas.List.{append-nil, map-append}
 use Rattle.std.proofs.lemmas.List.Elements.{filter-append}
 use Rattle.std.proofs.lemmas.List.FromFn.{map-range_with_len_more}
+use Rattle.unavoidable_cli.specs.declared.priced_edge.PricedEdge.{PricedEdge}
 
 -- what a function gives for those of so many numbers that pass
 abbrev pub kept : {A : Type 0} → (ℕ → Bool) → (ℕ → A) → ℕ → List A
@@ -38,3 +39,13 @@ kept-more p f e is = more p f e ∙ ap (λ xs. kept p f e ++ xs) (last_kept p f 
 
 pub kept-same : {A : Type 0} (p : ℕ → Bool) (f : ℕ → A) (e : ℕ) → p e ≡ false → kept p f (e + 1) ≡ kept p f e
 kept-same p f e is = more p f e ∙ ap (λ xs. kept p f e ++ xs) (last_left p f e is) ∙ append-nil (kept p f e)
+
+-- ---- edges that are priced above 0
+
+-- the price of an edge is above 0
+abbrev pub has_price : List ℕ → ℕ → Bool
+has_price prices e = ltb 0 (slice_index prices e)
+
+-- an edge with its price
+abbrev pub with_price : List ℕ → ℕ → PricedEdge
+with_price prices e = record { edge = record { 0 = e }; price = slice_index prices e }

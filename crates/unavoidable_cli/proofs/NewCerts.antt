@@ -1,7 +1,8 @@
 -- The new certificate is accepted, whether it is the old one or another.
 use Rattle.std.proofs.Common.{◌≡◌, ℕ, List, Option, Some, None, refl, sym, ◌∙◌, ap, subst, inl, inr}
 use Rattle.cert_text.specs.declared.cert.Cert.{Cert}
-use Rattle.cert_text.specs.Certs.{IsCertWithin}
+use Rattle.cert_text.specs.Certs.{IsCertOf, IsCertWithin}
+use Rattle.cert_text.specs.CertText.{cert_text}
 use Rattle.cert_text.proofs.ReadBackCerts.{cert_reads_back}
 use Rattle.dual_bound.specs.DesignBounds.{IsBoundOrNone}
 use Rattle.dual_bound.specs.Prices.{free_budget}
@@ -16,7 +17,13 @@ use Rattle.tree_set.specs.declared.budget.Budget.{Budget}
 use Rattle.tree_set.specs.declared.fraction.Fraction.{Fraction}
 use Rattle.tree_set.specs.Budgets.{most_of}
 use Rattle.unavoidable_cli.specs.declared.priced_edge.PricedEdge.{PricedEdge}
-use Rattle.unavoidable_cli.specs.Findings.{IsAbove, IsAcceptedCert, IsBetter, IsSameOrBetter}
+use Rattle.unavoidable_cli.specs.Findings.{IsAbove, IsBetter, IsSameOrBetter}
+
+-- the judge says yes to the certificate, its text reads back, and every mixture of routings uses some resource at its bound or more
+pub record IsAcceptedCert (d : Design) (over : List Ground) (blocks : List Block) (cert : Cert) : Type 0 where
+  pub judged : IsJudged d over blocks cert None
+  pub reads_back : IsCertOf (cert_text cert) cert
+  pub bounds : StatesBound d cert
 
 -- a bound that is above another is one
 stated : (bound other : Option Fraction) → IsAbove bound other → (f : Fraction) × (bound ≡ Some f)
@@ -43,4 +50,4 @@ accepted-new d over blocks old new edges least within judged bounds (inr better)
     let is : IsBoundOrNone d better.prices (free_budget (most_of old.budget)) (Some f) =
     subst (λ (b : Option Budget). IsBoundOrNone d better.prices b (Some f)) budget_is (subst (λ (b : Option Fraction). IsBoundOrNone d better.prices new.budget b) of.1 better.is_bound) in
     let whole : new ≡ with_prices d.grid old better.prices (Some f) = better.is_new ∙ ap (λ (b : Option Fraction). with_prices d.grid old better.prices b) of.1 in
-    subst (λ (x : Cert). IsAcceptedCert d over blocks x) (sym whole) (accepted-with d over blocks old better.prices f within judged better.are_prices is)
+    subst (λ (x : Cert). IsAcceptedCert d over blocks x) (sym whole) (accepted-with d over blocks old better.prices f within judged better.pricing.1.are_prices is)

@@ -1,5 +1,5 @@
 -- What is found of a design, of blocks and of a certificate that the judge accepts.
-use Rattle.std.specs.Prelude.{◌≡◌, ◌≤◌, ◌<◌, ◌*◌, ◌⊎◌, ℕ, List, [], Option, Some, None}
+use Rattle.std.specs.Prelude.{◌≡◌, ◌≤◌, ◌<◌, ◌⊎◌, ℕ, List, [], Option, None, IsSomeAnd}
 use Rattle.cert_text.specs.declared.cert.Cert.{Cert}
 use Rattle.cert_text.specs.Certs.{IsCertOf}
 use Rattle.cert_text.specs.CertText.{cert_text}
@@ -10,6 +10,7 @@ use Rattle.grid_base.specs.declared.piece.Piece.{Piece}
 use Rattle.grid_graph.specs.declared.design.Design.{Design}
 use Rattle.grid_graph.specs.declared.ground.Ground.{Ground}
 use Rattle.judge_laws.specs.OpenPrices.{with_prices}
+use Rattle.route_judge.specs.Bounds.{IsAtMostFound}
 use Rattle.route_judge.specs.Judgements.{IsJudged, StatesBound}
 use Rattle.route_judge.specs.NetSets.{AreSetsOf}
 use Rattle.route_text.specs.declared.block.Block.{Block}
@@ -23,48 +24,36 @@ use Rattle.unavoidable_cli.specs.PricedEdges.{priced_edges}
 
 -- ---- the new certificate
 
--- a bound is above another, by cross products; none is below every fraction
+-- there is a bound, and it isn't at most the other, by cross products; none is below every fraction
 abbrev pub IsAbove : Option Fraction → Option Fraction → Type 0
-IsAbove None other = ⊥
-IsAbove (Some f) None = Unit {0}
-IsAbove (Some f) (Some other) = other.num * f.den < f.num * other.den
+IsAbove bound other = IsSomeAnd bound (λ f. ¬ IsAtMostFound f other)
+
+-- a price list prices these edges, and shows so much overflow
+pub record IsPricing (d : Design) (prices : List ℕ) (edges : List PricedEdge) (shown : ℕ) : Type 0 where
+  pub are_prices : AreEdgePrices d.grid prices
+  pub edges_are : edges ≡ priced_edges d.grid prices
+  pub shows : ShowsOverflow d prices shown
 
 -- the new certificate has a greater bound than the old one, which the prices of these edges show: it is the bound of the design
 -- at a price list, where a wirelength that is to be kept costs nothing, and but for bound, prices and the price of the wirelength
--- the two are equal
+-- the two are equal. The overflow that these prices show is at most the one that is found.
 pub record IsBetter (d : Design) (old new : Cert) (edges : List PricedEdge) (least : ℕ) : Type 0 where
   pub prices : List ℕ
-  pub are_prices : AreEdgePrices d.grid prices
   pub is_new : new ≡ with_prices d.grid old prices new.bound
   pub is_bound : IsBoundOrNone d prices new.budget new.bound
   pub above : IsAbove new.bound old.bound
-  pub edges_are : edges ≡ priced_edges d.grid prices
-  -- the overflow that these prices show is at most the one that is found
-  pub shows : (shown : ℕ) × ShowsOverflow d prices shown × (shown ≤ least)
+  pub pricing : (shown : ℕ) × IsPricing d prices edges shown × (shown ≤ least)
 
 -- or it is the old one, and no edges are named
 abbrev pub IsSameOrBetter : Design → Cert → Cert → List PricedEdge → ℕ → Type 0
 IsSameOrBetter d old new edges least = (new ≡ old) × (edges ≡ []) ⊎ IsBetter d old new edges least
 
--- the judge says yes to the certificate, its text reads back, and every mixture of routings uses some resource at its bound or more
-pub record IsAcceptedCert (d : Design) (over : List Ground) (blocks : List Block) (cert : Cert) : Type 0 where
-  pub judged : IsJudged d over blocks cert None
-  pub reads_back : IsCertOf (cert_text cert) cert
-  pub bounds : StatesBound d cert
-
 -- ---- the least overflow
 
--- a price list shows so much overflow, which is some, and these edges have the prices
-pub record IsShownBy (d : Design) (least : ℕ) (edges : List PricedEdge) : Type 0 where
-  pub prices : List ℕ
-  pub are_prices : AreEdgePrices d.grid prices
-  pub shows : ShowsOverflow d prices least
-  pub some : 0 < least
-  pub edges_are : edges ≡ priced_edges d.grid prices
-
--- or none is shown, and no edges are named
+-- a price list that prices these edges shows so much overflow, which is some; or none is shown, and no edges are named
 abbrev pub IsNoneOrShown : Design → ℕ → List PricedEdge → Type 0
-IsNoneOrShown d least edges = (least ≡ 0) × (edges ≡ []) ⊎ IsShownBy d least edges
+IsNoneOrShown d least edges =
+    (least ≡ 0) × (edges ≡ []) ⊎ (0 < least) × ((prices : List ℕ) × IsPricing d prices edges least)
 
 -- no routing of whole routes, each on its net's ground, has less overflow; routes that go beyond their grounds may have less
 abbrev pub IsUnavoidable : Design → ℕ → Type 0
@@ -81,8 +70,10 @@ IsOverflowOfBlocks d blocks found =
 pub record IsFinding (over : List Ground) (blocks : List Block) (cert : Cert) (f : Finding) : Type 0 where
   -- the new certificate is the old one, or one with a greater bound
   pub new : IsSameOrBetter f.design cert f.new f.bottleneck.items f.overflow
-  -- either way the judge accepts it
-  pub accepted : IsAcceptedCert f.design over blocks f.new
+  -- either way the judge accepts it, its text reads back, and every mixture of routings uses some resource at its bound or more
+  pub accepted : IsJudged f.design over blocks f.new None
+  pub reads_back : IsCertOf (cert_text f.new) f.new
+  pub bounds : StatesBound f.design f.new
   -- a price list shows the overflow
   pub shown : IsNoneOrShown f.design f.overflow f.cut.items
   -- no routing that keeps to its grounds has less

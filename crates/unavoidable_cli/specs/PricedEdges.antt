@@ -1,5 +1,5 @@
 -- The edges that a price list prices above 0, and their lines.
-use Rattle.std.specs.Prelude.{ℕ, Bool, List, [], ◌∷◌, ◌++◌, codes, flat_map, length, ltb, map, slice_index}
+use Rattle.std.specs.Prelude.{ℕ, List, [], ◌∷◌, ◌++◌, codes, flat_map, length, ltb, map, slice_index}
 use Rattle.std.specs.List.{filter, range_with_len}
 use Rattle.grid_base.specs.declared.piece.Piece.TheVariants.{Edge}
 use Rattle.grid_base.specs.Numbers.{IsPiece, end_of, start_of}
@@ -9,21 +9,12 @@ use Rattle.judge_cli.specs.Lines.{fields, line}
 use Rattle.route_text.specs.RouteText.{point_text}
 use Rattle.unavoidable_cli.specs.declared.priced_edge.PricedEdge.{PricedEdge}
 
--- the price of an edge is above 0
-abbrev pub has_price : List ℕ → ℕ → Bool
-has_price prices e = ltb 0 (slice_index prices e)
-
--- an edge with its price
-abbrev pub with_price : List ℕ → ℕ → PricedEdge
-with_price prices e = record { edge = record { 0 = e }; price = slice_index prices e }
-
--- those of the first so many edges that are priced above 0, in rising order of their numbers
-abbrev pub priced_below : List ℕ → ℕ → List PricedEdge
-priced_below prices count = map (with_price prices) (filter (has_price prices) (range_with_len 0 count))
-
--- all edges that are priced above 0. At a price list every one of them is open.
+-- the edges that a price list prices above 0, each with its price, in rising order of their numbers. At a price list every one of
+-- them is open.
 abbrev pub priced_edges : Grid → List ℕ → List PricedEdge
-priced_edges g prices = priced_below prices (edge_numbers g)
+priced_edges g prices =
+    map (λ e. record { edge = record { 0 = e }; price = slice_index prices e })
+    (filter (λ e. ltb 0 (slice_index prices e)) (range_with_len 0 (edge_numbers g)))
 
 -- the edge is one of the grid
 abbrev pub IsEdgeOf : Grid → PricedEdge → Type 0

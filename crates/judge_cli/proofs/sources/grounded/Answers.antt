@@ -1,5 +1,6 @@
 use Rattle.std.proofs.Common.{◌≡◌, List, ℕ, subst, refl, inl, inr}
 use Rattle.std.specs.Prelude.{◌⊎◌}
+use Rattle.gr_desk.specs.declared.port.Port.TheVariants.{In}
 use Rattle.grid_graph.specs.declared.design.Design.{Design}
 use Rattle.grid_graph.specs.declared.ground_error.GroundError.{GroundError}
 use Rattle.grid_graph.specs.declared.ground_error.GroundError.TheVariants as ground_errors
@@ -7,19 +8,19 @@ use Rattle.grid_graph.specs.Grounds.{IsFirstGroundError}
 use Rattle.ispd_reader.specs.Designs.{IsDesignOfText}
 use Rattle.judge_cli.specs.declared.refusal.Refusal.{Refusal}
 use Rattle.judge_cli.specs.declared.refusal.Refusal.TheVariants.{NoMemory}
-use Rattle.judge_cli.specs.Refusals.{IsRefusedFor}
+use Rattle.judge_cli.specs.Refusals.{IsRefusedAt}
 use Rattle.judge_cli.specs.Steps.{of_ground_error}
 use Rattle.judge_cli.proofs.Outcomes.{same_refusal}
 use Rattle.judge_cli.proofs.sources.grounded.Goals as goal
 
 -- a design without grounds is refused for its first net that is cut off, or for want of memory
-refused_for_grounds : (text : List ℕ) (d : Design) (e : GroundError) → IsDesignOfText text d → IsFirstGroundError d.grid d.nets e → IsRefusedFor text (of_ground_error e) ⊎ (of_ground_error e ≡ NoMemory)
-refused_for_grounds text d (ground_errors.Unreachable net) named cause = inl (record { design = d; named = named; first = cause })
+refused_for_grounds : (text : List ℕ) (d : Design) (e : GroundError) → IsDesignOfText text d → IsFirstGroundError d.grid d.nets e → IsRefusedAt In text (of_ground_error e) ⊎ (of_ground_error e ≡ NoMemory)
+refused_for_grounds text d (ground_errors.Unreachable net) named cause = inl (d, named, cause)
 refused_for_grounds text d ground_errors.NoMemory named cause = inr refl
 
 -- what holds of the refusal that was made holds of the one that was answered
 abbrev IsTextRefusal : List ℕ → Refusal → Type 0
-IsTextRefusal text r = IsRefusedFor text r ⊎ (r ≡ NoMemory)
+IsTextRefusal text r = IsRefusedAt In text r ⊎ (r ≡ NoMemory)
 
 pub returns-in_err-grounds-clause-refused : goal.returns-in_err-grounds-clause-refused
 returns-in_err-grounds-clause-refused c = λ r is.

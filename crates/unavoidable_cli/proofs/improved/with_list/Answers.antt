@@ -14,10 +14,12 @@ returns c =
     let whole : Option Budget → List ℕ → Cert = λ budget prices. record cert { bound = list.shown.bound; budget = budget; prices = prices } in
     record {
       prices = list.prices.now;
-      are_prices = c.requires.list.are_prices;
       is_new = ap (λ (b : Option Budget). whole b c.in_ok-prices.prices) c.free_budget.ensures ∙ ap (λ (ps : List ℕ). whole (free_budget (most_of cert.budget)) ps) c.in_ok-prices.ensures;
       is_bound = subst (λ (b : Option Budget). IsBoundOrNone d list.prices.now b list.shown.bound) (sym c.free_budget.ensures) (c.requires.list.bound (most_of cert.budget));
       above = c.requires.above;
-      edges_are = c.in_ok-edges.ensures;
-      shows = (list.shown.overflow, c.requires.list.overflow, omega arith);
+      pricing = (
+        list.shown.overflow,
+        record { are_prices = c.requires.list.are_prices; edges_are = c.in_ok-edges.ensures; shows = c.requires.list.overflow },
+        omega arith,
+      );
     }
