@@ -1,7 +1,13 @@
 -- What refuses a text: it is one cause, and it never refuses a text that has a routing.
-use Rattle.std.proofs.Common.{◌≡◌, ℕ, List, [], ◌∷◌, ◌++◌, refl, sym, ap, ◌∙◌, subst, Some, Ok, Err, inl, inr}
+use Rattle.std.proofs.Common.{◌≡◌, ℕ, All, List, [], ◌∷◌, ◌++◌, refl, sym, ap, ◌∙◌, subst, Some, Ok, Err, inl, inr}
 use Rattle.std.specs.Prelude.{◌⊎◌, Option}
+use Rattle.std.proofs.lemmas.Option.{get_or_from_slice_get, slice_get_within}
+use Rattle.grid_base.specs.Lists.{At}
 use Rattle.grid_graph.specs.declared.design.Design.{Design}
+use Rattle.grid_graph.specs.declared.grid.Grid.{Grid}
+use Rattle.grid_graph.specs.declared.ground.Ground.TheVariants.{WithChoked}
+use Rattle.grid_graph.specs.declared.net_spec.NetSpec.{NetSpec}
+use Rattle.grid_graph.specs.Grounds.{JoinsTerminals}
 use Rattle.grid_graph.specs.declared.unreachable_net.UnreachableNet.{UnreachableNet}
 use Rattle.gr_desk.specs.Told.{Told}
 use Rattle.ispd_reader.specs.Designs.{IsDesignOfText}
@@ -12,7 +18,7 @@ use Rattle.judge_cli.specs.declared.refusal.Refusal.{Refusal}
 use Rattle.judge_cli.specs.declared.refusal.Refusal.TheVariants.{NoCommand, Input, Unreachable, Text, Unread, NoMemory}
 use Rattle.gr_desk.specs.declared.port.Port.{Port}
 use Rattle.gr_desk.specs.declared.port.Port.TheVariants.{In, RoutesIn, CertIn, RoutesOut, CertOut, DesignOut, Report}
-use Rattle.judge_cli.specs.Refusals.{AreReachable, IsRefusedAt, IsAcceptedAt, AreUnopened, HasToBeRefused, AreAccepted, IsCause, IsCauseAt}
+use Rattle.judge_cli.specs.Refusals.{IsRefusedAt, IsAcceptedAt, AreUnopened, HasToBeRefused, AreAccepted, IsCause, IsCauseAt}
 use Rattle.judge_cli.specs.Sources.{Source, IfTold, ports_of, design_source}
 use Rattle.judge_cli.specs.Traces.{InputFailed}
 use Rattle.grid_base.proofs.Lists.{Contains-rest}
@@ -47,6 +53,14 @@ refused_once text (Input fault) (Unreachable net) h k = let same : Err fault ≡
 refused_once text (Unreachable net) (Input fault) h k = let same : Err fault ≡ Ok h.1.contents = sym k ∙ h.1.read in cc
 refused_once text (Unreachable net) (Unreachable other) h k = let same = one_cut_off text net other h k in ap (λ (n : UnreachableNet). Unreachable n) (same_net net other same.0 same.1)
 
+-- open and choked edges with vias join every net's terminals
+abbrev pub AreReachable : Grid → List NetSpec → Type 0
+AreReachable g nets = All (λ n. JoinsTerminals g WithChoked n.terminals) nets
+
+reachable_at : (g : Grid) (nets : List NetSpec) (k : ℕ) (n : NetSpec) → AreReachable g nets → At nets k n → JoinsTerminals g WithChoked n.terminals
+reachable_at g nets k n all at =
+    subst (λ (m : NetSpec). JoinsTerminals g WithChoked m.terminals) (get_or_from_slice_get nets k n n at) (all k n (slice_get_within nets k n at))
+
 -- a text that names a design of reachable nets is not refused
 pub not_refused : (text : List ℕ) (d : Design) (r : Refusal) → IsDesignOfText text d → AreReachable d.grid d.nets → IsRefusedAt In text r → ⊥
 not_refused text d NoCommand named reachable h = h
@@ -56,7 +70,8 @@ not_refused text d (Text fault) named reachable h = h
 not_refused text d (Input fault) named reachable h = let same : Err fault ≡ Ok named.contents = sym h ∙ named.read in cc
 not_refused text d (Unreachable net) named reachable (e, named_too, first) =
     let alike = one_design text e d named_too named in
-    cut_off-unreachable d.grid d.nets net.id net.terminal (IsFirstCutOff-alike e.grid d.grid d.nets net.id net.terminal alike.grids (rw alike.nets at first)) reachable
+    cut_off-unreachable d.grid d.nets net.id net.terminal (IsFirstCutOff-alike e.grid d.grid d.nets net.id net.terminal alike.grids (rw alike.nets at first))
+    (λ k n at. reachable_at d.grid d.nets k n reachable at)
 
 -- a text at a port is refused for one cause
 pub refused_once_at : (port : Port) (text : List ℕ) (r x : Refusal) → IsRefusedAt port text r → IsRefusedAt port text x → r ≡ x

@@ -1,11 +1,12 @@
 -- Why what was read for a measure or a judgement is accepted.
 use Rattle.std.proofs.Common.{◌≡◌, ◌<◌, ℕ, List, [], ◌∷◌, length, Some, Ok, false, refl, sym, ◌∙◌, arith, le-ltb, get_or, inl, inr}
 use Rattle.std.specs.Prelude.{nat_lt}
-use Rattle.std.proofs.lemmas.Option.{slice_get-get_or, slice_get_within}
+use Rattle.std.proofs.lemmas.Option.{slice_get-get_or}
 use Rattle.std.proofs.lemmas.Slice.Zip.{AllZip-long}
 use Rattle.cert_text.specs.declared.cert.Cert.{Cert}
 use Rattle.gr_desk.specs.declared.port.Port.TheVariants.{In, RoutesIn, CertIn}
 use Rattle.gr_desk.specs.Told.{Told}
+use Rattle.grid_base.specs.Lists.{At}
 use Rattle.grid_base.proofs.Lists.{AllZip-at}
 use Rattle.grid_graph.specs.declared.design.Design.{Design}
 use Rattle.grid_graph.specs.declared.grid.Grid.{Grid}
@@ -19,15 +20,16 @@ use Rattle.route_text.specs.declared.block.Block.{Block}
 use Rattle.ispd_reader.specs.Limits.{max_bytes}
 use Rattle.judge_cli.specs.JudgeRun.{JudgeTask, IsReadCert, judge_sources}
 use Rattle.judge_cli.specs.MeasureRun.{MeasureTask, AreReadRoutes, measure_sources}
-use Rattle.judge_cli.specs.Refusals.{AreReachable}
-use Rattle.judge_cli.proofs.Causes.{AreAcceptedIfTold, IsAcceptedIfTold}
+use Rattle.judge_cli.proofs.Causes.{AreAcceptedIfTold, AreReachable, IsAcceptedIfTold}
 use Rattle.judge_cli.proofs.ReadFiles.{AreApart}
 use Rattle.judge_cli.proofs.Traces.{contained_in_two, only_of}
 
 -- the nets of a design with grounds are reachable
 grounds_reachable : (g : Grid) (nets : List NetSpec) (over : List Ground) → AreGrounds g nets over → AreReachable g nets
-grounds_reachable g nets over all k n at =
-    let within : k < length over = omega (arith, slice_get_within nets k n at, AllZip-long (λ (m : NetSpec) (found : Ground). IsGround g m.terminals found) nets over all) in
+grounds_reachable g nets over all k d inside =
+    let n = get_or nets k d in
+    let at : At nets k n = slice_get-get_or nets k d inside in
+    let within : k < length over = omega (arith, inside, AllZip-long (λ (m : NetSpec) (found : Ground). IsGround g m.terminals found) nets over all) in
     let is = AllZip-at (λ (m : NetSpec) (found : Ground). IsGround g m.terminals found) nets over k n (get_or over k Open) all at (slice_get-get_or over k Open within) in
     joins_with_choked g n.terminals (get_or over k Open) is
 

@@ -1,16 +1,13 @@
 -- Why a run is refused.
-use Rattle.std.specs.Prelude.{◌≡◌, ◌⊎◌, ℕ, List, [], ◌∷◌, Contains, Option, Some, Ok, Err}
+use Rattle.std.specs.Prelude.{◌≡◌, ◌⊎◌, ℕ, All, List, [], ◌∷◌, Contains, Option, Some, Ok, Err}
 use Rattle.std.specs.List.{AllByRecursion}
 use Rattle.cert_text.specs.declared.stated.Stated.{Stated}
 use Rattle.gr_desk.specs.declared.port.Port.{Port}
 use Rattle.gr_desk.specs.declared.port.Port.TheVariants.{In, RoutesIn, CertIn}
 use Rattle.gr_desk.specs.Told.{Told}
 use Rattle.grid_graph.specs.declared.design.Design.{Design}
-use Rattle.grid_graph.specs.declared.grid.Grid.{Grid}
 use Rattle.grid_graph.specs.declared.ground.Ground.TheVariants.{WithChoked}
-use Rattle.grid_graph.specs.declared.net_spec.NetSpec.{NetSpec}
 use Rattle.grid_graph.specs.Grounds.{JoinsTerminals, IsFirstCutOff}
-use Rattle.grid_base.specs.Lists.{At}
 use Rattle.ispd_reader.specs.Designs.{contents_of, IsDesignOfText}
 use Rattle.route_text.specs.declared.block.Block.{Block}
 use Rattle.judge_cli.specs.declared.refusal.Refusal.{Refusal}
@@ -22,10 +19,6 @@ use Rattle.judge_cli.specs.Traces.{ReportsRefusal, InputFailed}
 
 -- ---- what is wrong with a text
 
--- open and choked edges with vias join every net's terminals
-abbrev pub AreReachable : Grid → List NetSpec → Type 0
-AreReachable g nets = (k : ℕ) (n : NetSpec) → At nets k n → JoinsTerminals g WithChoked n.terminals
-
 -- the text that is read at the port is refused for this: that of a design for a fault of its format, or for the first of its nets
 -- that is cut off, at the first of that net's terminals that is; no other refusal is for what the text of a design says
 abbrev pub IsRefusedAt : Port → List ℕ → Refusal → Type 0
@@ -35,9 +28,10 @@ IsRefusedAt RoutesIn text refusal = blocks_or_refusal text ≡ Err refusal
 IsRefusedAt CertIn text refusal = stated_or_refusal text ≡ Err refusal
 IsRefusedAt _ text refusal = ⊥
 
--- the text that is read at the port is one: of a design whose nets are reachable, of blocks, of a certificate
+-- the text that is read at the port is one: of a design of which open and choked edges with vias join each net's terminals, of
+-- blocks, of a certificate
 abbrev pub IsAcceptedAt : Port → List ℕ → Type 0
-IsAcceptedAt In text = (d : Design) × IsDesignOfText text d × AreReachable d.grid d.nets
+IsAcceptedAt In text = (d : Design) × IsDesignOfText text d × All (λ n. JoinsTerminals d.grid WithChoked n.terminals) d.nets
 IsAcceptedAt RoutesIn text = (blocks : List Block) × (blocks_or_refusal text ≡ Ok blocks)
 IsAcceptedAt CertIn text = (stated : Stated) × (stated_or_refusal text ≡ Ok stated)
 IsAcceptedAt _ text = ⊥

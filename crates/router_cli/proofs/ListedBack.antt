@@ -13,7 +13,7 @@ use Rattle.edge_prices.specs.Weights.{is_open, ArePrices}
 use Rattle.grid_graph.specs.declared.grid.Grid.{Grid}
 use Rattle.grid_graph.specs.Grids.{capacity, edge_numbers}
 use Rattle.route_judge.specs.Counts.{listed_price, listed_prices, open_below, open_count}
-use Rattle.router_cli.specs.Certified.{open_edges, open_prices}
+use Rattle.judge_laws.specs.OpenPrices.{open_edges, open_prices}
 
 kept_first : (p : ℕ → Bool) (f : ℕ → ℕ) (e : ℕ) (rest : List ℕ) → p e ≡ true → map f (filter p (e ∷ rest)) ≡ f e ∷ map f (filter p rest)
 kept_first p f e rest is = rw is refl

@@ -1,7 +1,7 @@
 -- A design that was routed, from what its phases, its picks and its certificate say.
 use Rattle.std.proofs.Common.{◌<◌, List, [], ◌∷◌, All, arith, length, get_or}
 use Rattle.std.proofs.lemmas.List.Elements.{All-nil, All-cons}
-use Rattle.std.proofs.lemmas.Option.{slice_get-get_or, slice_get_within}
+use Rattle.std.proofs.lemmas.Option.{slice_get-get_or}
 use Rattle.std.proofs.lemmas.Slice.Zip.{AllZip-long}
 use Rattle.grid_base.proofs.Lists.{AllZip-at}
 use Rattle.grid_base.specs.declared.piece.Piece.{Piece}
@@ -11,7 +11,7 @@ use Rattle.grid_graph.specs.Grids.{size_of}
 use Rattle.grid_graph.proofs.Grounds.{joins_with_choked}
 use Rattle.tree_set.specs.Routings.{IsRoute, IsRouting, ArePieces}
 use Rattle.price_workers.proofs.TurnFacts.{route_pieces}
-use Rattle.judge_cli.specs.Refusals.{AreReachable}
+use Rattle.judge_cli.proofs.Causes.{AreReachable}
 
 -- the routes of a routing have pieces alone
 pub routes_are_pieces : (g : Grid) (nets : List NetSpec) (trees : List (List Piece)) → IsRouting g nets trees → All (ArePieces (size_of g)) trees
@@ -22,7 +22,8 @@ routes_are_pieces g (n ∷ ns) [] routing = absurd routing
 
 -- the nets of a routing are reachable
 pub routed_reachable : (g : Grid) (nets : List NetSpec) (trees : List (List Piece)) → IsRouting g nets trees → AreReachable g nets
-routed_reachable g nets trees routing k n at =
-    let within : k < length trees = omega (arith, slice_get_within nets k n at, AllZip-long (IsRoute g) nets trees routing) in
-    let route = AllZip-at (IsRoute g) nets trees k n (get_or trees k []) routing at (slice_get-get_or trees k [] within) in
+routed_reachable g nets trees routing k d inside =
+    let n = get_or nets k d in
+    let within : k < length trees = omega (arith, inside, AllZip-long (IsRoute g) nets trees routing) in
+    let route = AllZip-at (IsRoute g) nets trees k n (get_or trees k []) routing (slice_get-get_or nets k d inside) (slice_get-get_or trees k [] within) in
     joins_with_choked g n.terminals route.over route.is_ground

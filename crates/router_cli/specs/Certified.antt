@@ -1,6 +1,5 @@
 -- What a certificate says of a design and of its routes.
-use Rattle.std.specs.Prelude.{ℕ, ◌≡◌, List, length, take, slice_index, map, Option}
-use Rattle.std.specs.List.{filter, range_with_len}
+use Rattle.std.specs.Prelude.{ℕ, ◌≡◌, List, length, take, slice_index, Option}
 use Rattle.std.specs.Option.{option_map}
 use Rattle.grid_base.specs.declared.piece.Piece.{Piece}
 use Rattle.grid_graph.specs.declared.design.Design.{Design}
@@ -8,21 +7,13 @@ use Rattle.grid_graph.specs.declared.grid.Grid.{Grid}
 use Rattle.grid_graph.specs.declared.ground.Ground.{Ground}
 use Rattle.grid_graph.specs.Grids.{edge_numbers}
 use Rattle.grid_graph.specs.Grounds.{AreGrounds}
-use Rattle.edge_prices.specs.Weights.{is_open}
 use Rattle.tree_set.specs.declared.budget.Budget.{Budget}
 use Rattle.tree_set.specs.Loads.{load}
 use Rattle.tree_set.specs.Measures.{overflow, wirelength, IsPeakWith}
 use Rattle.dual_bound.specs.DesignBounds.{IsBoundOrNone}
 use Rattle.cert_text.specs.declared.cert.Cert.{Cert}
+use Rattle.judge_laws.specs.OpenPrices.{open_prices}
 use Rattle.route_judge.specs.Counts.{forced_count}
-
--- the open edges, in rising order
-abbrev pub open_edges : Grid → List ℕ
-open_edges g = filter (is_open g) (range_with_len 0 (edge_numbers g))
-
--- the prices of the open edges in a price vector
-abbrev pub open_prices : Grid → List ℕ → List ℕ
-open_prices g prices = map (slice_index prices) (open_edges g)
 
 -- the budget with the wirelength's price, which stands last in a price vector
 abbrev pub priced_budget : Grid → List ℕ → Option ℕ → Option Budget

@@ -36,6 +36,7 @@ pub use Rattle.route_text.specs.ReadBack
 pub use Rattle.gr_make.specs.MadeText
 pub use Rattle.gr_make.specs.Shapes
 pub use Rattle.judge_laws.specs.Meeting
+pub use Rattle.judge_laws.specs.OpenPrices
 pub use Rattle.judge_cli.specs.Sources
 pub use Rattle.judge_cli.specs.JudgedTexts
 pub use Rattle.judge_cli.specs.TextFaults

@@ -10,6 +10,7 @@ ghost use Rattle.tree_set.specs.Loads.{load};
 ghost use Rattle.tree_set.specs.Measures as measures;
 ghost use Rattle.tree_set.specs.Routings.{ArePieces};
 ghost use Rattle.dual_bound.specs.Bounds.{BoundsDesign};
+ghost use Rattle.judge_laws.specs.OpenPrices as words_below;
 ghost use Rattle.router_cli.specs.Certified as words;
 ghost use Rattle.router_cli.specs.Certified.{IsCertified};
 
@@ -25,7 +26,7 @@ use tree_set::{Budget, Measure, Tree, measure_of};
 /// The prices of the open edges, in rising order.
 fn open_prices(alloc: Global, grid: &Grid, prices: &[u32]) -> Result<PriceList, NoMemory>
     requires { IsPriceList grid.now prices.now }
-    ensures { IfOk result (λ list. list ≡ words.open_prices grid.now prices.now) }
+    ensures { IfOk result (λ list. list ≡ words_below.open_prices grid.now prices.now) }
 {
     let mut open = Vec::new(alloc);
     for e in 0..2 * grid.size().vertices() {

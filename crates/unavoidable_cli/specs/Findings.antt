@@ -52,8 +52,7 @@ IsSameOrBetter d old new edges least = (new ≡ old) × (edges ≡ []) ⊎ IsBet
 
 -- a price list that prices these edges shows so much overflow, which is some; or none is shown, and no edges are named
 abbrev pub IsNoneOrShown : Design → ℕ → List PricedEdge → Type 0
-IsNoneOrShown d least edges =
-    (least ≡ 0) × (edges ≡ []) ⊎ (0 < least) × ((prices : List ℕ) × IsPricing d prices edges least)
+IsNoneOrShown d least edges = (least ≡ 0) × (edges ≡ []) ⊎ (0 < least) × ((prices : List ℕ) × IsPricing d prices edges least)
 
 -- no routing of whole routes, each on its net's ground, has less overflow; routes that go beyond their grounds may have less
 abbrev pub IsUnavoidable : Design → ℕ → Type 0
