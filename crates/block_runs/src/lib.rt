@@ -50,6 +50,3 @@ pub use load_sums::LoadSums;
 pub use merging::merged;
 pub use run::Run;
 pub use spanned::run_between;
-
-#[cfg(test)]
-mod tests;

@@ -40,6 +40,3 @@ pub use price::{price_at, price_from};
 pub use price_lists::are_edge_prices;
 pub use price_vector::prices;
 pub use weighing::Weighing;
-
-#[cfg(test)]
-mod tests;

@@ -55,6 +55,3 @@ pub use spot::Spot;
 pub use spot_sides::spot_steps;
 pub use vertex::Vertex;
 pub use via::Via;
-
-#[cfg(test)]
-mod tests;

@@ -41,6 +41,3 @@ pub use laws::{every_order_of_events_is_sound, loads_are_close};
 pub use loaded::Loaded;
 pub use parties::Parties;
 pub use party::{Party, WHOLE_ALLOTMENT};
-
-#[cfg(test)]
-mod tests;

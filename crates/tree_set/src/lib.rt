@@ -44,6 +44,3 @@ pub use measure::Measure;
 pub use measures::measure_of;
 pub use tree::Tree;
 pub use within::inside;
-
-#[cfg(test)]
-mod tests;

@@ -1,4 +1,4 @@
-//! Prices of a worked grid, worked out by hand.
+//! Prices of `edge_prices` on a worked grid, worked out by hand.
 
 ghost use Rattle.std.specs.Prelude.{◌≡◌, ◌≤◌, IsTrue, IfOk, IfSome};
 ghost use Rattle.grid_graph.specs.Flat.{tiles};
@@ -7,7 +7,10 @@ ghost use Rattle.edge_prices.specs.KeptLists.{grid_of, IsRenewed};
 ghost use Rattle.edge_prices.specs.Limits.{IsBudget};
 ghost use Rattle.edge_prices.specs.Vectors.{IsLoadList};
 
-use super::*;
+use edge_prices::{
+    Costing, KeptPrices, LAST_INDEX, MAX_LOAD, Weighing, are_edge_prices, index_at, price_at,
+    price_from, prices,
+};
 use grid_base::{Edge, NoMemory, Piece, Size, Via};
 use grid_graph::{FlooredWeights, Floors, Grid, GridParts, Ground, MAX_DEMAND, Weights};
 use std::alloc::Global;

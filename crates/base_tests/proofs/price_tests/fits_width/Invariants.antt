@@ -1,7 +1,7 @@
 use Rattle.std.proofs.Common.{ℕ, ◌+◌, ◌<◌, ◌≤◌}
 use Rattle.grid_graph.specs.Grids.{spacing_of_layer}
 use Rattle.grid_graph.specs.Limits.{max_demand}
-use Rattle.edge_prices.proofs.tests.fits_width.Given as goal
+use Rattle.base_tests.proofs.price_tests.fits_width.Given as goal
 
 -- the width fits the layers before this one
 abbrev pub invariant-loop-layer : goal.invariant-loop-layer

@@ -1,7 +1,7 @@
 use Rattle.std.proofs.Common.{◌<◌, ℕ, get_or}
 use Rattle.block_runs.specs.declared.run.Run.{Run}
 use Rattle.block_runs.specs.Runs.{IsRun}
-use Rattle.block_runs.proofs.tests.are_runs.Given as goal
+use Rattle.base_tests.proofs.straight_run_tests.are_runs.Given as goal
 
 -- those so far are runs
 abbrev pub invariant-loop-run : goal.invariant-loop-run

@@ -1,9 +1,9 @@
-//! Worked examples of events.
+//! Worked examples of the events of `load_core`.
 
 ghost use Rattle.std.specs.Prelude.{◌≡◌, IfOk, vec_len};
 
-use crate::{Amounts, Core, Event, Loaded};
 use grid_base::NoMemory;
+use load_core::{Amounts, Core, Event, Loaded};
 use std::alloc::Global;
 use std::test::Fail;
 
@@ -34,6 +34,10 @@ fn events(alloc: Global) -> Result<Vec<Event>, NoMemory>
     Ok(events)
 }
 
+fn first_of(amounts: &Amounts) -> Result<u64, Fail> {
+    Ok(*amounts.list().first().ok_or("a word")?)
+}
+
 #[test]
 fn words_and_shares_move_together_step_by_step(rt: HostRuntime) -> Result<(), Fail> {
     let alloc = rt.alloc();
@@ -55,10 +59,10 @@ fn words_and_shares_move_together_step_by_step(rt: HostRuntime) -> Result<(), Fa
         assert_eq!(rt;
             (
                 made,
-                core.words.get(0),
+                first_of(&core.words)?,
                 first.allot,
-                first.share(0),
-                first.last.get(0)
+                first_of(&first.shares)?,
+                first_of(&first.last)?
             ),
             *want
         );

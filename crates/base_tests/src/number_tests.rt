@@ -1,6 +1,6 @@
-//! Worked examples of numbers, and of what no clause says.
+//! Worked examples of the numbers of `grid_base`, and of what no clause says.
 
-use crate::{Axis, Edge, NoMemory, Piece, Place, Size, Vertex, Via};
+use grid_base::{Axis, Edge, NoMemory, Piece, Place, Size, Vertex, Via};
 use std::alloc::{AllocError, Global};
 use std::test::Fail;
 

@@ -1,13 +1,13 @@
-//! Sets, fractions, and vertices that a set joins.
+//! Sets of `tree_set`, its fractions, and vertices that a set joins.
 
 ghost use Rattle.std.specs.Prelude.{◌↔◌, All, IsTrue};
 ghost use Rattle.grid_base.specs.Numbers.{IsVertex};
 ghost use Rattle.tree_set.specs.Routings.{ArePieces};
 
-use crate::{Fraction, Tree, joins};
 use grid_base::{Edge, Piece, Size, Vertex, Via};
 use std::alloc::Global;
 use std::test::Fail;
+use tree_set::{Fraction, Tree, joins};
 
 #[test]
 fn a_list_with_repeats_is_a_rising_set(rt: HostRuntime) -> Result<(), Fail> {

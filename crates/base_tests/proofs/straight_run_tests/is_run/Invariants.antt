@@ -1,7 +1,7 @@
 use Rattle.std.proofs.Common.{◌<◌, ℕ}
 use Rattle.grid_base.specs.Numbers.{IsPiece}
 use Rattle.block_runs.specs.Runs.{run_piece}
-use Rattle.block_runs.proofs.tests.is_run.Given as goal
+use Rattle.base_tests.proofs.straight_run_tests.is_run.Given as goal
 
 -- those so far are pieces
 abbrev pub invariant-loop-i : goal.invariant-loop-i

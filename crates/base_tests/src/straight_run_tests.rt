@@ -1,10 +1,10 @@
-//! Runs that are drawn by hand.
+//! Runs of `block_runs` that are drawn by hand.
 
 ghost use Rattle.std.specs.Prelude.{All, IsTrue};
 ghost use Rattle.grid_base.specs.Numbers.{IsPiece, IsVertex};
 ghost use Rattle.block_runs.specs.Runs.{IsRun};
 
-use crate::{Direction, LoadSums, Run, joins_surely, merged, piece_count, set_of_runs};
+use block_runs::{Direction, LoadSums, Run, joins_surely, merged, piece_count, set_of_runs};
 use grid_base::{Piece, Size, Vertex};
 use std::alloc::Global;
 use std::test::Fail;
