@@ -1,5 +1,5 @@
 -- Texts that may end before they are whole.
-use Rattle.std.proofs.Common.{◌≡◌, ℕ, List, length, take, OnOk, OnErr, Ok, Err, sym, subst}
+use Rattle.std.proofs.Common.{ℕ, List, length, take, OnOk, OnErr, Ok, Err, sym, subst}
 use Rattle.std.specs.Prelude.{Result}
 use Rattle.std.proofs.Math.Seq.{take-length}
 use Rattle.gr_desk.specs.declared.port.Port.{Port}

@@ -1,5 +1,5 @@
 -- The ports of files that are read, and of files that are made.
-use Rattle.std.proofs.Common.{◌≡◌, ◌≢◌, List, [], ◌∷◌, Contains, sym, subst, inl, inr}
+use Rattle.std.proofs.Common.{◌≢◌, List, [], ◌∷◌, Contains, sym, subst, inl, inr}
 use Rattle.std.specs.Prelude.{IsTrue}
 use Rattle.gr_desk.specs.declared.port.Port.{Port}
 use Rattle.gr_desk.specs.declared.port.Port.TheVariants.{In, RoutesIn, CertIn, RoutesOut, CertOut, DesignOut, Report}

@@ -1,5 +1,5 @@
 -- Why what was read for a measure or a judgement is accepted.
-use Rattle.std.proofs.Common.{◌≡◌, ◌<◌, ℕ, List, [], ◌∷◌, length, Some, Ok, false, refl, sym, ◌∙◌, arith, le-ltb, get_or, inl, inr}
+use Rattle.std.proofs.Common.{◌≡◌, ◌<◌, ℕ, List, [], ◌∷◌, length, Some, false, refl, sym, ◌∙◌, arith, le-ltb, get_or, inl, inr}
 use Rattle.std.specs.Prelude.{nat_lt}
 use Rattle.std.proofs.lemmas.Option.{slice_get-get_or}
 use Rattle.std.proofs.lemmas.Slice.Zip.{AllZip-long}

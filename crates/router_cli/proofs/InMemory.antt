@@ -1,10 +1,10 @@
 -- Texts that are written to a new desk in memory, and read from it again.
-use Rattle.std.proofs.Common.{◌≡◌, ℕ, List, [], ◌++◌, Bool, false, Some, Ok, Err, refl, sym, ◌∙◌, ap, subst}
+use Rattle.std.proofs.Common.{◌≡◌, ℕ, List, [], false, Some, Ok, Err, refl, sym, ◌∙◌, ap, subst}
 use Rattle.std.specs.Prelude.{Result, Option, option_map, is_err}
 use Rattle.std.specs.Io.KnownBytes.{Appends}
 use Rattle.gr_desk.specs.declared.port.Port.{Port}
 use Rattle.gr_desk.specs.declared.port.Port.TheVariants.{In}
-use Rattle.gr_desk.specs.Told.{Told, PortTold}
+use Rattle.gr_desk.specs.Told.{Told}
 use Rattle.gr_make.specs.MadeText.{made_text}
 use Rattle.gr_make.specs.Shapes.{IsShape}
 use Rattle.gr_make.specs.declared.shape.Shape.{Shape}

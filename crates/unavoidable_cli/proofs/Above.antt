@@ -1,5 +1,5 @@
 -- Bounds that are above others.
-use Rattle.std.proofs.Common.{◌≡◌, ◌*◌, ◌≤◌, ◌<◌, Bool, true, false, not, Option, Some, None, refl, ⊎_elim, arith}
+use Rattle.std.proofs.Common.{◌*◌, ◌≤◌, ◌<◌, Bool, true, false, not, Option, Some, None, refl, ⊎_elim, arith}
 use Rattle.std.specs.Prelude.{◌↔◌, IsTrue}
 use Rattle.std.proofs.lemmas.Bool.{cases_lt}
 use Rattle.tree_set.specs.declared.fraction.Fraction.{Fraction}

@@ -1,15 +1,12 @@
 -- What a finding's parts amount to.
-use Rattle.std.proofs.Common.{◌≡◌, ◌≤◌, ◌<◌, ◌*◌, ℕ, zero, suc, List, [], map, All, Option, Some, None, Bool, true, cond, ltb, refl, sym, ◌∙◌, ap, subst, arith, inl, inr}
+use Rattle.std.proofs.Common.{◌≡◌, ◌≤◌, ◌<◌, ℕ, zero, suc, List, [], All, None, true, ltb, refl, sym, subst, arith, inl, inr}
 use Rattle.std.specs.Prelude.{filter, slice_index}
 use Rattle.std.specs.List.{range_with_len}
 use Rattle.std.proofs.lemmas.Bool.{lt-ltb, ltb-true}
 use Rattle.std.proofs.lemmas.List.Elements.{All-filter, All-map, filter_passes}
 use Rattle.std.proofs.lemmas.List.FromFn.{get_or-range_with_len, length-range_with_len}
 use Rattle.cert_text.specs.declared.cert.Cert.{Cert}
-use Rattle.dual_bound.specs.DesignBounds.{IsBoundOrNone, IsDesignBound}
-use Rattle.dual_bound.specs.Prices.{capacity_cost}
-use Rattle.dual_bound.proofs.Bounding.{net_bounds_bound}
-use Rattle.edge_prices.specs.Weights.{AreEdgePrices, is_open}
+use Rattle.edge_prices.specs.Weights.{AreEdgePrices}
 use Rattle.grid_base.specs.declared.piece.Piece.TheVariants.{Edge}
 use Rattle.grid_graph.specs.declared.design.Design.{Design}
 use Rattle.grid_graph.specs.declared.grid.Grid.{Grid}

@@ -17,7 +17,7 @@ use Rattle.tree_set.specs.declared.budget.Budget.{Budget}
 use Rattle.tree_set.specs.declared.fraction.Fraction.{Fraction}
 use Rattle.tree_set.specs.Budgets.{most_of}
 use Rattle.unavoidable_cli.specs.declared.priced_edge.PricedEdge.{PricedEdge}
-use Rattle.unavoidable_cli.specs.Findings.{IsAbove, IsBetter, IsSameOrBetter}
+use Rattle.unavoidable_cli.specs.Findings.{IsAbove, IsSameOrBetter}
 
 -- the judge says yes to the certificate, its text reads back, and every mixture of routings uses some resource at its bound or more
 pub record IsAcceptedCert (d : Design) (over : List Ground) (blocks : List Block) (cert : Cert) : Type 0 where

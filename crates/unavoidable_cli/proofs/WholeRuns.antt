@@ -1,5 +1,5 @@
 -- The ways in which a run ends: with what comes of what was read, refused, and on words that are no command.
-use Rattle.std.proofs.Common.{◌≡◌, ◌≢◌, ℕ, List, [], ◌∷◌, take, refl}
+use Rattle.std.proofs.Common.{◌≡◌, ◌≢◌, ℕ, List, take, refl}
 use Rattle.cert_text.specs.declared.cert.Cert.{Cert}
 use Rattle.gr_desk.specs.declared.port.Port.TheVariants.{CertOut, Report}
 use Rattle.gr_desk.specs.Runs.{Adds}

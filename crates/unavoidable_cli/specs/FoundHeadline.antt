@@ -4,7 +4,7 @@
 -- Where the words lead: `AreReadRoutes` and `IsReadCert` of `judge_cli` are what the texts under the names say, `IsJudged` of
 -- `route_judge` the verdict on them, `IsFinding` beside this file what is found, `cert_text` of `cert_text` the text of the new
 -- certificate, `finding_report` the report, and `reason_text` of `judge_cli` the line of a reason.
-use Rattle.std.specs.Prelude.{◌≡◌, ℕ, List, [], ◌∷◌, true, false, Some, None}
+use Rattle.std.specs.Prelude.{◌≡◌, List, [], ◌∷◌, true, false, Some, None}
 use Rattle.gr_desk.specs.Told.{Told}
 use Rattle.grid_graph.specs.declared.design.Design.{Design}
 use Rattle.grid_graph.specs.declared.ground.Ground.{Ground}

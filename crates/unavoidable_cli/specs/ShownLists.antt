@@ -1,5 +1,5 @@
 -- Price lists with what they show.
-use Rattle.std.specs.Prelude.{◌≤◌, ℕ, List, Option, IfSome}
+use Rattle.std.specs.Prelude.{ℕ, Option, IfSome}
 use Rattle.dual_bound.specs.Bounds.{BoundsDesign}
 use Rattle.dual_bound.specs.DesignBounds.{IsBoundOrNone}
 use Rattle.dual_bound.specs.LeastOverflow.{ShowsOverflow}

@@ -1,4 +1,3 @@
-use Rattle.std.proofs.Common.{◌≡◌}
 use Rattle.judge_cli.specs.declared.refusal.Refusal.TheVariants.{NoMemory}
 use Rattle.judge_cli.specs.MeasureRun.{measure_task_of, measure_sources}
 use Rattle.judge_cli.proofs.JudgedRuns.{routes-accepted}

@@ -1,4 +1,4 @@
-use Rattle.std.proofs.Common.{◌≡◌, ◌∙◌, ap, List, ℕ, [], ◌∷◌, refl}
+use Rattle.std.proofs.Common.{◌∙◌, ap, List, ℕ, [], ◌∷◌}
 use Rattle.std.specs.Prelude.{Option}
 use Rattle.gr_desk.specs.declared.port.Port.TheVariants.{In, RoutesIn}
 use Rattle.judge_cli.specs.Sources.{Source}

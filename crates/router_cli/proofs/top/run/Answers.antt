@@ -1,5 +1,5 @@
 use Rattle.std.proofs.Common.{refl, sym, subst, lit<, string_bytes, map}
-use Rattle.command_words.specs.CommandLine.{AsksForRoute, AsksForMeasure, AsksForJudge, AsksForMake, AsksForTrial, HasRouteRanges, HasMakeRanges, HasTrialRanges}
+use Rattle.command_words.specs.CommandLine.{AsksForRoute, AsksForMeasure, AsksForJudge, AsksForMake, AsksForTrial, HasRouteRanges, HasTrialRanges}
 use Rattle.command_words.specs.CommandLine.{route_form, measure_form, judge_form, make_form, trial_form}
 use Rattle.judge_cli.specs.JudgeRun.{IsJudgeRun, JudgeTask, judge_task_of_words}
 use Rattle.router_cli.specs.MakeRun.{IsMakeRun, MakeTask, make_task_of_words}

@@ -1,4 +1,4 @@
-use Rattle.std.proofs.Common.{◌≡◌, List, ℕ, refl, sym, ◌∙◌, subst}
+use Rattle.std.proofs.Common.{◌≡◌, List, refl, sym, ◌∙◌, subst}
 use Rattle.std.proofs.lemmas.Slice.Zip.{AllZip-long}
 use Rattle.gr_make.specs.declared.shape.Shape.{Shape}
 use Rattle.gr_make.specs.MadeText.{made_text}
@@ -10,7 +10,7 @@ use Rattle.made_designs.proofs.Generated.{made_design_near}
 use Rattle.price_workers.specs.declared.settings.Settings.{Settings}
 use Rattle.tree_set.specs.Routings.{IsRoute}
 use Rattle.router_cli.specs.Headline.{IsRoutedDesign}
-use Rattle.router_cli.specs.TrialRun.{trial_settings, trial_task_of}
+use Rattle.router_cli.specs.TrialRun.{trial_task_of}
 use Rattle.judge_cli.proofs.Outcomes.{same_refusal}
 use Rattle.router_cli.proofs.Routed.{routes_are_pieces}
 use Rattle.router_cli.proofs.TrueTexts.{texts_meet}

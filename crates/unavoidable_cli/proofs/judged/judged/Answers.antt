@@ -1,4 +1,3 @@
-use Rattle.std.proofs.Common.{◌≡◌}
 use Rattle.judge_cli.specs.declared.refusal.Refusal.TheVariants.{NoMemory}
 use Rattle.judge_cli.proofs.ReadFiles.{error_of, sources-failed, sources-memory, sources-passed}
 use Rattle.unavoidable_cli.specs.UnavoidableRun.{unavoidable_sources}
