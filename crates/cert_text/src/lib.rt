@@ -47,6 +47,3 @@ pub use laws::written_certificates_read_back;
 pub use price_list::PriceList;
 pub use reading::read_cert;
 pub use writing::{put_labelled_fraction, write_cert};
-
-#[cfg(test)]
-mod tests;

@@ -38,6 +38,3 @@ pub use read::command_of;
 pub use route_request::RouteRequest;
 pub use trial_request::TrialRequest;
 pub use words_error::WordsError;
-
-#[cfg(test)]
-mod tests;

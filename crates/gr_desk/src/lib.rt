@@ -43,6 +43,3 @@ pub use port::Port;
 pub use real::RealDesk;
 pub use state::State;
 pub use whole::{READ_SIZE, read_port, write_all};
-
-#[cfg(test)]
-mod tests;

@@ -28,6 +28,3 @@ pub use number::Number;
 pub use number_fault::NumberFault;
 pub use scanner::Scanner;
 pub use span::Span;
-
-#[cfg(test)]
-mod tests;

@@ -1,6 +1,6 @@
-//! Words, and what they ask for.
+//! Words, and what they ask for by `command_words`.
 
-use super::*;
+use command_words::{Command, MakeRequest, RouteRequest, TrialRequest, WordsError, command_of};
 use std::alloc::{AllocError, Global};
 use std::test::Fail;
 

@@ -1,6 +1,6 @@
-//! Certificates that were worked out by hand.
+//! Certificates of `cert_text` that were worked out by hand.
 
-use super::*;
+use cert_text::{Cert, CertError, PriceList, read_cert, write_cert};
 use gr_desk::{Desk, MemDesk, Port};
 use std::alloc::{AllocError, Global};
 use std::test::Fail;

@@ -1,8 +1,8 @@
-//! What no clause says: worked examples, each public call once on its way to an answer, and real files.
+//! What no clause of `gr_desk` says: worked examples, each public call once on its way to an answer, and real files.
 
 ghost use Rattle.std.specs.Prelude.{◌<◌, ◌^◌};
 
-use crate::{
+use gr_desk::{
     CallKind, Desk, Failed, MemDesk, NeverFails, Port, PortFault, RealDesk, read_port, write_all,
 };
 use std::alloc::{AllocError, Global};
@@ -25,7 +25,7 @@ fn files(alloc: Global) -> Result<Vec<(String, Vec<u8>)>, AllocError> {
 fn failing(rt: &HostRuntime, port: Port, call: CallKind, nth: u32) -> Result<MemDesk, AllocError> {
     let alloc = rt.alloc();
     let mut failing = Vec::new(alloc);
-    failing.push(crate::Fail { port, call, nth })?;
+    failing.push(gr_desk::Fail { port, call, nth })?;
     Ok(MemDesk::new(alloc, files(alloc)?, failing))
 }
 

@@ -1,8 +1,8 @@
-//! Tokens and numbers of worked texts.
+//! Tokens and numbers of `text_scan` in worked texts.
 
 ghost use Rattle.std.specs.Prelude.{◌≡◌, Ok};
 
-use super::*;
+use text_scan::{Number, NumberFault, Scanner, Span};
 
 /// A design of one net, of 144 bytes.
 const DESIGN: &[u8] =

@@ -1,0 +1,15 @@
+//! The tests of `text_scan`, `cert_text`, `command_words` and `gr_desk`.
+//!
+//! They stand apart from what they test, since a crate with tests is proved once alone and once more with them. Nothing stands
+//! on it.
+
+#![tactic(auto)]
+
+#[cfg(test)]
+mod certificate_tests;
+#[cfg(test)]
+mod command_line_tests;
+#[cfg(test)]
+mod desk_tests;
+#[cfg(test)]
+mod token_tests;
