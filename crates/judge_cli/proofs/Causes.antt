@@ -132,19 +132,6 @@ cause-accepted (s ∷ later) a c r (inr (accepted, rest)) all calm = cause-accep
 pub cause-alone : (s : Source) (a b : Told) (r : Refusal) → IsCauseAt s a b r → IsCause (s ∷ []) a b r
 cause-alone s a b r at = inl (at, λ p in_none. absurd (none_in p in_none))
 
-cause-at : (s : Source) (a b : Told) (r : Refusal) → IsCause (s ∷ []) a b r → IsCauseAt s a b r
-cause-at s a b r (inl (at, unopened)) = at
-cause-at s a b r (inr (accepted, memory)) = subst (IsCauseAt s a b) (sym memory) tt
-
--- of a design alone
-pub text_or_memory : (name text : List ℕ) (a c : Told) (r : Refusal) → IsCause (design_source name) a c r → a.files name ≡ Some text → ¬ InputFailed a c → IsRefusedAt In text r ⊎ (r ≡ NoMemory)
-text_or_memory name text a c r cause under calm =
-    let design : Source = record { port = In; name = name } in
-    elim (cause_at-says design a c r (cause-at design a c r cause) calm) [
-      | inl says ↦ inl (says text under)
-      | inr memory ↦ inr memory
-    ]
-
 -- what the text of a design is refused for is a cause, and so is want of memory
 cause_at-of_text : (name text : List ℕ) (a b : Told) (r : Refusal) → ((bytes : List ℕ) → a.files name ≡ Some bytes → text ≡ bytes)
     → IsRefusedAt In text r ⊎ (r ≡ NoMemory) → IsCauseAt (record { port = In; name = name }) a b r

@@ -102,7 +102,3 @@ file-keeps x y name text file = but_for_output-of x y (ap (λ (p : PortTold). p.
 pub part-keeps : (x y : PortTold) (name text : List ℕ) → HasPart x y name text → y ≡ but_for_output x y
 part-keeps x y name text (inl is) = but_for_output-of x y (ap (λ (p : PortTold). p.rest) is) (ap (λ (p : PortTold). p.expected) is)
 part-keeps x y name text (inr (n, file)) = file-keeps x y name (take n text) file
-
--- and one that is as it was
-pub same-keeps : (x y : PortTold) → y ≡ x → y ≡ but_for_output x y
-same-keeps x y is = but_for_output-of x y (ap (λ (p : PortTold). p.rest) is) (ap (λ (p : PortTold). p.expected) is)

@@ -18,12 +18,7 @@ use Rattle.cert_text.specs.declared.cert_error.CertError.TheVariants as cert_err
 use Rattle.cert_text.specs.CertReads.{RefusesCert}
 use Rattle.cert_text.specs.Certs.{IsCertOf}
 use Rattle.cert_text.specs.StatedCerts.{stated_in}
-use Rattle.route_text.specs.declared.block.Block.{Block}
-use Rattle.route_text.specs.declared.route_error.RouteError.{RouteError}
-use Rattle.route_text.specs.declared.route_error.RouteError.TheVariants as route_errors
-use Rattle.route_text.specs.Blocks.{blocks_of}
-use Rattle.route_text.specs.Reads.{RefusesRoute}
-use Rattle.judge_cli.specs.JudgedTexts.{of_route_error, of_cert_error}
+use Rattle.judge_cli.specs.JudgedTexts.{of_cert_error}
 use Rattle.judge_cli.specs.Outputs.{Makes}
 use Rattle.judge_cli.specs.Refusals.{IsRefusedAt}
 
@@ -50,11 +45,6 @@ made_not_refused seed shape fits Unread for_it = for_it
 made_not_refused seed shape fits NoMemory for_it = for_it
 
 -- what isn't refused fails for want of memory alone
-pub route_error_is_memory : (text bytes : List ℕ) (e : RouteError) → bytes ≡ text → ((blocks : List Block) × (blocks_of text ≡ Ok blocks))
-    → RefusesRoute e (blocks_of bytes) → of_route_error e ≡ NoMemory
-route_error_is_memory text bytes (route_errors.Syntax at) same read refuses = let both = sym read.1 ∙ sym (ap blocks_of same) ∙ refuses in absurd (cc both)
-route_error_is_memory text bytes route_errors.NoMemory same read refuses = refl
-
 pub cert_error_is_memory : (text bytes : List ℕ) (cert : Cert) (e : CertError) → bytes ≡ text → IsCertOf text cert
     → RefusesCert e (stated_in bytes) → of_cert_error e ≡ NoMemory
 cert_error_is_memory text bytes cert (cert_errors.Syntax at) same is refuses = let both = sym is.1 ∙ sym (ap stated_in same) ∙ refuses in absurd (cc both)

@@ -1,4 +1,3 @@
-pub mod Above
 pub mod Kept
 pub mod FindingParts
 pub mod NewCerts
