@@ -3,92 +3,42 @@
 ghost use Rattle.std.specs.Prelude.{◌≡◌};
 
 use grid_base::{Edge, Piece, Size, Vertex, Via};
-use grid_graph::{Design, Grid, Ground, GroundError, Kind, UnreachableNet};
-use ispd_reader::read_design;
+use grid_graph::{Design, Grid, Ground, GroundError, UnreachableNet};
+use std::alloc::{AllocError, Global};
 use std::test::Fail;
-use worked_designs::{BLOCK, BRIDGE, CRLF, LAYERED, STAR, WIDE_WIRES, design, edited};
+use worked_designs::{agree, design_of};
 
-/// The first of these edges that has another capacity or kind.
-fn first_other_edge(grid: &Grid, edges: &[(u32, u32, Kind)]) -> Option<u32> {
-    for (e, level, kind) in edges {
-        let edge = Edge(*e);
-        if *e / 2 >= grid.size().vertices()
-            || grid.capacity(edge) != *level
-            || grid.kind(edge) != *kind
-        {
-            return Some(*e);
-        }
+/// An edge's number, its capacity and its kind.
+fn edge_text(alloc: Global, grid: &Grid, e: u32) -> Result<String, Fail> {
+    if e / 2 >= grid.size().vertices() {
+        return Err(Fail::new("no edge"));
     }
-    None
+    let (capacity, kind) = (grid.capacity(Edge(e)), grid.kind(Edge(e)));
+    Ok(format!(in alloc; "{e} {capacity} {kind:?}")?)
 }
 
-/// The row with the bytes between two places replaced, and some of its edges. In the block vertex 6 is column 0, row 1 of
-/// the upper layer, and vertex 5 is column 1, row 0 there; its last adjustment lies between two layers.
-const EDGES: [(usize, usize, &[u8], &[(u32, u32, Kind)]); 6] = [
-    (
-        0,
-        0,
-        b"",
-        &[
-            (0, 4, Kind::Open),
-            (1, 0, Kind::Wall),
-            (2, 4, Kind::Open),
-            (4, 0, Kind::Wall),
-        ],
-    ),
-    (
-        142,
-        144,
-        b"1\n0 0 1 1 0 1 0\n",
-        &[(0, 0, Kind::Choked), (2, 4, Kind::Open), (1, 0, Kind::Wall)],
-    ),
-    (
-        142,
-        144,
-        b"2\n0 0 1 1 0 1 0\n0 0 1 1 0 1 8\n",
-        &[(0, 8, Kind::Open), (2, 4, Kind::Open), (1, 0, Kind::Wall)],
-    ),
-    (
-        51,
-        144,
-        b"0 minimum width 1 minimum spacing 1 via spacing 1 0 0 10 10 num net 0 1 0 0 1 1 0 1 5",
-        &[(0, 5, Kind::Open), (2, 0, Kind::Wall)],
-    ),
-    (
-        0,
-        144,
-        LAYERED,
-        &[
-            (0, 10, Kind::Open),
-            (1, 0, Kind::Wall),
-            (18, 0, Kind::Wall),
-            (19, 10, Kind::Open),
-        ],
-    ),
-    (0, 144, BRIDGE, &[(0, 0, Kind::Choked), (4, 4, Kind::Open)]),
-];
-
-const BLOCK_EDGES: &[(u32, u32, Kind)] = &[
-    (12, 7, Kind::Open),
-    (11, 9, Kind::Open),
-    (0, 3, Kind::Open),
-    (1, 1, Kind::Open),
-    (8, 4, Kind::Open),
-    (9, 2, Kind::Open),
-];
+/// A design, and some of its edges: each one's number, its capacity and its kind. In the block vertex 6 is column 0, row 1
+/// of the upper layer, and vertex 5 is column 1, row 0 there; its last adjustment lies between two layers.
+const EDGES: &str = "ROW|0 4 Open,1 0 Wall,2 4 Open,4 0 Wall
+ROW 142 144 1;0 0 1 1 0 1 0;|0 0 Choked,2 4 Open,1 0 Wall
+ROW 142 144 2;0 0 1 1 0 1 0;0 0 1 1 0 1 8;|0 8 Open,2 4 Open,1 0 Wall
+ROW 51 144 0 minimum width 1 minimum spacing 1 via spacing 1 0 0 10 10 num net 0 1 0 0 1 1 0 1 5|0 5 Open,2 0 Wall
+LAYERED|0 10 Open,1 0 Wall,18 0 Wall,19 10 Open
+BRIDGE|0 0 Choked,4 4 Open
+BLOCK 131 131 3 1 1 2 0 1 2 7 1 1 2 1 0 2 9 0 0 1 0 0 2 5|12 7 Open,11 9 Open,0 3 Open,1 1 Open,8 4 Open,9 2 Open";
 
 #[test]
 fn an_edge_has_the_level_of_its_last_adjustment(rt: HostRuntime) -> Result<(), Fail> {
-    for (from, to, by, edges) in EDGES {
-        let design = design(rt.alloc(), from, to, by)?;
-        assert_eq!(rt; first_other_edge(&design.grid, edges), None, "with {by:?}");
+    let alloc = rt.alloc();
+    for row in EDGES.split('\n') {
+        let (given, edges) = row.split_once('|').ok_or("bar")?;
+        let design = design_of(alloc, given)?;
+        for edge in edges.split(',') {
+            let (e, _) = edge.split_once(' ').ok_or("blank")?;
+            let found = edge_text(alloc, &design.grid, e.parse()?)?;
+            agree(row, found.as_str(), edge)?;
+        }
     }
-    let adjusted = b"3 1 1 2 0 1 2 7 1 1 2 1 0 2 9 0 0 1 0 0 2 5";
-    let block = read_design(
-        rt.alloc(),
-        edited(rt.alloc(), BLOCK, 131, 131, adjusted)?.as_slice(),
-    )?;
-    assert_eq!(rt; first_other_edge(&block.grid, BLOCK_EDGES), None);
     Ok(())
 }
 
@@ -103,115 +53,144 @@ fn demand_of(design: &Design, e: u32) -> Option<u32> {
 
 #[test]
 fn a_wire_is_as_wide_as_its_net_or_its_layer(rt: HostRuntime) -> Result<(), Fail> {
-    let design = design(rt.alloc(), 0, 144, WIDE_WIRES)?;
-    assert_eq!(rt; demand_of(&design, 0), Some(4));
-    assert_eq!(rt; demand_of(&design, 8), Some(3));
+    let design = design_of(rt.alloc(), "WIDE_WIRES")?;
+    assert!(rt; demand_of(&design, 0) == Some(4));
+    assert!(rt; demand_of(&design, 8) == Some(3));
     Ok(())
 }
 
-/// The tile of a position.
-fn tile_of(grid: &Grid, x: i32, y: i32) -> Option<(u32, u32)> {
-    grid.tile_of(i64::from(x), i64::from(y))
+/// The tile of a position, as column and row, or `-`.
+fn tile_of(alloc: Global, grid: &Grid, x: i32, y: i32) -> Result<String, AllocError> {
+    match grid.tile_of(i64::from(x), i64::from(y)) {
+        Some((column, row)) => format!(in alloc; "{column} {row}"),
+        None => String::from_str(alloc, "-"),
+    }
 }
+
+/// A position, its tile in the row, and its tile where the corner of the row is at (-10,-10).
+const TILES: &str = "25 5|2 0|-
+30 10|2 0|-
+31 5|-|-
+0 -1|-|1 0
+-5 -5|-|0 0
+-1 -1|-|0 0
+15 -5|-|2 0";
 
 /// A position on the border is in the last tile.
 #[test]
 fn each_position_has_its_tile(rt: HostRuntime) -> Result<(), Fail> {
-    let row = design(rt.alloc(), 0, 0, b"")?;
-    let moved = design(rt.alloc(), 0, 144, CRLF)?;
-    assert_eq!(rt; Some(row.grid.size()), Size::new(3, 1, 1));
-    assert_eq!(rt; row.grid.origin(), (0, 0));
-    assert_eq!(rt; moved.grid.origin(), (-10, -10));
-    assert_eq!(rt; moved.grid.tile(), (10, 10));
-    let cases: [(i32, i32, Option<(u32, u32)>, Option<(u32, u32)>); 7] = [
-        (25, 5, Some((2, 0)), None),
-        (30, 10, Some((2, 0)), None),
-        (31, 5, None, None),
-        (0, -1, None, Some((1, 0))),
-        (-5, -5, None, Some((0, 0))),
-        (-1, -1, None, Some((0, 0))),
-        (15, -5, None, Some((2, 0))),
-    ];
-    for (x, y, tile, tile_when_moved) in cases {
-        assert_eq!(rt; tile_of(&row.grid, x, y), tile, "at {x} {y}");
-        assert_eq!(rt; tile_of(&moved.grid, x, y), tile_when_moved, "at {x} {y}");
+    let alloc = rt.alloc();
+    let row = design_of(alloc, "ROW")?.grid;
+    let moved = design_of(alloc, "CRLF")?.grid;
+    assert!(rt; Some(row.size()) == Size::new(3, 1, 1));
+    assert!(rt; row.origin() == (0, 0));
+    assert!(rt; moved.origin() == (-10, -10));
+    assert!(rt; moved.tile() == (10, 10));
+    for line in TILES.split('\n') {
+        let (place, tiles) = line.split_once('|').ok_or("bar")?;
+        let (x, y) = place.split_once(' ').ok_or("blank")?;
+        let (x, y) = (x.parse()?, y.parse()?);
+        let (tile, tile_when_moved) = tiles.split_once('|').ok_or("bar")?;
+        agree(line, tile_of(alloc, &row, x, y)?.as_str(), tile)?;
+        agree(
+            line,
+            tile_of(alloc, &moved, x, y)?.as_str(),
+            tile_when_moved,
+        )?;
     }
     Ok(())
 }
 
-fn near_of(grid: &Grid, v: u32, i: u32) -> Option<(Vertex, Piece)> {
+/// The neighbour of a vertex and the piece between them, or `-`.
+fn near_of(alloc: Global, grid: &Grid, v: u32, i: u32) -> Result<String, Fail> {
     if v >= grid.size().vertices() {
-        return None;
+        return Err(Fail::new("no vertex"));
     }
-    grid.near(Vertex(v), i)
+    let text = match grid.near(Vertex(v), i) {
+        Some((Vertex(w), Piece::Edge(Edge(e)))) => format!(in alloc; "{w} e{e}"),
+        Some((Vertex(w), Piece::Via(Via(u)))) => format!(in alloc; "{w} v{u}"),
+        None => String::from_str(alloc, "-"),
+    };
+    Ok(text?)
 }
 
-/// West, east, south, north, down and up, as far as they are in the grid. Vertex 37 is in the middle of the upper layer.
+/// A vertex of the star's grid, which of its neighbours, and this one with the piece between them: west, east, south, north,
+/// down and up, as far as they are in the grid. Vertex 37 is in the middle of the upper layer.
+const NEIGHBOURS: &str = "0 0|1 e0
+0 1|5 e1
+0 2|25 v0
+0 3|-
+37 0|36 e72
+37 1|38 e74
+37 2|32 e65
+37 3|42 e75
+37 4|12 v12
+37 5|-
+49 0|48 e96
+49 1|44 e89";
+
 #[test]
 fn neighbours_come_in_order(rt: HostRuntime) -> Result<(), Fail> {
-    let cases: [(u32, u32, Option<(Vertex, Piece)>); 12] = [
-        (0, 0, Some((Vertex(1), Piece::Edge(Edge(0))))),
-        (0, 1, Some((Vertex(5), Piece::Edge(Edge(1))))),
-        (0, 2, Some((Vertex(25), Piece::Via(Via(0))))),
-        (0, 3, None),
-        (37, 0, Some((Vertex(36), Piece::Edge(Edge(72))))),
-        (37, 1, Some((Vertex(38), Piece::Edge(Edge(74))))),
-        (37, 2, Some((Vertex(32), Piece::Edge(Edge(65))))),
-        (37, 3, Some((Vertex(42), Piece::Edge(Edge(75))))),
-        (37, 4, Some((Vertex(12), Piece::Via(Via(12))))),
-        (37, 5, None),
-        (49, 0, Some((Vertex(48), Piece::Edge(Edge(96))))),
-        (49, 1, Some((Vertex(44), Piece::Edge(Edge(89))))),
-    ];
-    let star = design(rt.alloc(), 0, 144, STAR)?;
-    for (v, i, neighbour) in cases {
-        assert_eq!(rt; near_of(&star.grid, v, i), neighbour, "at {v} {i}");
+    let alloc = rt.alloc();
+    let star = design_of(alloc, "STAR")?;
+    for row in NEIGHBOURS.split('\n') {
+        let (place, neighbour) = row.split_once('|').ok_or("bar")?;
+        let (v, i) = place.split_once(' ').ok_or("blank")?;
+        let found = near_of(alloc, &star.grid, v.parse()?, i.parse()?)?;
+        agree(row, found.as_str(), neighbour)?;
     }
     Ok(())
 }
 
 /// What `grounds` answers for one net, which is what `ground` answers too.
-fn ground_of(design: &Design) -> Option<Result<Ground, GroundError>> {
+fn ground_of(design: &Design) -> Result<Result<Ground, GroundError>, Fail> {
     if design.nets.list().is_empty() {
-        return None;
+        return Err(Fail::new("net"));
     }
     let one = design.ground(0);
     match design.grounds() {
-        Ok(grounds) if Ok(grounds.first().copied()) == one.map(Some) => Some(one),
-        Err(fault) if Err(fault) == one => Some(one),
-        _ => None,
+        Ok(grounds) if Ok(grounds.first().copied()) == one.map(Some) => Ok(one),
+        Err(fault) if Err(fault) == one => Ok(one),
+        _ => Err(Fail::new("two grounds")),
     }
 }
 
-/// A way over the next layer keeps a net open.
+/// A design of one net, and its ground. A way over the next layer keeps a net open.
+const GROUNDS: &str = "ROW|open
+ROW 142 144 1;0 0 1 1 0 1 0;|with choked
+ROW 51 52 0|unreachable 0 1
+BRIDGE|open
+LAYERED|open";
+
 #[test]
 fn a_net_is_open_or_forced_or_unreachable(rt: HostRuntime) -> Result<(), Fail> {
+    let alloc = rt.alloc();
     let unreachable = GroundError::Unreachable(UnreachableNet { id: 0, terminal: 1 });
-    let cases: [(usize, usize, &[u8], Result<Ground, GroundError>); 5] = [
-        (0, 0, b"", Ok(Ground::Open)),
-        (142, 144, b"1\n0 0 1 1 0 1 0\n", Ok(Ground::WithChoked)),
-        (51, 52, b"0", Err(unreachable)),
-        (0, 144, BRIDGE, Ok(Ground::Open)),
-        (0, 144, LAYERED, Ok(Ground::Open)),
-    ];
-    for (from, to, by, ground) in cases {
-        let design = design(rt.alloc(), from, to, by)?;
-        assert_eq!(rt; ground_of(&design), Some(ground), "with {by:?}");
+    for row in GROUNDS.split('\n') {
+        let (given, ground) = row.split_once('|').ok_or("bar")?;
+        let found = ground_of(&design_of(alloc, given)?)?;
+        let word = if found == Ok(Ground::Open) {
+            "open"
+        } else if found == Ok(Ground::WithChoked) {
+            "with choked"
+        } else if found == Err(unreachable) {
+            "unreachable 0 1"
+        } else {
+            "another"
+        };
+        agree(row, word, ground)?;
     }
     Ok(())
 }
 
 #[test]
 fn the_lists_of_a_design_are_given_back(rt: HostRuntime) -> Result<(), Fail> {
-    let design = design(rt.alloc(), 0, 0, b"")?;
+    let design = design_of(rt.alloc(), "ROW")?;
     let nets = design.nets.into_list();
-    assert_eq!(rt; nets.len(), 1);
+    assert!(rt; nets.len() == 1);
     for net in nets {
-        assert_eq!(rt; net.name.into_list().as_slice(), b"a".as_slice());
-        assert_eq!(rt;
-            net.terminals.into_list().as_slice(),
-            [Vertex(0), Vertex(2)].as_slice()
-        );
+        assert!(rt; net.name.into_list().as_slice() == b"a".as_slice());
+        assert!(rt; net.terminals.into_list().as_slice() == [Vertex(0), Vertex(2)].as_slice());
     }
     Ok(())
 }

@@ -16,6 +16,8 @@ mod route_text_tests;
 #[cfg(test)]
 mod run_tests;
 #[cfg(test)]
+mod runs;
+#[cfg(test)]
 mod size_tests;
 #[cfg(test)]
 mod tree_tests;

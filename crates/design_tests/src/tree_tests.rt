@@ -2,76 +2,44 @@
 
 ghost use Rattle.std.specs.Prelude.{◌≡◌};
 
-use crate::trees::{alike, are_pieces, measured};
-use grid_base::{Edge, Piece, Via};
+use crate::trees::{alike, are_pieces, measured, set_of};
 use grid_graph::{Design, Ground};
 use std::alloc::Global;
 use std::test::Fail;
-use tree_set::{Fraction, Tree, add_load, inside};
-use worked_designs::{
-    ARCH, ROW_SET, SQUARE, STACK, STACK_OF_TWO, STAR, STAR_SET, THREE_NETS, WIDE_WIRES, design,
-};
+use tree_set::{add_load, inside};
+use worked_designs::{agree, design_of};
 
-/// All four edges of the square, one of them twice.
-const CYCLE: &[Piece] = &[
-    Piece::Edge(Edge(0)),
-    Piece::Edge(Edge(3)),
-    Piece::Edge(Edge(1)),
-    Piece::Edge(Edge(4)),
-    Piece::Edge(Edge(0)),
-];
-
-const VIA: &[Piece] = &[Piece::Via(Via(0))];
-
-/// The row with the bytes between two places replaced, the set of each net, and what is measured: the overflow, the
-/// wirelength, and the two numbers of the peak.
-type Measured = (
-    usize,
-    usize,
-    &'static [u8],
-    &'static [Piece],
-    (u64, u64, Option<(u128, u128)>),
-);
-
+/// A design, the set of each net, and what is measured: the overflow, the wirelength and the peak.
+///
 /// A cycle counts each edge once, vias load no edge, without open edges there is no peak, and a choked edge overflows and
 /// has no part in the peak.
-const MEASURES: [Measured; 9] = [
-    (0, 0, b"", ROW_SET, (0, 2, Some((1, 2)))),
-    (119, 144, THREE_NETS, ROW_SET, (4, 6, Some((3, 2)))),
-    (119, 144, b"0\n", ROW_SET, (0, 0, Some((0, 1)))),
-    (0, 144, SQUARE, CYCLE, (0, 4, Some((1, 1)))),
-    (0, 144, STACK, VIA, (0, 1, None)),
-    (0, 144, STACK_OF_TWO, VIA, (0, 1, Some((0, 1)))),
-    (
-        142,
-        144,
-        b"1\n0 0 1 1 0 1 0\n",
-        ROW_SET,
-        (2, 2, Some((1, 2))),
-    ),
-    (0, 144, STAR, STAR_SET, (0, 9, Some((1, 4)))),
-    (0, 144, WIDE_WIRES, ARCH, (0, 5, Some((1, 4)))),
-];
+const MEASURES: &str = "ROW|e0 e2|0 2 1/2
+CROWDED_ROW|e0 e2|4 6 3/2
+ROW 119 144 0;|e0 e2|0 0 0/1
+SQUARE|e0 e3 e1 e4 e0|0 4 1/1
+STACK|v0|0 1 none
+STACK_OF_TWO|v0|0 1 0/1
+ROW 142 144 1;0 0 1 1 0 1 0;|e0 e2|2 2 1/2
+STAR|e5 e15 e20 e22 e24 e25 e26 e35 v12|0 9 1/4
+WIDE_WIRES|v0 e8 e10 e12 v3|0 5 1/4";
 
 #[test]
 fn sets_have_the_measures_that_were_worked_out(rt: HostRuntime) -> Result<(), Fail> {
-    for (from, to, by, set, numbers) in MEASURES {
-        let design = design(rt.alloc(), from, to, by)?;
-        let trees = alike(rt.alloc(), &design, set)?;
-        let measure = measured(rt.alloc(), &design, trees.as_slice())?;
-        let peak = measure.peak.map(|f: Fraction| (f.num, f.den));
-        assert_eq!(rt;
-            (measure.overflow, measure.wirelength, peak),
-            numbers,
-            "with {by:?}"
-        );
+    let alloc = rt.alloc();
+    for row in MEASURES.split('\n') {
+        let (given, row) = row.split_once('|').ok_or("bar")?;
+        let (set, measure) = row.split_once('|').ok_or("bar")?;
+        let design = design_of(alloc, given)?;
+        let trees = alike(alloc, &design, set)?;
+        let found = measured(alloc, &design, trees.as_slice())?;
+        agree(given, found.as_str(), measure)?;
     }
     Ok(())
 }
 
 /// What `add_load` adds to a table of zeros, for the first net.
-fn load_of(alloc: Global, design: &Design, set: &[Piece]) -> Result<Vec<u64>, Fail> {
-    let tree = Tree::of(Vec::from_slice(alloc, set)?);
+fn load_of(alloc: Global, design: &Design, set: &str) -> Result<Vec<u64>, Fail> {
+    let tree = set_of(alloc, set)?;
     let net = design.nets.list().first().ok_or("net")?;
     let mut loads = vec![in alloc; 0; 2 * design.grid.size().vertices() as usize]?;
     if !are_pieces(design.grid.size(), &tree) {
@@ -83,38 +51,29 @@ fn load_of(alloc: Global, design: &Design, set: &[Piece]) -> Result<Vec<u64>, Fa
 
 #[test]
 fn the_demand_is_added_once_on_each_edge(rt: HostRuntime) -> Result<(), Fail> {
-    let design = design(rt.alloc(), 0, 144, WIDE_WIRES)?;
-    let set = [
-        Piece::Edge(Edge(2)),
-        Piece::Via(Via(0)),
-        Piece::Edge(Edge(8)),
-        Piece::Edge(Edge(2)),
-    ];
-    let loads = load_of(rt.alloc(), &design, set.as_slice())?;
-    assert_eq!(rt;
-        loads.as_slice(),
-        [0, 0, 4, 0, 0, 0, 0, 0, 3, 0, 0, 0, 0, 0, 0, 0].as_slice()
-    );
+    let design = design_of(rt.alloc(), "WIDE_WIRES")?;
+    let loads = load_of(rt.alloc(), &design, "e2 v0 e8 e2")?;
+    assert!(rt; loads.as_slice() == [0, 0, 4, 0, 0, 0, 0, 0, 3, 0, 0, 0, 0, 0, 0, 0].as_slice());
     Ok(())
 }
 
-/// Edge 0 is choked, edge 2 open, and edge 1 a wall.
+/// Sets of pieces of the row whose edge 0 is choked, edge 2 open, and edge 1 a wall: what they are inside of.
+const INSIDE: &str = "|open choked
+e2|open choked
+e0 e2|choked
+e0 e1|";
+
 #[test]
 fn a_set_is_inside_where_every_piece_is_allowed(rt: HostRuntime) -> Result<(), Fail> {
-    let design = design(rt.alloc(), 142, 144, b"1\n0 0 1 1 0 1 0\n")?;
-    let cases: [(&[Piece], bool, bool); 4] = [
-        (&[], true, true),
-        (&[Piece::Edge(Edge(2))], true, true),
-        (ROW_SET, false, true),
-        (&[Piece::Edge(Edge(0)), Piece::Edge(Edge(1))], false, false),
-    ];
-    for (set, open, with_choked) in cases {
-        let tree = Tree::of(Vec::from_slice(rt.alloc(), set)?);
-        assert_eq!(rt; inside(&design.grid, Ground::Open, &tree), open);
-        assert_eq!(rt;
-            inside(&design.grid, Ground::WithChoked, &tree),
-            with_choked
-        );
+    let alloc = rt.alloc();
+    let design = design_of(alloc, "ROW 142 144 1;0 0 1 1 0 1 0;")?;
+    for row in INSIDE.split('\n') {
+        let (set, grounds) = row.split_once('|').ok_or("bar")?;
+        let tree = set_of(alloc, set)?;
+        let open = inside(&design.grid, Ground::Open, &tree);
+        let with_choked = inside(&design.grid, Ground::WithChoked, &tree);
+        assert!(rt; open == grounds.contains("open"));
+        assert!(rt; with_choked == grounds.contains("choked"));
     }
     Ok(())
 }

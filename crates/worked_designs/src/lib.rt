@@ -2,6 +2,7 @@
 //!
 //! ```text
 //! let design = design(alloc, 119, 144, THREE_NETS)?;
+//! let same = design_of(alloc, "CROWDED_ROW")?;
 //! ```
 //!
 //! It stands on `ispd_reader`, `grid_graph` and `grid_base`. The tests of `design_tests`, `judge_tests` and `phase_tests` stand
@@ -11,12 +12,14 @@
 
 #![tactic(auto)]
 
+mod rows;
 mod sets;
 mod texts;
 
+pub use rows::{agree, design_of, design_text, text_of};
 pub use sets::{ARCH, ROW_SET, STAR_SET};
 pub use texts::{
-    BLOCK, BRIDGE, CHOKED_SQUARE, CRLF, FORCED, LAYERED, NO_WAY_ROUND, ROUND, ROW, SHARED_LAYERS,
-    SHARED_ROW, SIX_IN_A_ROW, SQUARE, STACK, STACK_OF_TWO, STAR, THREE_NETS, TWO_ALONG, WALLED,
-    WIDE_WIRES, crowd, design, edited, vast,
+    BLOCK, BRIDGE, CHOKED_SQUARE, CRLF, CROWDED_ROW, FORCED, LAYERED, LAYERED_WALLS, NO_WAY_ROUND,
+    ROUND, ROW, SHARED_LAYERS, SHARED_ROW, SIX_IN_A_ROW, SQUARE, STACK, STACK_OF_TWO, STAR,
+    THREE_NETS, TWO_ALONG, WALLED, WIDE_WIRES, crowd, design, edited, vast,
 };

@@ -13,6 +13,10 @@ pub const ROW: &[u8] =
 pub const THREE_NETS: &[u8] =
     b"3\na 0 2 1\n5 5 1\n25 5 1\nb 1 2 1\n5 5 1\n25 5 1\nc 2 2 1\n5 5 1\n25 5 1\n0\n";
 
+/// The row with these three nets.
+pub const CROWDED_ROW: &[u8] =
+    b"grid 3 1 1\nvertical capacity 0\nhorizontal capacity 4\nminimum width 1\nminimum spacing 1\nvia spacing 1\n0 0 10 10\nnum net 3\na 0 2 1\n5 5 1\n25 5 1\nb 1 2 1\n5 5 1\n25 5 1\nc 2 2 1\n5 5 1\n25 5 1\n0\n";
+
 /// The row with other line ends, and with the grid's corner and the pins to the lower left.
 pub const CRLF: &[u8] =
     b"grid 3 1 1\r\nvertical capacity 0\r\nhorizontal capacity 4\r\nminimum width 1\r\nminimum spacing 1\r\nvia spacing 1\r\n-10 -10 10 10\r\nnum net 1\r\na 0 2 1\r\n-5 -5 1\r\n15 -5 1\r\n0\r\n";
@@ -50,6 +54,12 @@ pub const FORCED: &[u8] =
 /// Three rows and columns on two layers, of which each has edges in one direction.
 pub const LAYERED: &[u8] =
     b"grid 3 3 2\nvertical capacity 0 10\nhorizontal capacity 10 0\nminimum width 1 1\nminimum spacing 1 1\nvia spacing 1 1\n10 10 10 10\n\nnum net 1\na 0 2 1\n15 15 1\n35 35 1\n0\n";
+
+/// Three columns, two rows and two layers, with wires along x on the lower layer and along y on the upper one: what is left
+/// are walls, but for the first edge of the upper layer, which was opened. The last edge of the lower layer is choked. The
+/// nets are of the ids 7, 3, 9 and 4; the second has one pin, and both pins of the last lie in one tile.
+pub const LAYERED_WALLS: &[u8] =
+    b"grid 3 2 2\nvertical capacity 0 4\nhorizontal capacity 4 0\nminimum width 1 1\nminimum spacing 1 1\nvia spacing 1 1\n10 20 10 10\nnum net 4\na 7 2 1\n15 25 1\n35 25 1\nb 3 1 1\n15 35 1\nc 9 2 1\n15 25 1\n15 35 2\nd 4 2 1\n33 22 1\n38 28 1\n2\n0 0 2 1 0 2 4\n1 1 1 2 1 1 0\n";
 
 /// Four tiles on two layers, of which the lower one has wires of width 3, and a net of width 2.
 pub const WIDE_WIRES: &[u8] =
