@@ -41,7 +41,8 @@ fn with_list(
 ) -> Result<Improved, NoMemory>
     requires list { IsShownList design.now list }
     requires above { IsAbove list.shown.bound cert.bound }
-    ensures { IfOk result (λ improved. IsBetter design.now cert improved.cert improved.edges.items list.entry.shown.overflow) }
+    ensures better { IfOk result (λ improved. IsBetter design.now cert improved.cert improved.edges.items list.entry.shown.overflow) }
+    ensures bound { IfOk result (λ improved. improved.cert.bound ≡ list.entry.shown.bound) }
 {
     let prices = open_prices(alloc, &design.grid, list.prices)?;
     let edges = priced_edges(alloc, &design.grid, list.prices)?;
@@ -66,7 +67,8 @@ pub(crate) fn improve(
     list: ShownList<'_>,
 ) -> Result<Improved, NoMemory>
     requires { IsShownList design.now list }
-    ensures { IfOk result (λ improved. IsSameOrBetter design.now cert improved.cert improved.edges.items list.entry.shown.overflow) }
+    ensures same_or_better { IfOk result (λ improved. IsSameOrBetter design.now cert improved.cert improved.edges.items list.entry.shown.overflow) }
+    ensures not_less { IfOk result (λ improved. ¬ IsAbove list.entry.shown.bound improved.cert.bound) }
 {
     if is_above(list.shown.bound, cert.bound) {
         return with_list(alloc, design, cert, list);

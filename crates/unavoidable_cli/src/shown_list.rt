@@ -31,7 +31,8 @@ fn shown_list<'a, R: Threads + Sync>(
 ) -> Result<ShownList<'a>, NoMemory>
     requires grounds { AreGrounds design.now.grid design.now.nets grounds.now }
     requires prices { AreEdgePrices design.now.grid prices.now }
-    ensures { IfOk result (IsShownList design.now) }
+    ensures shown { IfOk result (IsShownList design.now) }
+    ensures prices { IfOk result (λ list. list.prices.now ≡ prices.entry.now) }
 {
     let shown = what_prices_show(rt, alloc, design, grounds, prices)?;
     Ok(ShownList { prices, shown })
@@ -50,6 +51,8 @@ pub(crate) fn shown_lists<'a, R: Threads + Sync>(
     requires for_overflow { AreEdgePrices design.now.grid cuts.now.for_overflow.items }
     ensures first { IfOk result (λ lists. IsShownList design.now lists.0) }
     ensures second { IfOk result (λ lists. IsShownList design.now lists.1) }
+    ensures first_prices { IfOk result (λ lists. lists.0.prices.now ≡ cuts.now.for_bound.items) }
+    ensures second_prices { IfOk result (λ lists. lists.1.prices.now ≡ cuts.now.for_overflow.items) }
 {
     let first = shown_list(rt, alloc, design, grounds, cuts.for_bound.as_slice())?;
     if cuts.for_bound.as_slice() == cuts.for_overflow.as_slice() {

@@ -22,7 +22,7 @@ returns-clause-finding g c =
     let least : best.result.shown.overflow ≤ most.result.shown.overflow =
     most_of_lists first second best.result most.result.shown.overflow most.ensures.not_first most.ensures.not_second best.ensures.one in
     let new : IsSameOrBetter d cert better.cert better.edges.items most.result.shown.overflow =
-    better_most d cert better.cert better.edges.items best.result.shown.overflow most.result.shown.overflow least c.in_ok-better.ensures in
+    better_most d cert better.cert better.edges.items best.result.shown.overflow most.result.shown.overflow least c.in_ok-better.ensures.same_or_better in
     let is_accepted = accepted-new d c.args.grounded.grounds.items c.args.blocks.now cert better.cert better.edges.items most.result.shown.overflow c.requires.cert c.requires.judged c.requires.bounds new in
     record {
       new = new;

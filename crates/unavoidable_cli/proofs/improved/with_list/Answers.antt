@@ -6,8 +6,8 @@ use Rattle.tree_set.specs.declared.budget.Budget.{Budget}
 use Rattle.tree_set.specs.Budgets.{most_of}
 use Rattle.unavoidable_cli.proofs.improved.with_list.Goals as goal
 
-pub returns : goal.returns
-returns c =
+pub returns-clause-better : goal.returns-clause-better
+returns-clause-better c =
     let d = c.args.design.now in
     let cert = c.args.cert in
     let list = c.args.list in
