@@ -290,8 +290,18 @@ cut 2
 (15,5,1)-(25,5,1) 32768
 routes 7992' many.gr "$room/many.routes" many.cert new.cert
 made 'their certificate' new.cert many.cert
-rm many.cert
 program=$room/grouter
+measured='nets 2000
+forced 0
+beyond 0
+overflow 7992
+wirelength 4000
+peak 1000/1'
+expect 'two thousand routes are measured' 0 "$measured" measure many.gr "$room/many.routes"
+expect 'two thousand routes are accepted' 0 "yes
+$measured
+bound 1000/1" judge many.gr "$room/many.routes" many.cert
+rm many.cert
 expect 'the certificate of the exits is accepted' 0 'yes
 nets 8
 forced 0
@@ -355,15 +365,26 @@ expect_unheard 'a made design that can not be reported' 7 make small.gr --seed 7
 made 'its text without a report' small.gr "$room/made.gr"
 expect_unheard 'a trial that can not be reported' 7 trial 7 --cols 2 --rows 2 --layers 2 --nets 2
 
-# a made design is routed by several workers, and the routes and the certificate are accepted: of the report only the lines that
-# no choice of routes changes are compared
-"$program" make seven.gr --seed 7 >"$room/said"
-"$program" route seven.gr seven.routes seven.cert --workers 4 >"$room/routed"
-"$program" judge seven.gr seven.routes seven.cert >"$room/judged" 2>"$room/complained"
-got=$?
-grep -E '^(made|yes|nets|forced|overflow|wirelength|peak|bound)' "$room/routed" | sed '1i yes' >"$room/wanted"
-grep -Ev '^beyond' "$room/judged" >"$room/said"
-judge 'a made design, routed by four workers and judged' 0
+# made designs are routed by several workers, and the routes and the certificates are accepted: of the report only the lines
+# that no choice of routes changes are compared
+accepted() {
+    name=$1
+    shift
+    "$program" make seven.gr --seed 7 "$@" >"$room/said"
+    "$program" route seven.gr seven.routes seven.cert --workers 4 --phases 2 --rounds 1 >"$room/routed"
+    "$program" judge seven.gr seven.routes seven.cert >"$room/judged" 2>"$room/complained"
+    got=$?
+    grep -E '^(nets|forced|overflow|wirelength|peak|bound)' "$room/routed" | sed '1i yes' >"$room/wanted"
+    grep -v '^beyond' "$room/judged" >"$room/said"
+    judge "$name, routed by four workers and judged" 0
+    "$program" measure seven.gr seven.routes >"$room/said" 2>"$room/complained"
+    got=$?
+    sed -e '/^yes$/d' -e '/^bound/d' "$room/judged" >"$room/wanted"
+    judge "$name, measured" 0
+    rm seven.gr seven.routes seven.cert
+}
+accepted 'a made design'
+accepted 'a made design of three thousand nets' --cols 100 --rows 100 --nets 3000
 "$program" trial 7 >"$room/wanted"
 "$program" trial 7 >"$room/said"
 got=$?
@@ -371,7 +392,6 @@ judge 'a trial says the same twice' 0
 tail -n 1 "$room/said" >"$room/last" && mv "$room/last" "$room/said"
 echo 'judge yes' >"$room/wanted"
 judge 'a trial ends with a yes' 0
-rm seven.gr seven.routes seven.cert
 
 # ---- words that are no command
 

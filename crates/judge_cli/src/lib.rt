@@ -16,8 +16,9 @@
 //!
 //! It stands on `command_words` for the requests, `ispd_reader` for the design, `grid_graph` for the nets' grounds, `route_text`
 //! and `cert_text` for the texts, `route_judge` for the verdict on them, `tree_set` for measures, `gr_desk` to read from and
-//! write to, `text_scan`, and `itoa`. It knows nothing of how routes are found, so whoever trusts `judge` alone reads these
-//! crates and no others.
+//! write to, `text_scan`, `grid_base` and `itoa`. It knows nothing of how routes are found, so whoever trusts `judge` alone reads
+//! the definitions of these crates and of those that `route_judge` leads to (`edge_prices`, `dual_bound`, `lower_bound`,
+//! `shortest_paths`), and no others.
 //!
 //! Promised, in the words of `specs/MeasureRun.antt`, `specs/JudgeRun.antt` and `specs/CommandRun.antt`: where the status is 0,
 //! nothing can be objected to what was read, and the report says what is measured of it; where it is 1, the report has the first

@@ -6,12 +6,13 @@ ghost use Rattle.route_judge.specs.Limits.{AreBlocks};
 use crate::answers::{checked_text, sets_text};
 use crate::reading::blocks_of;
 use grid_graph::{Design, Ground};
+use ispd_reader::read_design;
 use route_judge::{Checked, judge_routes, trees_of};
 use route_text::Block;
-use std::alloc::Global;
+use std::alloc::{AllocError, Global};
 use std::test::Fail;
 use tree_set::Tree;
-use worked_designs::{agree, design_of};
+use worked_designs::{agree, design_of, vast};
 
 /// What follows the first net's block in each of these texts: a block of the third net.
 const LAST_BLOCK: &str = "\nc 9 (15,25,1)-(15,25,2) (15,25,2)-(15,35,2) !\n";
@@ -195,5 +196,37 @@ fn each_net_has_the_set_of_its_block(rt: HostRuntime) -> Result<(), Fail> {
         let trees = sets_of(alloc, &design, grounds.as_slice(), blocks.as_slice())?;
         agree(routes, sets_text(alloc, trees.as_slice())?.as_str(), sets)?;
     }
+    Ok(())
+}
+
+/// The block of a net of the vast design: along the first row, up to the second layer, and along a column.
+const VAST_BLOCK: &str = "n K (5,5,1)-(X,5,1) (X,5,1)-(X,5,2) (X,5,2)-(X,Y,2) !\n";
+
+/// The blocks of so many nets of the vast design.
+fn vast_routes(alloc: Global, nets: u32) -> Result<String, AllocError> {
+    let mut text = String::new(alloc);
+    for k in 0..nets {
+        let (x, y) = (k % 100 * 10 + 5, k / 100 % 100 * 10 + 5);
+        let block = VAST_BLOCK.replace(alloc, 'K', k.to_string(alloc)?.as_str())?;
+        let block = block.replace(alloc, 'X', x.to_string(alloc)?.as_str())?;
+        text.push_str(block.replace(alloc, 'Y', y.to_string(alloc)?.as_str())?.as_str())?;
+    }
+    Ok(text)
+}
+
+/// Of 2,000 nets 20 go to each column, and 100 along it to each of 20 rows: 99,000 and 19,000 edges, and 2,000 vias. An edge of
+/// the row with m columns behind it has a load of 40 m, and one of a column with m rows behind it a load of 2 m, each of a
+/// capacity of 8.
+#[test]
+fn thousands_of_blocks_are_judged(rt: HostRuntime) -> Result<(), Fail> {
+    let alloc = rt.alloc();
+    let design = read_design(alloc, vast(alloc, 2000)?.as_slice())?;
+    let routes = vast_routes(alloc, 2000)?;
+    is_answered(alloc, &design, routes.as_str(), "yes 221208 120000 495/1 0")?;
+    let grounds = design.grounds()?;
+    let blocks = blocks_of(alloc, routes.as_bytes())?;
+    let trees = sets_of(alloc, &design, grounds.as_slice(), blocks.as_slice())?;
+    assert!(rt; trees.len() == 2000);
+    assert!(rt; trees[1999].pieces().len() == 119);
     Ok(())
 }
