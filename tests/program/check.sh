@@ -173,20 +173,46 @@ printf '%s\n' 'a 0' '(-5,-5,1)-(15,-5,1)' '!' >"$room/crlf.routes"
 made 'routes at negative places' a.routes "$room/crlf.routes"
 made 'a certificate in a folder' folder/a.cert "$examples/one_net.cert"
 
-# each of the two edges has capacity 4 and the load 4000, and so each net costs two edges of the same price
-many=2000
+# each of the two edges has capacity 4 and the load 24000, and so each net costs two edges of the same price
+many=12000
 row 4 4 1 '0 0 10 10' "$(awk -v n=$many 'BEGIN { print n; for (k = 0; k < n; k++) printf "n %d 2 1\n5 5 1\n25 5 1\n", k; print 0 }')" >many.gr
 awk -v n=$many 'BEGIN { for (k = 0; k < n; k++) printf "n %d\n(5,5,1)-(25,5,1)\n!\n", k }' >"$room/many.routes"
-expect 'two thousand nets' 0 'nets 2000
+expect 'twelve thousand nets' 0 'nets 12000
 forced 0
-rounded 7992
+rounded 47992
 rounds 4
-overflow 7992
-wirelength 4000
-peak 1000/1
-bound 1000/1' route many.gr a.routes a.cert --workers 4 --seed 3
-made 'two thousand routes' a.routes "$room/many.routes"
+overflow 47992
+wirelength 24000
+peak 6000/1
+bound 6000/1' route many.gr a.routes a.cert --workers 4 --seed 3
+made 'twelve thousand routes' a.routes "$room/many.routes"
 rm a.cert
+
+# whole NAME DESIGN NETS WIRELENGTH PEAK BOUND: a design with room for all is routed in one phase, and the routes are accepted
+whole() {
+    name=$1 design=$2
+    measured="nets $3
+forced 0
+beyond 0
+overflow 0
+wirelength $4
+peak $5"
+    expect "$name" 0 "$(echo "$measured" | sed 's/^beyond 0$/rounded 0\nrounds 0/')
+bound $6" route "$design" a.routes a.cert --phases 1
+    expect "$name, judged" 0 "yes
+$measured
+bound $6" judge "$design" a.routes a.cert
+    rm "$design" a.routes a.cert
+}
+# All prices are equal, since 8 times a load is less than twice a capacity. The third net has its pins at each fifth tile of the
+# first 14,996. The bound is 2 (2 * 19,999 + 14,995) edges by 100 * 19,999.
+row 4 100 1 '0 0 10 10' "$(awk 'BEGIN { print 3; print "a 0 2 1\n5 5 1\n199995 5 1"; print "b 1 3 1\n5 5 1\n50005 5 1\n199995 5 1"
+    print "c 2 3000 1"; for (k = 0; k < 3000; k++) print 50 * k + 5, 5, 1 }')" | sed 's/^grid 3 1 1$/grid 20000 1 1/' >long.gr
+whole 'long routes, and a net of three thousand pins' long.gr 3 54993 3/50 54993/999950
+# More than a million vertices, of which a net joins three in a row. Its two edges have index 4, and of the 2,095,102 others each
+# costs less; so the bound is 2 * 2 * 12758 by 4 (2 * 12758 + 2095102 * 11556).
+row 4 4 | sed 's/^grid 3 1 1$/grid 1024 1024 1/' >wide.gr
+whole 'a million vertices' wide.gr 1 2 1/2 6379/12105512114
 
 # what stood in the files before is replaced
 head -c 1000 many.gr >a.routes
@@ -268,7 +294,7 @@ rm long ./*.routes ./*.cert
 
 # ---- congestion that no router avoids
 
-# The exits of the block have room for six of its eight nets. In one_net and among the two thousand nets the given certificates
+# The exits of the block have room for six of its eight nets. In one_net and among the twelve thousand nets the given certificates
 # state all that can be shown of the peak, so the new ones are the given ones.
 cp "$examples"/*.routes "$examples"/*.cert .
 program=$room/unavoidable
@@ -280,27 +306,73 @@ overflow 0
 cut 0
 routes 0' one_net.gr one_net.routes one_net.cert new.cert
 made 'a certificate that is as good as any' new.cert "$examples/one_net.cert"
-printf '%s\n' 'grouter certificate 1' 'nets 2000' 'forced 0' 'overflow 7992' 'wirelength 4000' 'peak 1000/1' 'bound 1000/1' \
+printf '%s\n' 'grouter certificate 1' 'nets 12000' 'forced 0' 'overflow 47992' 'wirelength 24000' 'peak 6000/1' 'bound 6000/1' \
     'prices 2' 1 1 >many.cert
-expect 'two thousand nets over two edges' 0 'bound 1000/1
+expect 'twelve thousand nets over two edges' 0 'bound 6000/1
 bottleneck 0
-overflow 7992
+overflow 47992
 cut 2
 (5,5,1)-(15,5,1) 32768
 (15,5,1)-(25,5,1) 32768
-routes 7992' many.gr "$room/many.routes" many.cert new.cert
+routes 47992' many.gr "$room/many.routes" many.cert new.cert
 made 'their certificate' new.cert many.cert
+# shown NAME DESIGN NETS WIRELENGTH OVERFLOW PEAK PRICES BOUND EDGES: of a.routes, whose certificate claims no bound, the edges are
+# shown to have this bound, and to be where all of the overflow is
+shown() {
+    {
+        printf '%s\n' 'grouter certificate 1' "nets $3" 'forced 0' "overflow $5" "wirelength $4" "peak $6" 'bound 0/1' "prices $7"
+        yes 0 | head -n "$7"
+    } >a.cert
+    priced=$(echo "$9" | sed 's/$/ 32768/')
+    count=$(echo "$9" | grep -c .)
+    expect "$1" 0 "bound $8
+bottleneck $count
+$priced
+overflow $5
+cut $count
+$priced
+routes $5" "$2" a.routes a.cert new.cert
+    rm "$2" a.routes a.cert new.cert
+}
+# across CAPACITY NETS: nets from left to right over two columns of 24 tiles, each along its row, and as many to a row as can be
+across() {
+    row 10000 "$1" 1 '0 0 10 10' "$(awk -v n="$2" 'BEGIN { print n
+        for (k = 0; k < n; k++) { y = k % 24 * 10 + 5; printf "n %d 2 1\n5 %d 1\n15 %d 1\n", k, y, y } }')" | sed 's/^grid 3 1 1$/grid 2 24 1/' >across.gr
+    awk -v n="$2" 'BEGIN { for (k = 0; k < n; k++) { y = k % 24 * 10 + 5; printf "n %d (5,%d,1)-(15,%d,1) !\n", k, y, y } }' >a.routes
+}
+edges=$(awk 'BEGIN { for (y = 5; y < 240; y += 10) printf "(5,%d,1)-(15,%d,1)\n", y, y }')
+across 2 36
+shown 'a cut of 24 edges' across.gr 36 36 24 2/1 70 3/2 "$edges"
+across 40 720
+shown 'the same with hundreds of nets' across.gr 720 720 480 3/2 70 3/2 "$edges"
+row 0 2 1 '0 0 10 10' '2
+a 0 3 1
+15 5 1
+5 5 1
+25 5 1
+b 1 3 1
+15 5 1
+5 5 1
+25 5 1' >middle.gr
+printf '%s\n' 'a 0 (5,5,1)-(25,5,1) !' 'b 1 (5,5,1)-(25,5,1) !' >a.routes
+shown 'nets with a pin on both sides' middle.gr 2 4 4 2/1 2 2/1 '(5,5,1)-(15,5,1)
+(15,5,1)-(25,5,1)'
+row 0 2 1 '0 0 10 10' "$(awk 'BEGIN { print 5; for (k = 0; k < 5; k++) printf "n %d 2 1\n5 5 1\n15 5 1\n", k }')" |
+    awk '/^grid/ { $0 = "grid 2 1 2" } /capacity|width|spacing/ { $0 = $0 " " $NF } { print }' >layers.gr
+awk 'BEGIN { for (k = 0; k < 5; k++) print "n", k, k < 3 ? "(5,5,1)-(15,5,1) !" : "(5,5,1)-(5,5,2) (5,5,2)-(15,5,2) (15,5,1)-(15,5,2) !" }' >a.routes
+shown 'a tile edge that is open on two layers' layers.gr 5 9 6 3/1 2 5/2 '(5,5,1)-(15,5,1)
+(5,5,2)-(15,5,2)'
 program=$room/grouter
-measured='nets 2000
+measured='nets 12000
 forced 0
 beyond 0
-overflow 7992
-wirelength 4000
-peak 1000/1'
-expect 'two thousand routes are measured' 0 "$measured" measure many.gr "$room/many.routes"
-expect 'two thousand routes are accepted' 0 "yes
+overflow 47992
+wirelength 24000
+peak 6000/1'
+expect 'twelve thousand routes are measured' 0 "$measured" measure many.gr "$room/many.routes"
+expect 'twelve thousand routes are accepted' 0 "yes
 $measured
-bound 1000/1" judge many.gr "$room/many.routes" many.cert
+bound 6000/1" judge many.gr "$room/many.routes" many.cert
 rm many.cert
 expect 'the certificate of the exits is accepted' 0 'yes
 nets 8

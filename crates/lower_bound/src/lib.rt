@@ -15,8 +15,8 @@
 //! let least = costs.net_bound(alloc, &net, &mut labels)?;
 //! ```
 //!
-//! Tiles that edges without cost join have one of them to stand for all, and least costs of a few tiles are kept, so a price
-//! list that is 0 nearly everywhere takes no longer than another.
+//! Tiles that edges without cost join have one of them to stand for all, and least costs of a few tiles are kept: so a price
+//! list that is 0 nearly everywhere took no longer than another where it was measured. Of time no clause speaks.
 //!
 //! It stands on `shortest_paths` for searches, on `steiner_exact` for tables under bounds, on `edge_prices` for costs, and on
 //! `grid_graph` and `grid_base`. Tables and moats that others bring are tested by `brought_bounds`.
