@@ -209,7 +209,11 @@ fn vast_routes(alloc: Global, nets: u32) -> Result<String, AllocError> {
         let (x, y) = (k % 100 * 10 + 5, k / 100 % 100 * 10 + 5);
         let block = VAST_BLOCK.replace(alloc, 'K', k.to_string(alloc)?.as_str())?;
         let block = block.replace(alloc, 'X', x.to_string(alloc)?.as_str())?;
-        text.push_str(block.replace(alloc, 'Y', y.to_string(alloc)?.as_str())?.as_str())?;
+        text.push_str(
+            block
+                .replace(alloc, 'Y', y.to_string(alloc)?.as_str())?
+                .as_str(),
+        )?;
     }
     Ok(text)
 }
