@@ -1,7 +1,8 @@
 //! Which words of a command line are a command, and what the command asks for.
 //!
 //! ```text
-//! // words: route a.gr a.routes a.cert --workers 4 --seed 7
+//! // the program's arguments: grouter route a.gr a.routes a.cert --workers 4 --seed 7
+//! let words = words_of(alloc, env::args(&rt))?;
 //! let command = command_of(alloc, words.as_slice())?;
 //! // Command::Route(RouteRequest { input: "a.gr", workers: 4, phases: 4, rounds: 4, seed: 7, budget: None, .. })
 //! ```
@@ -9,11 +10,12 @@
 //! It stands on the kit's `clap`, which gives the values, the defaults and the ranges, and on `thiserror`. The shape of
 //! the words is tested before `clap` sees them, since `clap` also takes `--workers=2`, signs, `--help` and `--`.
 //!
-//! Promised: words that are a command are answered with what they ask for, or fail for want of memory alone; all others
-//! are refused, or fail for want of memory. `specs/CommandLine.antt` says which words are a command and what they ask
-//! for, with no word on how they are read.
+//! Promised: the words are all arguments but the first, and none where they are not text. Words that are a command are
+//! answered with what they ask for, or fail for want of memory alone; all others are refused, or fail for want of memory.
+//! `specs/CommandLine.antt` says which words are a command and what they ask for, with no word on how they are read.
 #![tactic(auto)]
 
+mod arguments;
 mod clap_command;
 mod command;
 mod judge_request;
@@ -30,6 +32,7 @@ mod trial_request;
 mod word;
 mod words_error;
 
+pub use arguments::words_of;
 pub use command::Command;
 pub use judge_request::JudgeRequest;
 pub use make_request::MakeRequest;

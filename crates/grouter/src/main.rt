@@ -1,32 +1,26 @@
 //! The command line of the router: `grouter route IN ROUTES CERT`, `measure`, `judge`, `make` and `trial`.
 #![tactic(auto)]
 
-ghost use Rattle.std.specs.Prelude.{◌≡◌, ◌≢◌, [], drop, IsErr, IsOkAnd, IfOk, IfErr, IsErrAnd};
+ghost use Rattle.std.specs.Prelude.{◌≡◌, IsErr, IfOk};
 ghost use Rattle.std.specs.Process.{exit_status};
-ghost use Rattle.std.specs.IoError.{error_kind};
-ghost use Rattle.std.specs.Vec.Iter.{into_iter_items};
 ghost use Rattle.judge_cli.specs.declared.refusal.Refusal.TheVariants.{NoMemory};
 ghost use Rattle.judge_cli.specs.Lines.{status_of};
 ghost use Rattle.router_cli.specs.Runs.{IsRun};
 
+use command_words::words_of;
 use gr_desk::{Desk, RealDesk};
 use price_workers::{Gate, OpenGate};
 use router_cli::run;
 use std::alloc::{AllocError, Global};
-use std::env::Args;
-use std::io::ErrorKind;
+use std::env;
 use std::process::ExitCode;
 use std::thread::Threads;
-use std::{env, io};
-
-#[cfg(test)]
-mod tests;
 
 /// The status where there is no memory for the words.
 const NO_MEMORY: u8 = 8;
 
 fn main(rt: HostRuntime) -> ExitCode {
-    let words = words(rt.alloc(), env::args(&rt));
+    let words = words_of(rt.alloc(), env::args(&rt));
     ended(&rt, rt.alloc(), words, &mut RealDesk::new(&rt), &OpenGate)
 }
 
@@ -45,19 +39,5 @@ fn ended<R: Threads + Sync, D: Desk, G: Gate>(
     match words {
         Ok(words) => ExitCode::from(run(rt, alloc, &words, desk, gate)),
         Err(AllocError) => ExitCode::from(NO_MEMORY),
-    }
-}
-
-/// The words among the program's arguments: all but the first, which is its name. Arguments that aren't text are no
-/// words, so that they are no command.
-fn words(alloc: Global, args: io::Result<Args>) -> Result<Vec<String>, AllocError>
-    ensures all { IfOk args (λ given. IfOk result (λ words. words.items ≡ drop 1 (into_iter_items given))) }
-    ensures no_memory { IfErr args (λ error. error_kind error ≡ ErrorKind.OutOfMemory → IsErr result) }
-    ensures no_text { IfErr args (λ error. error_kind error ≢ ErrorKind.OutOfMemory → IsOkAnd result (λ words. words.items ≡ [])) }
-{
-    match args {
-        Ok(args) => args.skip(1).collect(alloc),
-        Err(error) if error.kind() == ErrorKind::OutOfMemory => Err(AllocError),
-        Err(_) => Ok(Vec::new(alloc)),
     }
 }

@@ -6,6 +6,8 @@
 #![tactic(auto)]
 
 #[cfg(test)]
+mod argument_tests;
+#[cfg(test)]
 mod certificate_tests;
 #[cfg(test)]
 mod command_line_tests;

@@ -1,6 +1,6 @@
-//! What words the program has.
+//! What words a program's arguments are.
 
-use crate::words;
+use command_words::words_of;
 use std::env;
 use std::env::{Env, FillError};
 use std::test::Fail;
@@ -33,19 +33,19 @@ impl Env for Started {
 #[test]
 fn arguments_are_words_but_for_the_first(rt: HostRuntime) -> Result<(), Fail> {
     let alloc = rt.alloc();
-    let cases: [(&[&[u8]], &str); 5] = [
+    let rows: [(&[&[u8]], &str); 5] = [
         (
             &[b"grouter", b"route", b"a.gr", b"b", b"-c"],
             "route a.gr b -c ",
         ),
-        (&[b"grouter", b"route", b"a.gr"], "route a.gr "),
+        (&[b"unavoidable", b"a.gr", b"b"], "a.gr b "),
         (&[b"grouter"], ""),
         (&[], ""),
         (&[b"grouter", b"route", b"\xff.gr"], ""),
     ];
-    for (args, want) in cases {
+    for (args, want) in rows {
         let mut joined = String::new(alloc);
-        for word in &words(alloc, env::args(&(Started(args), alloc)))? {
+        for word in &words_of(alloc, env::args(&(Started(args), alloc)))? {
             joined.push_str(word)?;
             joined.push(' ')?;
         }
