@@ -509,6 +509,7 @@ rm a.cert
 
 row | sed 's/horizontal capacity/horizontal capcity/' >refused.gr
 refused 'a word that is misspelt' 3 'refused 3 11 42 capacity'
+expect 'the example misspelled' 3 'refused 3 11 44 capacity' route misspelled.gr a.routes a.cert
 row | head -c 139 >refused.gr
 refused 'a text that ends too early' 3 'refused 3 11 139 number'
 row 4 4 1 '1099511627777 0 10 10' >refused.gr
