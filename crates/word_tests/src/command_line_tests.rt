@@ -68,7 +68,7 @@ fn trial_shown(alloc: Global, request: &TrialRequest) -> Result<String, AllocErr
     format!(in alloc; "trial {seed} {cols} {rows} {layers} {nets}")
 }
 
-/// Words, and behind a bar what they are read as.
+/// Words, and behind a bar what they are read as. A line that begins with `#` says what follows.
 ///
 /// `route`: the names, the workers, the phases, the rounds, the seed, and the budget or 0. `make` and `trial`: the name or the
 /// seed, then the rest in the order seed, cols, rows, layers, nets.
@@ -100,155 +100,145 @@ trial 18446744073709551615|trial 18446744073709551615 16 16 4 200
 trial 00000000000000000042 --layers 2|trial 42 16 16 2 200
 trial 1 --cols 2 --rows 2 --layers 2 --nets 0|trial 1 2 2 2 0
 trial 1 --cols 1024 --rows 1024 --layers 8 --nets 1048576|trial 1 1024 1024 8 1048576
-trial 12 --nets 7 --layers 3 --rows 5 --cols 6|trial 12 6 5 3 7";
+trial 12 --nets 7 --layers 3 --rows 5 --cols 6|trial 12 6 5 3 7
+# one empty word
+|refused
+# other words
+route|refused
+Route a b c|refused
+rout a b c|refused
+routes a b c|refused
+--help|refused
+--version|refused
+help|refused
+eco a b c|refused
+route --help|refused
+route a b|refused
+route a b c d|refused
+route a a c|refused
+route a b a|refused
+route a b b|refused
+route  b c|refused
+route a  c|refused
+route -a b c|refused
+route a - c|refused
+route a b --help|refused
+route a b c --help|refused
+route a b c --version|refused
+route a b c -h|refused
+route a b c --|refused
+route a b c -- --seed 1|refused
+route a b c --seed|refused
+route a b c --seed=2|refused
+route a b c --workers=2|refused
+route a b c --work 2|refused
+route a b c -workers 2|refused
+route a b c workers 2|refused
+route a b c --cols 2|refused
+route a b c --seed 1 --seed 1|refused
+route a b c --seed 1 --budget 2 --seed 3|refused
+route a b c --seed +3|refused
+route a b c --seed -1|refused
+route a b c --seed 1x|refused
+route --seed 1 a b c|refused
+route a b --seed 1 c|refused
+route a b c --seed 000000000000000000001|refused
+route a b c --seed 18446744073709551616|refused
+route a b c --seed 99999999999999999999|refused
+route a b c --workers 0|refused
+route a b c --workers 9|refused
+route a b c --phases 0|refused
+route a b c --phases 17|refused
+route a b c --rounds 17|refused
+route a b c --budget 0|refused
+route a b c --budget 4398046511105|refused
+measure|refused
+measure a|refused
+measure a a|refused
+measure a b c|refused
+measure  b|refused
+measure -a b|refused
+measure a -|refused
+measure a b --seed 1|refused
+measure a b --|refused
+measure a b --help|refused
+measure --version|refused
+judge|refused
+judge a b|refused
+judge a b a|refused
+judge a a c|refused
+judge a b b|refused
+judge a b c d|refused
+judge a b -|refused
+judge  b c|refused
+judge a b c --workers 1|refused
+judge a b c --help|refused
+make|refused
+make -a|refused
+make a b|refused
+make a --workers 1|refused
+make a --budget 1|refused
+make a --seed 1 --seed 1|refused
+make a --col 3|refused
+make a --cols=3|refused
+make a --cols +3|refused
+make a --cols -1|refused
+make a --nets|refused
+make a --nets 000000000000000000001|refused
+make a --seed 18446744073709551616|refused
+make a --cols 1|refused
+make a --cols 1025|refused
+make a --rows 1|refused
+make a --rows 1025|refused
+make a --layers 1|refused
+make a --layers 9|refused
+make a --nets 1048577|refused
+trial|refused
+trial x|refused
+trial 1x|refused
+trial +3|refused
+trial -1|refused
+trial 18446744073709551616|refused
+trial 99999999999999999999|refused
+trial 000000000000000000007|refused
+trial 1 2|refused
+trial 1 --seed 1|refused
+trial 1 --workers 1|refused
+trial --help|refused
+trial --cols 2 1|refused
+trial 1 --cols 2 --cols 2|refused
+trial 1 --cols 1|refused
+trial 1 --cols 1025|refused
+trial 1 --rows 1|refused
+trial 1 --rows 1025|refused
+trial 1 --layers 1|refused
+trial 1 --layers 9|refused
+trial 1 --nets 1048577|refused
+# an empty word behind the others
+route a b |refused
+route a b c --seed |refused
+route a b c --seed 1 |refused
+measure a |refused
+make |refused
+trial |refused";
 
 #[test]
-fn commands_are_read(rt: HostRuntime) -> Result<(), Fail> {
+fn commands_are_read_and_other_words_are_refused(rt: HostRuntime) -> Result<(), Fail> {
     for case in COMMANDS.split('\n') {
+        if case.starts_with('#') {
+            continue;
+        }
         let (line, want) = case.split_once('|').ok_or("bar")?;
         let words = cut(rt.alloc(), line)?;
         let found = shown(rt.alloc(), words.as_slice())?;
-        assert_eq!(rt; found.as_str(), want);
+        assert!(rt; found.as_str() == want, "{case}");
     }
     Ok(())
 }
 
-/// Words that are refused, a line each; the first line is empty.
-const REFUSED: &str = "
-route
-Route a b c
-rout a b c
-routes a b c
---help
---version
-help
-eco a b c
-route --help
-route a b
-route a b c d
-route a a c
-route a b a
-route a b b
-route  b c
-route a  c
-route -a b c
-route a - c
-route a b --help
-route a b c --help
-route a b c --version
-route a b c -h
-route a b c --
-route a b c -- --seed 1
-route a b c --seed
-route a b c --seed=2
-route a b c --workers=2
-route a b c --work 2
-route a b c -workers 2
-route a b c workers 2
-route a b c --cols 2
-route a b c --seed 1 --seed 1
-route a b c --seed 1 --budget 2 --seed 3
-route a b c --seed +3
-route a b c --seed -1
-route a b c --seed 1x
-route --seed 1 a b c
-route a b --seed 1 c
-route a b c --seed 000000000000000000001
-route a b c --seed 18446744073709551616
-route a b c --seed 99999999999999999999
-route a b c --workers 0
-route a b c --workers 9
-route a b c --phases 0
-route a b c --phases 17
-route a b c --rounds 17
-route a b c --budget 0
-route a b c --budget 4398046511105
-measure
-measure a
-measure a a
-measure a b c
-measure  b
-measure -a b
-measure a -
-measure a b --seed 1
-measure a b --
-measure a b --help
-measure --version
-judge
-judge a b
-judge a b a
-judge a a c
-judge a b b
-judge a b c d
-judge a b -
-judge  b c
-judge a b c --workers 1
-judge a b c --help
-make
-make -a
-make a b
-make a --workers 1
-make a --budget 1
-make a --seed 1 --seed 1
-make a --col 3
-make a --cols=3
-make a --cols +3
-make a --cols -1
-make a --nets
-make a --nets 000000000000000000001
-make a --seed 18446744073709551616
-make a --cols 1
-make a --cols 1025
-make a --rows 1
-make a --rows 1025
-make a --layers 1
-make a --layers 9
-make a --nets 1048577
-trial
-trial x
-trial 1x
-trial +3
-trial -1
-trial 18446744073709551616
-trial 99999999999999999999
-trial 000000000000000000007
-trial 1 2
-trial 1 --seed 1
-trial 1 --workers 1
-trial --help
-trial --cols 2 1
-trial 1 --cols 2 --cols 2
-trial 1 --cols 1
-trial 1 --cols 1025
-trial 1 --rows 1
-trial 1 --rows 1025
-trial 1 --layers 1
-trial 1 --layers 9
-trial 1 --nets 1048577";
-
-/// Words that are refused with an empty word behind them, a line each.
-const REFUSED_WITH_AN_EMPTY_WORD: &str = "route a b
-route a b c --seed
-route a b c --seed 1
-measure a
-make
-trial";
-
 #[test]
-fn other_words_are_refused(rt: HostRuntime) -> Result<(), Fail> {
-    for line in REFUSED.split('\n') {
-        let words = cut(rt.alloc(), line)?;
-        let found = shown(rt.alloc(), words.as_slice())?;
-        assert!(rt; found.as_str() == "refused", "{line}");
-    }
-    for line in REFUSED_WITH_AN_EMPTY_WORD.split('\n') {
-        let mut words = cut(rt.alloc(), line)?;
-        words.push(String::from_str(rt.alloc(), "")?)?;
-        let found = shown(rt.alloc(), words.as_slice())?;
-        assert!(rt; found.as_str() == "refused", "{line} and an empty word");
-    }
-    let none = Vec::new(rt.alloc());
-    let found = shown(rt.alloc(), none.as_slice())?;
-    assert_eq!(rt; found.as_str(), "refused", "no words");
+fn no_words_are_refused(rt: HostRuntime) -> Result<(), Fail> {
+    let found = shown(rt.alloc(), &[])?;
+    assert!(rt; found.as_str() == "refused");
     Ok(())
 }

@@ -54,14 +54,14 @@ fn write_whole<D: Desk>(desk: &mut D, name: &str, text: &[u8]) -> Result<(), Fai
 fn eleven_bytes_are_read_within_a_limit_of_eleven(rt: HostRuntime) -> Result<(), Fail> {
     let mut desk = plain(&rt)?;
     let text = read_whole(rt.alloc(), &mut desk, "a.gr", 11)?;
-    assert_eq!(rt; text.as_slice(), b"hello world".as_slice());
+    assert!(rt; text.as_slice() == b"hello world".as_slice());
     let mut desk = plain(&rt)?;
     assert!(rt;
         read_whole(rt.alloc(), &mut desk, "a.gr", 10).is_err_and(|e| e == PortFault::TooLong)
     );
     let mut desk = NeverFails::new(files(rt.alloc())?);
     let text = read_whole(rt.alloc(), &mut desk, "a.gr", 11)?;
-    assert_eq!(rt; text.as_slice(), b"hello world".as_slice());
+    assert!(rt; text.as_slice() == b"hello world".as_slice());
     Ok(())
 }
 
@@ -74,7 +74,7 @@ fn a_listed_open_and_a_listed_read_fail(rt: HostRuntime) -> Result<(), Fail> {
         ("a.gr", true),
         ("b.gr", false),
     ] {
-        assert_eq!(rt; desk.open(Port::In, name).is_ok(), opens);
+        assert!(rt; desk.open(Port::In, name).is_ok() == opens);
     }
     let mut desk = failing(&rt, Port::In, CallKind::Read, 0)?;
     assert!(rt;
@@ -88,7 +88,7 @@ fn a_create_that_fails_keeps_what_was_written(rt: HostRuntime) -> Result<(), Fai
     let mut desk = failing(&rt, Port::RoutesOut, CallKind::Create, 1)?;
     assert!(rt; write_whole(&mut desk, "a.routes", b"a 0\n!\n").is_ok());
     assert!(rt; write_whole(&mut desk, "b.routes", b"b 0\n!\n").is_err());
-    assert_eq!(rt; desk.written(Port::RoutesOut), b"a 0\n!\n".as_slice());
+    assert!(rt; desk.written(Port::RoutesOut) == b"a 0\n!\n".as_slice());
     Ok(())
 }
 
@@ -99,10 +99,11 @@ fn a_text_is_one_write_and_one_that_fails_writes_nothing(rt: HostRuntime) -> Res
         let mut desk = failing(&rt, Port::Report, CallKind::Write, nth)?;
         for number in 0..3 {
             let written = write_all(&mut desk, Port::Report, b"nets 1\n");
-            assert_eq!(rt; written.is_err(), number == nth);
+            assert!(rt; written.is_err() == (number == nth));
         }
-        assert_eq!(rt; desk.written(Port::Report), b"nets 1\nnets 1\n".as_slice());
-        assert_eq!(rt; desk.starved(), 0);
+        assert!(rt;
+            desk.written(Port::Report) == b"nets 1\nnets 1\n".as_slice() && desk.starved() == 0
+        );
     }
     Ok(())
 }
@@ -115,7 +116,7 @@ fn a_name_that_is_not_expected_strays(rt: HostRuntime) -> Result<(), Fail> {
         names.push((Port::In, String::from_str(alloc, "a.gr")?))?;
         let mut desk = MemDesk::expecting(alloc, files(alloc)?, Vec::new(alloc), names);
         let _ = desk.open(Port::In, name);
-        assert_eq!(rt; desk.strayed(), strays, "at {name}");
+        assert!(rt; desk.strayed() == strays, "at {name}");
     }
     Ok(())
 }
