@@ -12,6 +12,8 @@ mod number_tests;
 #[cfg(test)]
 mod price_tests;
 #[cfg(test)]
+mod rows;
+#[cfg(test)]
 mod set_tests;
 #[cfg(test)]
 mod straight_run_tests;

@@ -1,5 +1,6 @@
 //! Worked examples of the numbers of `grid_base`, and of what no clause says.
 
+use crate::rows::agree;
 use grid_base::{Axis, Edge, NoMemory, Piece, Place, Size, Vertex, Via};
 use std::alloc::{AllocError, Global};
 use std::test::Fail;
@@ -9,33 +10,45 @@ fn small() -> Result<Size, Fail> {
     Ok(Size::new(3, 2, 2).ok_or("within the limits")?)
 }
 
+/// Columns, rows and layers, and whether there is such a grid.
+const SIZES: &str = "2048 2048 2|fits
+2048 2048 3|none
+1 1 1|fits
+1 1 0|none
+0 1 1|none
+1 0 1|none
+1 1 16|fits
+1 1 17|none
+8388608 1 1|fits
+8388609 1 1|none
+1 524288 16|fits
+65536 65536 1|none";
+
+fn size_of(field: &str) -> Result<Option<Size>, Fail> {
+    let (cols, rest) = field.split_once(' ').ok_or("rows")?;
+    let (rows, layers) = rest.split_once(' ').ok_or("layers")?;
+    Ok(Size::new(cols.parse()?, rows.parse()?, layers.parse()?))
+}
+
 #[test]
-fn the_limits_are_on_the_product_and_the_layers(rt: HostRuntime) {
-    let cases = [
-        (2048, 2048, 2, true),
-        (2048, 2048, 3, false),
-        (1, 1, 1, true),
-        (1, 1, 0, false),
-        (0, 1, 1, false),
-        (1, 0, 1, false),
-        (1, 1, 16, true),
-        (1, 1, 17, false),
-        (8_388_608, 1, 1, true),
-        (8_388_609, 1, 1, false),
-        (1, 524_288, 16, true),
-        (65_536, 65_536, 1, false),
-    ];
-    for (cols, rows, layers, fits) in cases {
-        assert_eq!(rt; Size::new(cols, rows, layers).is_some(), fits);
+fn the_limits_are_on_the_product_and_the_layers(rt: HostRuntime) -> Result<(), Fail> {
+    for row in SIZES.split('\n') {
+        let (numbers, wanted) = row.split_once('|').ok_or("bar")?;
+        let found = if size_of(numbers)?.is_some() {
+            "fits"
+        } else {
+            "none"
+        };
+        agree(row, found, wanted)?;
     }
+    Ok(())
 }
 
 #[test]
 fn layers_are_numbered_before_rows_and_rows_before_columns(rt: HostRuntime) -> Result<(), Fail> {
     let size = small()?;
-    assert_eq!(rt;
-        (size.cols(), size.rows(), size.layers(), size.vertices()),
-        (3, 2, 2, 12)
+    assert!(rt;
+        size.cols() == 3 && size.rows() == 2 && size.layers() == 2 && size.vertices() == 12
     );
     let place = Place {
         col: 2,
@@ -43,11 +56,9 @@ fn layers_are_numbered_before_rows_and_rows_before_columns(rt: HostRuntime) -> R
         layer: 1,
     };
     let v = size.vertex_of(place).ok_or("in the grid")?;
-    assert_eq!(rt; v, Vertex(8));
-    assert_eq!(rt; size.place_of(v), place);
-    assert_eq!(rt; size.layer_of(v), 1);
+    assert!(rt; v == Vertex(8) && size.place_of(v) == place && size.layer_of(v) == 1);
     for (col, row, layer) in [(3, 0, 0), (0, 2, 0), (0, 0, 2)] {
-        assert_eq!(rt; size.vertex_of(Place { col, row, layer }), None);
+        assert!(rt; size.vertex_of(Place { col, row, layer }).is_none());
     }
     Ok(())
 }
@@ -56,39 +67,50 @@ fn layers_are_numbered_before_rows_and_rows_before_columns(rt: HostRuntime) -> R
 fn an_edge_has_a_start_and_an_axis(rt: HostRuntime) {
     for (number, start, axis) in [(0, 0, Axis::X), (7, 3, Axis::Y), (8, 4, Axis::X)] {
         let edge = Edge::along(Vertex(start), axis);
-        assert_eq!(rt; edge, Edge(number));
-        assert_eq!(rt; edge.start(), Vertex(start));
-        assert_eq!(rt; edge.axis(), axis);
+        assert!(rt; edge == Edge(number) && edge.start() == Vertex(start) && edge.axis() == axis);
     }
 }
+
+fn piece_of(field: &str) -> Result<Piece, Fail> {
+    match field.split_once(' ').ok_or("a number")? {
+        ("edge", number) => Ok(Piece::Edge(Edge(number.parse()?))),
+        ("via", number) => Ok(Piece::Via(Via(number.parse()?))),
+        _ => Err(Fail::new("no piece")),
+    }
+}
+
+/// Edges and vias, and whether three columns, two rows and two layers have them. A line that begins with `#` says what
+/// follows.
+const PIECES: &str = "edge 2|piece
+edge 5|piece
+edge 20|piece
+via 5|piece
+# past the last column, past the last row, no vertex, past the last layer
+edge 4|none
+edge 7|none
+edge 24|none
+via 6|none";
 
 #[test]
 fn pieces_stop_at_the_border(rt: HostRuntime) -> Result<(), Fail> {
     let size = small()?;
-    let pieces = [
-        Piece::Edge(Edge(2)),
-        Piece::Edge(Edge(5)),
-        Piece::Edge(Edge(20)),
-        Piece::Via(Via(5)),
-    ];
-    for p in pieces {
-        assert!(rt; size.is_piece(p));
-    }
-    // past the last column, past the last row, no vertex, past the last layer
-    let others = [
-        Piece::Edge(Edge(4)),
-        Piece::Edge(Edge(7)),
-        Piece::Edge(Edge(24)),
-        Piece::Via(Via(6)),
-    ];
-    for p in others {
-        assert!(rt; !size.is_piece(p));
+    for row in PIECES.split('\n') {
+        if row.starts_with('#') {
+            continue;
+        }
+        let (piece, wanted) = row.split_once('|').ok_or("bar")?;
+        let found = if size.is_piece(piece_of(piece)?) {
+            "piece"
+        } else {
+            "none"
+        };
+        agree(row, found, wanted)?;
     }
     Ok(())
 }
 
 #[test]
-fn each_piece_is_found_between_its_ends(rt: HostRuntime) -> Result<(), Fail> {
+fn each_piece_has_its_ends(rt: HostRuntime) -> Result<(), Fail> {
     let size = small()?;
     let cases = [
         (Piece::Edge(Edge(2)), Vertex(1), Vertex(2)),
@@ -97,29 +119,49 @@ fn each_piece_is_found_between_its_ends(rt: HostRuntime) -> Result<(), Fail> {
     ];
     for (p, start, end) in cases {
         assert!(rt; size.is_piece(p));
-        assert_eq!(rt; size.ends_of(p), (start, end));
-        assert_eq!(rt; size.piece_between(start, end), Some(p));
-        assert_eq!(rt; size.piece_between(end, start), Some(p));
-    }
-    // the end of a row and the start of the next, one vertex twice, two steps, no vertex
-    let apart = [(2, 3), (4, 4), (0, 2), (11, 12)];
-    for (a, b) in apart {
-        assert_eq!(rt; size.piece_between(Vertex(a), Vertex(b)), None);
+        assert!(rt; size.ends_of(p) == (start, end));
     }
     Ok(())
 }
 
+/// What is between two vertices of a grid, by its number.
+fn between(alloc: Global, size: Size, start: u32, end: u32) -> Result<String, AllocError> {
+    match size.piece_between(Vertex(start), Vertex(end)) {
+        Some(Piece::Edge(Edge(e))) => format!(in alloc; "edge {e}"),
+        Some(Piece::Via(Via(v))) => format!(in alloc; "via {v}"),
+        None => String::from_str(alloc, "none"),
+    }
+}
+
+/// Columns, rows and layers, two vertices, and the piece between them. A line that begins with `#` says what follows.
+const BETWEEN: &str = "3 2 2|1 2|edge 2
+3 2 2|2 1|edge 2
+3 2 2|2 5|edge 5
+3 2 2|5 2|edge 5
+3 2 2|5 11|via 5
+3 2 2|11 5|via 5
+# the end of a row and the start of the next, one vertex twice, two steps, no vertex
+3 2 2|2 3|none
+3 2 2|4 4|none
+3 2 2|0 2|none
+3 2 2|11 12|none
+# a grid of one column has no edges along it
+1 3 2|0 1|edge 1
+1 3 2|4 1|via 1";
+
 #[test]
-fn a_grid_of_one_column_has_no_edges_along_it(rt: HostRuntime) -> Result<(), Fail> {
-    let size = Size::new(1, 3, 2).ok_or("within the limits")?;
-    assert_eq!(rt;
-        size.piece_between(Vertex(0), Vertex(1)),
-        Some(Piece::Edge(Edge(1)))
-    );
-    assert_eq!(rt;
-        size.piece_between(Vertex(4), Vertex(1)),
-        Some(Piece::Via(Via(1)))
-    );
+fn each_piece_is_found_between_its_ends(rt: HostRuntime) -> Result<(), Fail> {
+    for row in BETWEEN.split('\n') {
+        if row.starts_with('#') {
+            continue;
+        }
+        let (numbers, rest) = row.split_once('|').ok_or("bar")?;
+        let (ends, wanted) = rest.split_once('|').ok_or("bar")?;
+        let (start, end) = ends.split_once(' ').ok_or("two ends")?;
+        let size = size_of(numbers)?.ok_or("within the limits")?;
+        let found = between(rt.alloc(), size, start.parse()?, end.parse()?)?;
+        agree(row, found.as_str(), wanted)?;
+    }
     Ok(())
 }
 
@@ -139,11 +181,7 @@ fn copied(alloc: Global, bytes: &[u8]) -> Result<Vec<u8>, NoMemory> {
 #[test]
 fn a_refused_allocation_is_want_of_memory(rt: HostRuntime) -> Result<(), Fail> {
     let all = copied(rt.alloc(), b"abc")?;
-    assert_eq!(rt; all.len(), 4);
-    assert_eq!(rt; NoMemory::from(AllocError), NoMemory);
-    assert_eq!(rt;
-        NoMemory.to_string(rt.alloc())?.as_str(),
-        "not enough memory"
-    );
+    assert!(rt; all.len() == 4 && NoMemory::from(AllocError) == NoMemory);
+    assert!(rt; NoMemory.to_string(rt.alloc())?.as_str() == "not enough memory");
     Ok(())
 }

@@ -7,6 +7,7 @@ ghost use Rattle.edge_prices.specs.KeptLists.{grid_of, IsRenewed};
 ghost use Rattle.edge_prices.specs.Limits.{IsBudget};
 ghost use Rattle.edge_prices.specs.Vectors.{IsLoadList};
 
+use crate::rows::{agree, numbers_text};
 use edge_prices::{
     Costing, KeptPrices, LAST_INDEX, MAX_LOAD, Weighing, are_edge_prices, index_at, price_at,
     price_from, prices,
@@ -16,43 +17,41 @@ use grid_graph::{FlooredWeights, Floors, Grid, GridParts, Ground, MAX_DEMAND, We
 use std::alloc::Global;
 use std::test::Fail;
 
+/// Some places in the table of prices, and the price there.
+const ENTRIES: &str = "0 1
+39 40
+59 80
+73 122
+83 162
+98 244
+117 402
+135 640
+155 1063
+170 1548
+180 1986
+190 2548
+200 3266
+220 5363
+240 8802
+247 10468
+253 12142
+255 12758";
+
 #[test]
-fn the_table_has_its_entries(rt: HostRuntime) {
-    let entries = [
-        (0, 1),
-        (39, 40),
-        (59, 80),
-        (73, 122),
-        (83, 162),
-        (98, 244),
-        (117, 402),
-        (135, 640),
-        (155, 1063),
-        (170, 1548),
-        (180, 1986),
-        (190, 2548),
-        (200, 3266),
-        (220, 5363),
-        (240, 8802),
-        (247, 10468),
-        (253, 12142),
-        (255, 12758),
-    ];
-    for (i, price) in entries {
-        assert!(rt; i <= LAST_INDEX);
-        assert_eq!(rt; price_at(i), price);
+fn the_table_has_its_entries(rt: HostRuntime) -> Result<(), Fail> {
+    for row in ENTRIES.split('\n') {
+        let (place, price) = row.split_once(' ').ok_or("a price")?;
+        let place = place.parse()?;
+        assert!(rt; place <= LAST_INDEX);
+        agree(row, price_at(place).to_string(rt.alloc())?.as_str(), price)?;
     }
+    Ok(())
 }
 
 #[test]
 fn an_index_counts_eighths_and_a_price_falls_with_the_distance_to_the_top(rt: HostRuntime) {
-    let worked = (
-        index_at(4, 8, 1),
-        index_at(3, 1, 1),
-        price_from(8, 16),
-        price_from(0, 300),
-    );
-    assert_eq!(rt; worked, (16, 2, 10468, 1));
+    assert!(rt; index_at(4, 8, 1) == 16 && index_at(3, 1, 1) == 2);
+    assert!(rt; price_from(8, 16) == 10468 && price_from(0, 300) == 1);
 }
 
 /// Four tiles in a row on two layers. Edges 0, 2 and 8 are open, with capacities 4, 8 and 4. Edge 4 is choked, and edges 10
@@ -80,10 +79,10 @@ fn three_edges(alloc: Global) -> Result<Option<Grid>, NoMemory> {
 }
 
 /// The prices of the open edges, of the choked one and of the wirelength.
-fn at_places(prices: &[u32]) -> [u32; 5] {
+fn at_places(prices: &[u32]) -> [u64; 5] {
     let mut found = [0; 5];
     for (i, place) in [0, 2, 8, 4, 16].iter().enumerate() {
-        found[i] = prices.get(*place).copied().unwrap_or(0);
+        found[i] = u64::from(prices.get(*place).copied().unwrap_or(0));
     }
     found
 }
@@ -95,7 +94,7 @@ fn are_loads(grid: &Grid, loads: &[u64]) -> bool
         && loads.iter().all(|load| *load <= MAX_LOAD)
 }
 
-fn priced(grid: &Grid, budget: Option<u64>) -> [u32; 5]
+fn priced(grid: &Grid, budget: Option<u64>) -> [u64; 5]
     requires { IsBudget budget }
 {
     let loads = [8, 0, 8, 0, 100, 0, 0, 0, 0, 0, 0, 0, 0, 0, 0, 0, 8];
@@ -109,9 +108,10 @@ fn priced(grid: &Grid, budget: Option<u64>) -> [u32; 5]
 #[test]
 fn prices_follow_the_greatest_index_of_all_resources(rt: HostRuntime) -> Result<(), Fail> {
     let grid = three_edges(rt.alloc())?.ok_or("size")?;
-    assert_eq!(rt; priced(&grid, None), [12758, 10468, 8587, 0, 0]);
-    assert_eq!(rt; priced(&grid, Some(1)), [3885, 3186, 2612, 0, 12758]);
-    Ok(())
+    let free = numbers_text(rt.alloc(), &priced(&grid, None))?;
+    agree("without a budget", free.as_str(), " 12758 10468 8587 0 0")?;
+    let bound = numbers_text(rt.alloc(), &priced(&grid, Some(1)))?;
+    agree("with a budget", bound.as_str(), " 3885 3186 2612 0 12758")
 }
 
 /// Whether a layer has four vertices.
@@ -150,7 +150,7 @@ fn changed<'a>(grid: &'a Grid, mut kept: KeptPrices<'a>, entry: u32, load: u64) 
 }
 
 /// The prices as loads change: the greatest index rises to 16, an entry rises below it, and the greatest index falls to 8.
-fn kept_steps(grid: &Grid, kept: KeptPrices<'_>) -> ([[u32; 5]; 4], [usize; 2])
+fn kept_steps(grid: &Grid, kept: KeptPrices<'_>) -> ([[u64; 5]; 4], [usize; 2])
     requires grid { grid_of kept ≡ grid.now }
     requires renewed { IsRenewed kept }
 {
@@ -165,18 +165,21 @@ fn kept_steps(grid: &Grid, kept: KeptPrices<'_>) -> ([[u32; 5]; 4], [usize; 2])
     ([first, risen, below, fallen], [loads.len(), prices.len()])
 }
 
+/// The prices of the open edges, of the choked one and of the wirelength, a row for each of these steps.
+const STEPS: &str = " 12758 12758 12758 0 0
+ 12758 8587 8587 0 0
+ 12758 10468 8587 0 0
+ 10468 12758 10468 0 0";
+
 #[test]
 fn kept_prices_follow_each_load(rt: HostRuntime) -> Result<(), Fail> {
     let grid = three_edges(rt.alloc())?.ok_or("size")?;
     let kept = kept_at_zero(rt.alloc(), &grid)?.ok_or("size")?;
-    let first = [12758, 12758, 12758, 0, 0];
-    let risen = [12758, 8587, 8587, 0, 0];
-    let below = [12758, 10468, 8587, 0, 0];
-    let fallen = [10468, 12758, 10468, 0, 0];
-    assert_eq!(rt;
-        kept_steps(&grid, kept),
-        ([first, risen, below, fallen], [17, 17])
-    );
+    let (steps, lengths) = kept_steps(&grid, kept);
+    assert!(rt; lengths[0] == 17 && lengths[1] == 17);
+    for (step, row) in steps.iter().zip(STEPS.split('\n')) {
+        agree(row, numbers_text(rt.alloc(), step)?.as_str(), row)?;
+    }
     Ok(())
 }
 
@@ -226,19 +229,10 @@ fn pieces_weigh_what_their_price_and_demand_say(rt: HostRuntime) -> Result<(), F
         along_y: 4 * 32768 * 3 + 1,
         via: 1,
     };
-    assert_eq!(rt; open.floors(), floors);
-    assert_eq!(rt;
-        weights_of(&forced),
-        [4 * 12758 * 3 + 1, 4 * 8587 * 4 + 1, 1 << 38, 1]
-    );
-    let allowed = (allowed_by(&open), allowed_by(&forced));
-    assert_eq!(rt;
-        allowed,
-        (
-            [true, false, false, true, false],
-            [true, true, false, true, false]
-        )
-    );
+    assert!(rt; open.floors() == floors);
+    assert!(rt; weights_of(&forced) == [4 * 12758 * 3 + 1, 4 * 8587 * 4 + 1, 1 << 38, 1]);
+    assert!(rt; allowed_by(&open) == [true, false, false, true, false]);
+    assert!(rt; allowed_by(&forced) == [true, true, false, true, false]);
     Ok(())
 }
 
@@ -248,6 +242,6 @@ fn only_open_edges_cost(rt: HostRuntime) -> Result<(), Fail> {
     let prices = [5, 0, 0, 0, 0, 0, 0, 0, 7, 0, 0, 0, 0, 0, 0, 0];
     assert!(rt; are_edge_prices(&grid, prices.as_slice()) && fits_width(&grid, 2));
     let costing = Costing::new(&grid, 2, Ground::WithChoked, prices.as_slice());
-    assert_eq!(rt; weights_of(&costing), [15, 28, 0, 0]);
+    assert!(rt; weights_of(&costing) == [15, 28, 0, 0]);
     Ok(())
 }

@@ -4,6 +4,7 @@ ghost use Rattle.std.specs.Prelude.{All, IsTrue};
 ghost use Rattle.grid_base.specs.Numbers.{IsPiece, IsVertex};
 ghost use Rattle.block_runs.specs.Runs.{IsRun};
 
+use crate::rows::{agree, numbers_text};
 use block_runs::{Direction, LoadSums, Run, joins_surely, merged, piece_count, set_of_runs};
 use grid_base::{Piece, Size, Vertex};
 use std::alloc::Global;
@@ -78,76 +79,84 @@ fn north(first: u32, count: u32) -> Run {
     run(Direction::North, first, count)
 }
 
-fn up(first: u32, count: u32) -> Run {
-    run(Direction::Up, first, count)
+/// The run that a field stands for: its direction, its first vertex and how many pieces it has.
+fn run_of(field: &str) -> Result<Run, Fail> {
+    let (word, numbers) = field.split_once(' ').ok_or("a direction")?;
+    let (first, count) = numbers.split_once(' ').ok_or("a count")?;
+    let direction = match word {
+        "east" => Direction::East,
+        "north" => Direction::North,
+        "up" => Direction::Up,
+        _ => return Err(Fail::new("no direction")),
+    };
+    Ok(run(direction, first.parse()?, count.parse()?))
 }
+
+fn runs_of(alloc: Global, field: &str) -> Result<Vec<Run>, Fail> {
+    let mut runs = Vec::new(alloc);
+    for field in field.split(';') {
+        runs.push(run_of(field)?)?;
+    }
+    Ok(runs)
+}
+
+fn vertices_of(alloc: Global, field: &str) -> Result<Vec<Vertex>, Fail> {
+    let mut vertices = Vec::new(alloc);
+    for number in field.split(' ') {
+        vertices.push(Vertex(number.parse()?))?;
+    }
+    Ok(vertices)
+}
+
+/// Runs on a grid of eight columns, eight rows and two layers, vertices, and whether the runs join them. A line that begins
+/// with `#` says what follows.
+const JOINED: &str = "# a cross: row 3 and column 4
+east 24 7;north 4 7|24 60|joined
+# a T: a column that ends at row 3
+east 24 7;north 4 3|31 4|joined
+# a corner: the row begins where the column ends
+east 27 4;north 3 3|3 31|joined
+# a column that ends one row before
+east 24 7;north 4 2|31 4|apart
+# a row that ends one column before
+east 24 3;north 4 7|24 60|apart
+# two rows
+east 24 7;east 32 7|24 32|apart
+# one row in two parts that meet, and that don't
+east 24 3;east 27 4|24 31|joined
+east 24 3;east 28 3|24 31|apart
+# a via at the end of a row, and one beside it
+east 24 3;up 27 1|24 91|joined
+east 24 3;up 28 1|24 92|apart
+# a terminal on no run
+east 24 7;north 4 7|24 0|apart
+# one terminal twice
+east 24 7;north 4 7|0 0|joined
+# two lines on two layers, with a via and without it
+east 8 7;east 72 7;up 13 1|8 79|joined
+east 8 7;east 72 7|8 79|apart
+# columns 1 and 5 are joined in row 0; column 3 begins in row 2, and row 6 ends there or before
+east 1 4;north 1 7;north 5 7;north 19 5|57 61|joined
+east 1 4;north 1 7;north 5 7;north 19 5|57 61 59|apart
+east 1 4;north 1 7;north 5 7;north 19 5;east 49 1|57 61 59|apart
+east 1 4;north 1 7;north 5 7;north 19 5;east 49 2|57 61 59|joined
+east 1 4;north 1 7;north 5 7;north 19 5;east 52 3|57 61 59|apart
+east 1 4;north 1 7;north 5 7;north 19 5;east 51 2|57 61 59|joined";
 
 #[test]
 fn runs_that_share_a_vertex_are_joined(rt: HostRuntime) -> Result<(), Fail> {
+    let alloc = rt.alloc();
     let size = Size::new(8, 8, 2).ok_or("size")?;
-    let table = [
-        // a cross: row 3 and column 4
-        (true, [east(24, 7), north(4, 7)], [24, 60]),
-        // a T: a column that ends at row 3
-        (true, [east(24, 7), north(4, 3)], [31, 4]),
-        // a corner: the row begins where the column ends
-        (true, [east(27, 4), north(3, 3)], [3, 31]),
-        // a column that ends one row before
-        (false, [east(24, 7), north(4, 2)], [31, 4]),
-        // a row that ends one column before
-        (false, [east(24, 3), north(4, 7)], [24, 60]),
-        // two rows
-        (false, [east(24, 7), east(32, 7)], [24, 32]),
-        // one row in two parts that meet, and that don't
-        (true, [east(24, 3), east(27, 4)], [24, 31]),
-        (false, [east(24, 3), east(28, 3)], [24, 31]),
-        // a via at the end of a row, and one beside it
-        (true, [east(24, 3), up(27, 1)], [24, 91]),
-        (false, [east(24, 3), up(28, 1)], [24, 92]),
-        // a terminal on no run
-        (false, [east(24, 7), north(4, 7)], [24, 0]),
-        // one terminal twice
-        (true, [east(24, 7), north(4, 7)], [0, 0]),
-    ];
-    for (wanted, runs, ends) in table {
-        let terminals = [Vertex(ends[0]), Vertex(ends[1])];
-        assert_eq!(rt;
-            are_joined(rt.alloc(), size, runs.as_slice(), terminals.as_slice())?,
-            wanted
-        );
-    }
-    Ok(())
-}
-
-#[test]
-fn two_lines_on_two_layers_are_joined_by_a_via(rt: HostRuntime) -> Result<(), Fail> {
-    let size = Size::new(8, 8, 2).ok_or("size")?;
-    let lines = [east(8, 7), east(72, 7), up(13, 1)];
-    let ends = [Vertex(8), Vertex(79)];
-    assert!(rt; are_joined(rt.alloc(), size, lines.as_slice(), ends.as_slice())?);
-    assert!(rt; !are_joined(rt.alloc(), size, &lines[..2], ends.as_slice())?);
-    Ok(())
-}
-
-#[test]
-fn a_column_that_enters_between_others_is_alone(rt: HostRuntime) -> Result<(), Fail> {
-    let size = Size::new(8, 8, 2).ok_or("size")?;
-    // columns 1 and 5 are joined in row 0; column 3 begins in row 2, and row 6 ends there or before
-    let columns = [east(1, 4), north(1, 7), north(5, 7), north(19, 5)];
-    let ends = [Vertex(57), Vertex(61), Vertex(59)];
-    assert!(rt; are_joined(rt.alloc(), size, columns.as_slice(), &ends[..2])?);
-    assert!(rt; !are_joined(rt.alloc(), size, columns.as_slice(), ends.as_slice())?);
-    for (row, wanted) in [
-        (east(49, 1), false),
-        (east(49, 2), true),
-        (east(52, 3), false),
-        (east(51, 2), true),
-    ] {
-        let runs = [columns[0], columns[1], columns[2], columns[3], row];
-        assert_eq!(rt;
-            are_joined(rt.alloc(), size, runs.as_slice(), ends.as_slice())?,
-            wanted
-        );
+    for row in JOINED.split('\n') {
+        if row.starts_with('#') {
+            continue;
+        }
+        let (runs, rest) = row.split_once('|').ok_or("bar")?;
+        let (ends, wanted) = rest.split_once('|').ok_or("bar")?;
+        let runs = runs_of(alloc, runs)?;
+        let ends = vertices_of(alloc, ends)?;
+        let joined = are_joined(alloc, size, runs.as_slice(), ends.as_slice())?;
+        agree(row, if joined { "joined" } else { "apart" }, wanted)?;
     }
     Ok(())
 }
@@ -172,28 +181,28 @@ fn a_lattice_has_as_many_runs_as_lines(rt: HostRuntime) -> Result<(), Fail> {
     assert!(rt; are_joined(rt.alloc(), size, &runs, ends.as_slice())?);
     assert!(rt; are_runs(size, &runs));
     let lines = merged(rt.alloc(), size, runs)?;
-    assert_eq!(rt; lines.len(), 16);
-    assert_eq!(rt; piece_count(size, &lines), 112);
-    assert_eq!(rt; lines[0], east(0, 7));
-    assert_eq!(rt; lines[15], north(7, 7));
+    assert!(rt; lines.len() == 16 && piece_count(size, &lines) == 112);
+    assert!(rt; lines[0] == east(0, 7) && lines[15] == north(7, 7));
     Ok(())
 }
 
 #[test]
 fn loads_stand_on_the_edges_of_the_added_runs(rt: HostRuntime) -> Result<(), Fail> {
     let size = Size::new(8, 8, 2).ok_or("size")?;
-    let runs = [east(8, 3), east(10, 5), up(8, 1)];
+    let runs = [east(8, 3), east(10, 5), run(Direction::Up, 8, 1)];
     let mut sums = LoadSums::none(rt.alloc(), size)?;
     for (number, run) in runs.iter().enumerate() {
         assert!(rt; is_run(sums.size, *run));
         sums.add(*run, 2 + number as u32);
     }
     let loads = sums.finish();
-    // the edges to the east and to the north from the vertices of row 1
-    let row = [2, 0, 2, 0, 5, 0, 3, 0, 3, 0, 3, 0, 3, 0, 0, 0];
-    assert_eq!(rt; loads.len(), 256);
-    assert_eq!(rt; &loads[16..32], row.as_slice());
-    Ok(())
+    assert!(rt; loads.len() == 256);
+    let found = numbers_text(rt.alloc(), &loads[16..32])?;
+    agree(
+        "the edges to the east and to the north from the vertices of row 1",
+        found.as_str(),
+        " 2 0 2 0 5 0 3 0 3 0 3 0 3 0 0 0",
+    )
 }
 
 /// The next of some numbers that look drawn (Knuth, The Art of Computer Programming, volume 2, 1997), below a limit.
@@ -234,7 +243,7 @@ fn drawn_runs_are_joined_where_a_flood_says_so(rt: HostRuntime) -> Result<(), Fa
         assert!(rt; are_runs(size, &runs) && are_vertices(size, ends.as_slice()));
         let tree = set_of_runs(rt.alloc(), size, &runs)?;
         assert!(rt; are_pieces(size, tree.pieces()));
-        assert_eq!(rt; sure, joins(rt.alloc(), size, &tree, ends.as_slice())?);
+        assert!(rt; sure == joins(rt.alloc(), size, &tree, ends.as_slice())?);
         some_yes |= sure;
         some_no |= !sure;
     }
