@@ -26,9 +26,9 @@ use Rattle.route_text.specs.Blocks.{mark_at, coordinate_at, token_number_at, poi
 use Rattle.route_text.specs.Blocks.{further_at, block_at, is_at_end, blocks_at}
 use Rattle.route_text.specs.Reads.{RouteRead}
 use Rattle.route_text.proofs.Takes.{next_segment_takes, next_block_takes}
-use Rattle.plain_readers.specs.declared.plain_blocks.Part.{Part}
-use Rattle.plain_readers.specs.declared.plain_blocks.Part.TheVariants.{Name, Id, Further, Segments}
-use Rattle.plain_readers.specs.declared.plain_blocks.Taken.{Taken}
+use Rattle.plain_readers.specs.declared.taken.Part.{Part}
+use Rattle.plain_readers.specs.declared.taken.Part.TheVariants.{Name, Id, Further, Segments}
+use Rattle.plain_readers.specs.declared.taken.Taken.{Taken}
 use Rattle.plain_readers.specs.PlainBlocks.{at, segment_row, row_at, segments_left, blocks_behind, left_among, left_at}
 use Rattle.plain_readers.specs.PlainNumbers.{word_as_number}
 use Rattle.plain_readers.proofs.WordNumbers.{word_is_number, word_is_no_number}

@@ -21,9 +21,9 @@ use Rattle.route_text.specs.Blocks.{mark_at, coordinate_at, token_number_at, seg
 use Rattle.route_text.specs.Blocks.{block_at, is_at_end, blocks_at, blocks_of}
 use Rattle.route_text.specs.Reads.{RouteRead}
 use Rattle.route_text.proofs.Takes.{next_segment_takes, next_block_takes}
-use Rattle.plain_readers.specs.declared.plain_blocks.Part.{Part}
-use Rattle.plain_readers.specs.declared.plain_blocks.Part.TheVariants.{Name, Id, Further, Segments}
-use Rattle.plain_readers.specs.declared.plain_blocks.Taken.{Taken}
+use Rattle.plain_readers.specs.declared.taken.Part.{Part}
+use Rattle.plain_readers.specs.declared.taken.Part.TheVariants.{Name, Id, Further, Segments}
+use Rattle.plain_readers.specs.declared.taken.Taken.{Taken}
 use Rattle.plain_readers.specs.PlainBlocks.{at, with_next_number, segment_row, row_at, segments_left, left_at_name}
 use Rattle.plain_readers.specs.PlainBlocks.{blocks_behind, left_at_id, left_at_further, left_at_segments, left_in_row}
 use Rattle.plain_readers.specs.PlainBlocks.{left_among, left_at, block_of}

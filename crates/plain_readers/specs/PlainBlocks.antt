@@ -8,9 +8,9 @@ use Rattle.route_text.specs.declared.route_error.RouteError.{RouteError}
 use Rattle.route_text.specs.declared.segment.Segment.{Segment}
 use Rattle.route_text.specs.Blocks.{mark_at, coordinate_at, token_number_at, further_at, segments_at, blocks_at}
 use Rattle.route_text.specs.Reads.{RouteRead, RefusesRoute}
-use Rattle.plain_readers.specs.declared.plain_blocks.Part.{Part}
-use Rattle.plain_readers.specs.declared.plain_blocks.Part.TheVariants.{Name, Id, Further, Segments}
-use Rattle.plain_readers.specs.declared.plain_blocks.Taken.{Taken}
+use Rattle.plain_readers.specs.declared.taken.Part.{Part}
+use Rattle.plain_readers.specs.declared.taken.Part.TheVariants.{Name, Id, Further, Segments}
+use Rattle.plain_readers.specs.declared.taken.Taken.{Taken}
 
 -- the text from this place on
 abbrev pub at : List ℕ → ℕ → Reading

@@ -2,7 +2,8 @@
 
 ghost use Rattle.std.specs.Prelude.{◌<◌, ◌^◌, length};
 
-use crate::{blocks_by_automaton, tokens_by_splitting};
+use crate::plain_blocks::blocks_by_automaton;
+use crate::plain_tokens::tokens_by_splitting;
 use route_text::{Block, RouteError, read_routes};
 use std::alloc::{AllocError, Global};
 use std::test::Fail;

@@ -11,19 +11,21 @@
 //! It stands on `text_scan` and `route_text`, whose readers and definitions it compares, and on `grid_graph` for names.
 //! Nothing stands on it. Plain programs for pieces, distances and trees are in `plain_programs`.
 //!
+//! The readers stand with the tests that call them, so that they are proved once. Only the types that their definitions name
+//! stand without a test.
+//!
 //! Promised: each answer is the one of the definition.
 #![tactic(auto)]
-
-mod plain_blocks;
-mod plain_numbers;
-mod plain_tokens;
-mod word;
-
-pub use plain_blocks::blocks_by_automaton;
-pub use plain_tokens::tokens_by_splitting;
-pub use word::Word;
 
 #[cfg(test)]
 mod comparing_tests;
 #[cfg(test)]
+mod plain_blocks;
+#[cfg(test)]
+mod plain_numbers;
+#[cfg(test)]
+mod plain_tokens;
+#[cfg(test)]
 mod reading_tests;
+mod taken;
+mod word;

@@ -1,5 +1,5 @@
 use Rattle.std.proofs.Common.{◌≡◌, [], length, subst, arith}
-use Rattle.plain_readers.specs.declared.plain_blocks.Part.{Part}
+use Rattle.plain_readers.specs.declared.taken.Part.{Part}
 use Rattle.plain_readers.specs.PlainBlocks.{at, left_at_name, left_at, text_left}
 use Rattle.plain_readers.proofs.Steps.{block_cut_off, text_whole, text_refused}
 use Rattle.plain_readers.proofs.plain_blocks.blocks_by_automaton.Goals as goal
