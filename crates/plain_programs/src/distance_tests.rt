@@ -4,7 +4,7 @@ ghost use Rattle.std.specs.Prelude.{◌≡◌, ◌≤◌, IfOk, IfSome};
 ghost use Rattle.grid_base.specs.Numbers.{IsVertex};
 
 use crate::listed::Listed;
-use crate::plain_distances;
+use crate::plain_paths::plain_distances;
 use grid_base::{Edge, NoMemory, Piece, Size, Vertex, Via};
 use grid_graph::{FlooredWeights, Weights};
 use shortest_paths::{FloorBound, Labels};

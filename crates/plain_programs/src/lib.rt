@@ -12,17 +12,11 @@
 //! It stands on the libraries whose programs and definitions it compares: `tree_set`, `shortest_paths`, `steiner_exact` and
 //! `steiner_span`, over `grid_graph` and `grid_base`. Nothing stands on it. Plain readers of texts are in `plain_readers`.
 //!
+//! The programs stand with the tests that call them, so that they are proved once.
+//!
 //! Promised: each answer is the one of the definition.
 
 #![tactic(auto)]
-
-mod plain_joins;
-mod plain_paths;
-mod plain_weights;
-
-pub use plain_joins::joins_by_merging;
-pub use plain_paths::plain_distances;
-pub use plain_weights::plain_least_weight;
 
 #[cfg(test)]
 mod comparing_tests;
@@ -36,6 +30,14 @@ mod listed;
 mod listing;
 #[cfg(test)]
 mod lows;
+#[cfg(test)]
+mod plain_joins;
+#[cfg(test)]
+mod plain_paths;
+#[cfg(test)]
+mod plain_weights;
+#[cfg(test)]
+mod rows;
 #[cfg(test)]
 mod size_tests;
 #[cfg(test)]

@@ -10,7 +10,7 @@ ghost use Rattle.steiner_exact.specs.TreeLabelWords.{AreTreeLabels};
 use crate::distance_tests::{drawn, mixed};
 use crate::known::{are_pieces, are_vertices};
 use crate::listed::Listed;
-use crate::plain_least_weight;
+use crate::plain_weights::plain_least_weight;
 use grid_base::{NoMemory, Size, Vertex};
 use grid_graph::Weights;
 use shortest_paths::Labels;

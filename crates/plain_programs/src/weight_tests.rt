@@ -6,82 +6,30 @@ use crate::distance_tests::drawn;
 use crate::known::are_vertices;
 use crate::listed::Listed;
 use crate::listing::are_light_pieces;
-use crate::plain_least_weight;
-use grid_base::{Edge, Piece, Size, Vertex, Via};
+use crate::plain_weights::plain_least_weight;
+use crate::rows::{size_of, vertices_of, weighed_pieces_of};
+use grid_base::{Piece, Size, Vertex};
 use shortest_paths::Labels;
 use std::alloc::Global;
 use std::test::Fail;
 
-/// The four edges of a square, of which the first weighs more than the way round.
-const SQUARE: &[(Piece, u64)] = &[
-    (Piece::Edge(Edge(0)), 5),
-    (Piece::Edge(Edge(1)), 1),
-    (Piece::Edge(Edge(3)), 2),
-    (Piece::Edge(Edge(4)), 1),
-];
-
-/// Two of them.
-const ANGLE: &[(Piece, u64)] = &[(Piece::Edge(Edge(0)), 5), (Piece::Edge(Edge(3)), 2)];
-
-/// Two tiles on two layers, where the edge below weighs more than the way over the upper layer.
-const ARCH: &[(Piece, u64)] = &[
-    (Piece::Edge(Edge(0)), 9),
-    (Piece::Edge(Edge(4)), 2),
-    (Piece::Via(Via(0)), 1),
-    (Piece::Via(Via(1)), 1),
-];
-
-/// Nine tiles, with light edges from the one in the middle.
-const CROSS: &[(Piece, u64)] = &[
-    (Piece::Edge(Edge(0)), 3),
-    (Piece::Edge(Edge(1)), 3),
-    (Piece::Edge(Edge(2)), 3),
-    (Piece::Edge(Edge(3)), 1),
-    (Piece::Edge(Edge(5)), 3),
-    (Piece::Edge(Edge(6)), 1),
-    (Piece::Edge(Edge(7)), 3),
-    (Piece::Edge(Edge(8)), 1),
-    (Piece::Edge(Edge(9)), 1),
-    (Piece::Edge(Edge(11)), 3),
-    (Piece::Edge(Edge(12)), 3),
-    (Piece::Edge(Edge(14)), 3),
-];
-
-/// Columns, rows and layers, pieces, terminals, and the least weight.
-type Case = (
-    (u32, u32, u32),
-    &'static [(Piece, u64)],
-    &'static [Vertex],
-    Option<u64>,
-);
-
-const CASES: [Case; 10] = [
-    ((2, 2, 1), SQUARE, &[], Some(0)),
-    ((2, 2, 1), SQUARE, &[Vertex(3)], Some(0)),
-    ((2, 2, 1), SQUARE, &[Vertex(0), Vertex(1)], Some(4)),
-    ((2, 2, 1), SQUARE, &[Vertex(3), Vertex(0)], Some(2)),
-    (
-        (2, 2, 1),
-        SQUARE,
-        &[Vertex(3), Vertex(0), Vertex(1)],
-        Some(4),
-    ),
-    ((2, 2, 1), ANGLE, &[Vertex(0), Vertex(3)], Some(7)),
-    ((2, 2, 1), ANGLE, &[Vertex(0), Vertex(2)], None),
-    ((2, 1, 2), ARCH, &[Vertex(0), Vertex(1)], Some(4)),
-    (
-        (3, 3, 1),
-        CROSS,
-        &[Vertex(1), Vertex(3), Vertex(5), Vertex(7)],
-        Some(4),
-    ),
-    (
-        (3, 3, 1),
-        CROSS,
-        &[Vertex(0), Vertex(2), Vertex(4)],
-        Some(7),
-    ),
-];
+/// Columns, rows and layers; the pieces with their weights; the terminals; and the least weight, if any.
+const CASES: &str = "\
+# the four edges of a square, of which the first weighs more than the way round
+2 2 1|0:5 1:1 3:2 4:1||0
+2 2 1|0:5 1:1 3:2 4:1|3|0
+2 2 1|0:5 1:1 3:2 4:1|0 1|4
+2 2 1|0:5 1:1 3:2 4:1|3 0|2
+2 2 1|0:5 1:1 3:2 4:1|3 0 1|4
+# two of them
+2 2 1|0:5 3:2|0 3|7
+2 2 1|0:5 3:2|0 2|none
+# two tiles on two layers, where the edge below weighs more than the way over the upper layer
+2 1 2|0:9 4:2 v0:1 v1:1|0 1|4
+# nine tiles, with light edges from the one in the middle
+3 3 1|0:3 1:3 2:3 3:1 5:3 6:1 7:3 8:1 9:1 11:3 12:3 14:3|1 3 5 7|4
+3 3 1|0:3 1:3 2:3 3:1 5:3 6:1 7:3 8:1 9:1 11:3 12:3 14:3|0 2 4|7
+";
 
 /// The least weight, where these are pieces and vertices.
 fn least(
@@ -96,15 +44,28 @@ fn least(
     Ok(plain_least_weight(alloc, size, pieces, terminals)?)
 }
 
+/// The least weight of a row's pieces that join its terminals, as a text.
+fn least_of(alloc: Global, row: &str) -> Result<String, Fail> {
+    let (size, rest) = row.split_once('|').ok_or("pieces")?;
+    let (pieces, terminals) = rest.split_once('|').ok_or("terminals")?;
+    let size = size_of(size)?;
+    let pieces = weighed_pieces_of(alloc, pieces)?;
+    let terminals = vertices_of(alloc, terminals)?;
+    match least(alloc, size, pieces.as_slice(), terminals.as_slice())? {
+        Some(weight) => Ok(format!(in alloc; "{weight}")?),
+        None => Ok("none".to_string(alloc)?),
+    }
+}
+
 #[test]
 fn least_weights_are_those_that_were_worked_out(rt: HostRuntime) -> Result<(), Fail> {
-    for ((cols, rows, layers), pieces, terminals, weight) in CASES {
-        let size = Size::new(cols, rows, layers).ok_or("size")?;
-        assert_eq!(rt;
-            least(rt.alloc(), size, pieces, terminals)?,
-            weight,
-            "with {terminals:?}"
-        );
+    for line in CASES.lines() {
+        if line.starts_with('#') {
+            continue;
+        }
+        let (row, wanted) = line.rsplit_once('|').ok_or("a least weight")?;
+        let found = least_of(rt.alloc(), row)?;
+        assert!(rt; found.as_str() == wanted, "found {found} in the row {line}");
     }
     Ok(())
 }
