@@ -46,6 +46,3 @@ pub use extra::Extra;
 pub use laws::{moats_bound_sets, net_bounds_are_low};
 pub use spread::spread_five;
 pub use tile_costs::TileCosts;
-
-#[cfg(test)]
-mod tests;
