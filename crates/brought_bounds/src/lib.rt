@@ -35,6 +35,3 @@ pub use radii::Radii;
 pub use room::moats_hold;
 pub use rows::Rows;
 pub use table::Table;
-
-#[cfg(test)]
-mod tests;

@@ -3,6 +3,7 @@
 ghost use Rattle.std.specs.Prelude.{IsTrue};
 ghost use Rattle.tree_set.specs.Budgets.{IsWithinLimits};
 
+use crate::fields::fraction_text;
 use dual_bound::bound;
 use edge_prices::are_edge_prices;
 use grid_base::{Edge, Piece, Vertex, Via};
@@ -10,22 +11,8 @@ use grid_graph::{Design, Grid, Ground};
 use std::alloc::{AllocError, Global};
 use std::test::Fail;
 use std::thread::Threads;
-use tree_set::{Budget, Fraction};
-use worked_designs::{
-    LAYERED, SIX_IN_A_ROW, SQUARE, STACK, STACK_OF_TWO, STAR, THREE_NETS, WIDE_WIRES, design,
-};
-
-/// Five rows and columns, and a net with a pin in each tile, row by row.
-const PIN_IN_EACH_TILE: &[u8] =
-    b"grid 5 5 1\nvertical capacity 4\nhorizontal capacity 4\nminimum width 1\nminimum spacing 1\nvia spacing 1\n0 0 10 10\nnum net 1\na 0 25 1\n5 5 1\n15 5 1\n25 5 1\n35 5 1\n45 5 1\n5 15 1\n15 15 1\n25 15 1\n35 15 1\n45 15 1\n5 25 1\n15 25 1\n25 25 1\n35 25 1\n45 25 1\n5 35 1\n15 35 1\n25 35 1\n35 35 1\n45 35 1\n5 45 1\n15 45 1\n25 45 1\n35 45 1\n45 45 1\n0\n";
-
-/// Four tiles on two layers and a net: of two pins; of four, with an edge of each layer choked; and of three, of which the
-/// first is reached over choked edges alone.
-const CUBES: [&[u8]; 3] = [
-    b"grid 2 2 2\nvertical capacity 4 4\nhorizontal capacity 4 4\nminimum width 1 1\nminimum spacing 1 1\nvia spacing 1 1\n0 0 10 10\nnum net 1\na 0 2 1\n5 5 1\n15 15 2\n0\n",
-    b"grid 2 2 2\nvertical capacity 4 4\nhorizontal capacity 4 4\nminimum width 1 1\nminimum spacing 1 1\nvia spacing 1 1\n0 0 10 10\nnum net 1\na 0 4 1\n5 5 1\n15 5 1\n5 15 2\n15 15 1\n2\n0 0 1 1 0 1 0\n0 0 2 0 1 2 0\n",
-    b"grid 2 2 2\nvertical capacity 4 4\nhorizontal capacity 4 4\nminimum width 1 1\nminimum spacing 1 1\nvia spacing 1 1\n0 0 10 10\nnum net 1\na 0 3 1\n5 5 2\n15 5 1\n15 15 1\n4\n0 0 1 1 0 1 0\n0 0 1 0 1 1 0\n0 0 2 1 0 2 0\n0 0 2 0 1 2 0\n",
-];
+use tree_set::Budget;
+use worked_designs::{agree, design_of};
 
 fn is_within_limits(budget: Option<Budget>) -> bool
     ensures { IsTrue result → IsWithinLimits budget }
@@ -38,19 +25,30 @@ fn is_within_limits(budget: Option<Budget>) -> bool
 
 /// The prices of all edge numbers, where those of the open edges are given in order. The last one is that of all that
 /// follow.
-fn prices_of(alloc: Global, grid: &Grid, of_open: &[u32]) -> Result<Vec<u32>, AllocError> {
+fn prices_of(alloc: Global, grid: &Grid, of_open: &str) -> Result<Vec<u32>, Fail> {
     let mut prices = Vec::new(alloc);
-    let mut given = of_open.iter();
+    let mut given = of_open.split(' ');
     let mut price = 0;
     for e in 0..2 * grid.size().vertices() {
         if grid.capacity(Edge(e)) == 0 {
             prices.push(0)?;
             continue;
         }
-        price = given.next().copied().unwrap_or(price);
+        if let Some(word) = given.next() {
+            price = word.parse()?;
+        }
         prices.push(price)?;
     }
     Ok(prices)
+}
+
+/// The budget that a field stands for: a wirelength of 1 at a price, or none.
+fn budget_of(field: &str) -> Result<Option<Budget>, Fail> {
+    if field == "" {
+        return Ok(None);
+    }
+    let price = field.parse()?;
+    Ok(Some(Budget { most: 1, price }))
 }
 
 /// The bound of a design at these prices of its open edges.
@@ -58,9 +56,9 @@ fn bound_at<R: Threads + Sync>(
     rt: &R,
     alloc: Global,
     design: &Design,
-    of_open: &[u32],
+    of_open: &str,
     budget: Option<Budget>,
-) -> Result<Option<(u128, u128)>, Fail> {
+) -> Result<String, Fail> {
     let grounds = design.grounds().map_err(|_| Fail::new("grounds"))?;
     let prices = prices_of(alloc, &design.grid, of_open)?;
     if !are_edge_prices(&design.grid, prices.as_slice()) || !is_within_limits(budget) {
@@ -74,108 +72,75 @@ fn bound_at<R: Threads + Sync>(
         prices.as_slice(),
         budget,
     )?;
-    Ok(found.map(|f: Fraction| (f.num, f.den)))
+    Ok(fraction_text(alloc, found)?)
 }
 
-/// The row with the bytes between two places replaced, the prices of the open edges, and the two numbers of the bound.
-type Bounded = (
-    usize,
-    usize,
-    &'static [u8],
-    &'static [u32],
-    Option<(u128, u128)>,
+/// A design, the prices of its open edges, the price of the wirelength where there is a budget, and the bound. A line that
+/// begins with `#` says what follows.
+const BOUNDS: &str = "ROW|12758||1/2
+ROW 119 144 0;0;|12758||0/1
+CROWDED_ROW|12758||3/2
+# both pins in one tile
+ROW 135 141 7 3 1|12758||0/1
+SQUARE|12758||1/2
+SQUARE|12758 10468 12758 10468||5234/11613
+# the net is forced over a choked edge, which costs nothing
+ROW 142 144 1;0 0 1 1 0 1 0;|12758||1/2
+ROW 142 144 2;0 0 1 1 0 1 0;0 0 1 1 0 1 8;|10468 12758||11613/33694
+# the edges of the tree, and the others two indices below
+STAR|12142 12142 12142 12142 12142 12758 12142 12142 12142 12142 12142 12142 12142 12142 12758 12142 12142 12142 12758 12142 12758 12142 12758 12758 12758 12142 12142 12142 12142 12142 12142 12142 12758 12142||6071/244072
+SIX_IN_A_ROW|12758||1/2
+WIDE_WIRES|12142 12142 12142 12758||6379/49800
+LAYERED|12758 12758 12446 12446 12446 12446 12446 12446 12758 12446 12446 12758||6223/94125
+# there is no open edge, there are two that the net doesn't need, and there are two without a price
+STACK|0||none
+STACK_OF_TWO|12758||0/1
+ROW|0||none
+# the wirelength counts where there is a budget
+ROW|3885|12758|20528/21919
+ROW|0|1|2/1
+STACK|0|1|1/1";
+
+/// Five rows and columns, and a net with a pin in each tile, row by row; and the fields of rows of it. Halves of 25 terminals
+/// are more than what five of them cost. Where the edges out of the tile in the middle alone have a price, the five that are
+/// spread have one in the middle, and half of what it costs is less.
+const PIN_IN_EACH_TILE: (&str, &str) = (
+    "ROW 0 144 grid 5 5 1;vertical capacity 4;horizontal capacity 4;minimum width 1;minimum spacing 1;via spacing 1;0 0 10 10;num net 1;a 0 25 1;5 5 1;15 5 1;25 5 1;35 5 1;45 5 1;5 15 1;15 15 1;25 15 1;35 15 1;45 15 1;5 25 1;15 25 1;25 25 1;35 25 1;45 25 1;5 35 1;15 35 1;25 35 1;35 35 1;45 35 1;5 45 1;15 45 1;25 45 1;35 45 1;45 45 1;0;",
+    "1||5/32
+0 0 0 0 0 0 0 0 0 0 0 0 0 0 1 0 0 0 0 0 1 0 1 1 0||1/8",
 );
 
-/// The prices of the star: the edges of its tree, and the others two indices below.
-const STAR_PRICES: &[u32] = &[
-    12142, 12142, 12142, 12142, 12142, 12758, 12142, 12142, 12142, 12142, 12142, 12142, 12142,
-    12142, 12758, 12142, 12142, 12142, 12758, 12142, 12758, 12142, 12758, 12758, 12758, 12142,
-    12142, 12142, 12142, 12142, 12142, 12142, 12758, 12142,
-];
-
-/// The prices of the edges out of the tile in the middle of five rows and columns, and 0 for the others.
-const PRICES_OF_EXITS: &[u32] = &[
-    0, 0, 0, 0, 0, 0, 0, 0, 0, 0, 0, 0, 0, 0, 1, 0, 0, 0, 0, 0, 1, 0, 1, 1, 0,
-];
-
-const BOUNDS: [Bounded; 17] = [
-    (0, 0, b"", &[12758], Some((1, 2))),
-    (119, 144, b"0\n0\n", &[12758], Some((0, 1))),
-    (119, 144, THREE_NETS, &[12758], Some((3, 2))),
-    // both pins in one tile
-    (135, 141, b"7 3 1", &[12758], Some((0, 1))),
-    (0, 144, SQUARE, &[12758], Some((1, 2))),
-    (
-        0,
-        144,
-        SQUARE,
-        &[12758, 10468, 12758, 10468],
-        Some((5234, 11613)),
-    ),
-    // the net is forced over a choked edge, which costs nothing
-    (142, 144, b"1\n0 0 1 1 0 1 0\n", &[12758], Some((1, 2))),
-    (
-        142,
-        144,
-        b"2\n0 0 1 1 0 1 0\n0 0 1 1 0 1 8\n",
-        &[10468, 12758],
-        Some((11613, 33694)),
-    ),
-    (0, 144, STAR, STAR_PRICES, Some((6071, 244072))),
-    (0, 144, SIX_IN_A_ROW, &[12758], Some((1, 2))),
-    (
-        0,
-        144,
-        WIDE_WIRES,
-        &[12142, 12142, 12142, 12758],
-        Some((6379, 49800)),
-    ),
-    (
-        0,
-        144,
-        LAYERED,
-        &[
-            12758, 12758, 12446, 12446, 12446, 12446, 12446, 12446, 12758, 12446, 12446, 12758,
-        ],
-        Some((6223, 94125)),
-    ),
-    // halves of 25 terminals are more than what five of them cost
-    (0, 144, PIN_IN_EACH_TILE, &[1], Some((5, 32))),
-    // the five that are spread have one in the middle, and half of what it costs is less
-    (0, 144, PIN_IN_EACH_TILE, PRICES_OF_EXITS, Some((1, 8))),
-    // there is no open edge, there are two that the net doesn't need, and there are two without a price
-    (0, 144, STACK, &[], None),
-    (0, 144, STACK_OF_TWO, &[12758], Some((0, 1))),
-    (0, 0, b"", &[0], None),
-];
+/// Fails where the bound of a design is not that of the fields behind it.
+fn bound_agrees<R: Threads + Sync>(
+    rt: &R,
+    alloc: Global,
+    given: &str,
+    fields: &str,
+) -> Result<(), Fail> {
+    let (of_open, rest) = fields.split_once('|').ok_or("prices")?;
+    let (budget, wanted) = rest.split_once('|').ok_or("budget")?;
+    let design = design_of(alloc, given)?;
+    let found = bound_at(rt, alloc, &design, of_open, budget_of(budget)?)?;
+    agree(fields, found.as_str(), wanted)
+}
 
 #[test]
 fn designs_have_the_bounds_that_were_worked_out(rt: HostRuntime) -> Result<(), Fail> {
-    for (from, to, by, of_open, numbers) in BOUNDS {
-        let design = design(rt.alloc(), from, to, by)?;
-        assert_eq!(rt;
-            bound_at(&rt, rt.alloc(), &design, of_open, None)?,
-            numbers,
-            "with {by:?}"
-        );
+    for row in BOUNDS.split('\n') {
+        if row.starts_with('#') {
+            continue;
+        }
+        let (given, fields) = row.split_once('|').ok_or("bar")?;
+        bound_agrees(&rt, rt.alloc(), given, fields)?;
     }
     Ok(())
 }
 
 #[test]
-fn the_wirelength_counts_where_there_is_a_budget(rt: HostRuntime) -> Result<(), Fail> {
-    let row = design(rt.alloc(), 0, 0, b"")?;
-    let stack = design(rt.alloc(), 0, 144, STACK)?;
-    for (design, price, of_open, numbers) in [
-        (&row, 12758, 3885, (20528, 21919)),
-        (&row, 1, 0, (2, 1)),
-        (&stack, 1, 0, (1, 1)),
-    ] {
-        let budget = Some(Budget { most: 1, price });
-        assert_eq!(rt;
-            bound_at(&rt, rt.alloc(), design, &[of_open], budget)?,
-            Some(numbers)
-        );
+fn a_net_of_many_pins_has_the_greater_of_two_bounds(rt: HostRuntime) -> Result<(), Fail> {
+    let (given, rows) = PIN_IN_EACH_TILE;
+    for fields in rows.split('\n') {
+        bound_agrees(&rt, rt.alloc(), given, fields)?;
     }
     Ok(())
 }
@@ -259,6 +224,21 @@ fn least_of_all(links: &[Link], terminals: &[Vertex]) -> u64 {
     least
 }
 
+/// Prices that are drawn by a number, and what all capacities cost.
+fn drawn_prices(alloc: Global, grid: &Grid, seed: u32) -> Result<(Vec<u32>, u128), AllocError> {
+    let mut prices = Vec::new(alloc);
+    let mut capacities: u128 = 0;
+    let mut drawn = seed;
+    for e in 0..2 * grid.size().vertices() {
+        drawn = drawn.wrapping_mul(1_664_525).wrapping_add(1_013_904_223);
+        let capacity = grid.capacity(Edge(e));
+        let price = if capacity > 0 { (drawn >> 16) % 4 } else { 0 };
+        prices.push(price)?;
+        capacities = capacities.wrapping_add(u128::from(price).wrapping_mul(u128::from(capacity)));
+    }
+    Ok((prices, capacities))
+}
+
 /// Whether the bound of a design with one net is that over all sets, at prices that are drawn by a number.
 fn all_sets_agree<R: Threads + Sync>(
     rt: &R,
@@ -269,16 +249,7 @@ fn all_sets_agree<R: Threads + Sync>(
     let grounds = design.grounds().map_err(|_| Fail::new("grounds"))?;
     let over = *grounds.first().ok_or("no net")?;
     let net = design.nets.list().first().ok_or("no net")?;
-    let mut prices = Vec::new(alloc);
-    let mut capacities: u128 = 0;
-    let mut drawn = seed;
-    for e in 0..2 * design.grid.size().vertices() {
-        drawn = drawn.wrapping_mul(1_664_525).wrapping_add(1_013_904_223);
-        let capacity = design.grid.capacity(Edge(e));
-        let price = if capacity > 0 { (drawn >> 16) % 4 } else { 0 };
-        prices.push(price)?;
-        capacities = capacities.wrapping_add(u128::from(price).wrapping_mul(u128::from(capacity)));
-    }
+    let (prices, capacities) = drawn_prices(alloc, &design.grid, seed)?;
     if !are_edge_prices(&design.grid, prices.as_slice()) {
         return Err(Fail::new("no such prices"));
     }
@@ -298,14 +269,21 @@ fn all_sets_agree<R: Threads + Sync>(
     })
 }
 
+/// Four tiles on two layers and a net: of two pins; of four, with an edge of each layer choked; and of three, of which the
+/// first is reached over choked edges alone.
+const CUBES: &str =
+    "ROW 0 144 grid 2 2 2;vertical capacity 4 4;horizontal capacity 4 4;minimum width 1 1;minimum spacing 1 1;via spacing 1 1;0 0 10 10;num net 1;a 0 2 1;5 5 1;15 15 2;0;
+ROW 0 144 grid 2 2 2;vertical capacity 4 4;horizontal capacity 4 4;minimum width 1 1;minimum spacing 1 1;via spacing 1 1;0 0 10 10;num net 1;a 0 4 1;5 5 1;15 5 1;5 15 2;15 15 1;2;0 0 1 1 0 1 0;0 0 2 0 1 2 0;
+ROW 0 144 grid 2 2 2;vertical capacity 4 4;horizontal capacity 4 4;minimum width 1 1;minimum spacing 1 1;via spacing 1 1;0 0 10 10;num net 1;a 0 3 1;5 5 2;15 5 1;15 15 1;4;0 0 1 1 0 1 0;0 0 1 0 1 1 0;0 0 2 1 0 2 0;0 0 2 0 1 2 0;";
+
 #[test]
 fn bounds_are_those_over_all_sets_of_pieces(rt: HostRuntime) -> Result<(), Fail> {
-    for text in CUBES {
-        let design = design(rt.alloc(), 0, 144, text)?;
+    for given in CUBES.split('\n') {
+        let design = design_of(rt.alloc(), given)?;
         for seed in 0..3 {
             assert!(rt;
                 all_sets_agree(&rt, rt.alloc(), &design, seed)?,
-                "seed {seed} with {text:?}"
+                "seed {seed} with {given}"
             );
         }
     }

@@ -6,96 +6,39 @@
 ghost use Rattle.edge_prices.specs.Weights.{AreEdgePrices};
 ghost use Rattle.grid_graph.specs.Grounds.{AreGrounds};
 
+use crate::fields::fraction_text;
 use dual_bound::bound;
 use grid_base::Edge;
 use grid_graph::{Design, Ground};
 use hot_cuts::hot_cuts;
-use std::alloc::{AllocError, Global};
+use std::alloc::Global;
 use std::test::Fail;
 use std::thread::Threads;
-use worked_designs::{STACK, design};
+use tree_set::Fraction;
+use worked_designs::{agree, design_of};
 
-/// Three nets from the left column to the right one, over two edges with room for one each: three halves, and whichever edge
-/// the third net takes has an overflow of 2.
-const CUT: Case = Case {
-    text: b"grid 2 2 1\nvertical capacity 100\nhorizontal capacity 2\nminimum width 1\nminimum spacing 1\nvia spacing 1\n0 0 10 10\nnum net 3\na 0 2 1\n5 5 1\n15 5 1\nb 1 2 1\n5 5 1\n15 5 1\nc 2 2 1\n5 15 1\n15 15 1\n0\n",
-    loads: &[(0, 4), (4, 2)],
-    bound: Some((3, 2)),
-    overflow: 2,
-};
-
-/// Two nets through a wall, whose one gap has room for one.
-const GAP: Case = Case {
-    text: b"grid 5 3 1\nvertical capacity 20\nhorizontal capacity 20\nminimum width 1\nminimum spacing 1\nvia spacing 1\n0 0 10 10\nnum net 2\na 0 2 1\n5 5 1\n45 5 1\nb 1 2 1\n5 25 1\n45 25 1\n3\n1 0 1 2 0 1 0\n1 1 1 2 1 1 2\n1 2 1 2 2 1 0\n",
-    loads: &[
-        (1, 2),
-        (9, 2),
-        (10, 4),
-        (11, 2),
-        (12, 4),
-        (14, 4),
-        (16, 4),
-        (19, 2),
-    ],
-    bound: Some((2, 1)),
-    overflow: 2,
-};
-
-/// Five nets out of the tile in the middle, whose four exits have room for one each.
-const EXITS: Case = Case {
-    text: b"grid 3 3 1\nvertical capacity 20\nhorizontal capacity 20\nminimum width 1\nminimum spacing 1\nvia spacing 1\n0 0 10 10\nnum net 5\na 0 2 1\n15 15 1\n5 5 1\nb 1 2 1\n15 15 1\n25 5 1\nc 2 2 1\n15 15 1\n5 25 1\nd 3 2 1\n15 15 1\n25 25 1\ne 4 2 1\n15 15 1\n5 15 1\n4\n1 1 1 2 1 1 2\n0 1 1 1 1 1 2\n1 1 1 1 2 1 2\n1 0 1 1 1 1 2\n",
-    loads: &[
-        (1, 2),
-        (2, 2),
-        (3, 2),
-        (6, 4),
-        (8, 2),
-        (9, 2),
-        (11, 2),
-        (12, 2),
-    ],
-    bound: Some((5, 4)),
-    overflow: 2,
-};
-
-/// Three nets out of such a tile: there is room for all.
-const ROOM: Case = Case {
-    text: b"grid 3 3 1\nvertical capacity 20\nhorizontal capacity 20\nminimum width 1\nminimum spacing 1\nvia spacing 1\n0 0 10 10\nnum net 3\na 0 2 1\n15 15 1\n5 15 1\nb 1 2 1\n15 15 1\n25 15 1\nc 2 2 1\n15 15 1\n15 25 1\n4\n1 1 1 2 1 1 2\n0 1 1 1 1 1 2\n1 1 1 1 2 1 2\n1 0 1 1 1 1 2\n",
-    loads: &[(6, 2), (8, 2), (9, 2)],
-    bound: Some((3, 4)),
-    overflow: 0,
-};
-
-/// There is no open edge.
-const NO_EDGE: Case = Case {
-    text: STACK,
-    loads: &[],
-    bound: None,
-    overflow: 0,
-};
-
-/// A design, the loads of routes by their edges, and what price lists can prove of it.
-#[derive(Drop, Clone, Copy)]
-struct Case {
-    text: &'static [u8],
-    loads: &'static [(u32, u64)],
-    bound: Option<(u128, u128)>,
-    overflow: u128,
-}
-
-/// What a price list shows: the bound, and how much overflow every routing has.
-#[derive(Drop, Clone, Copy)]
-struct Evidence {
-    bound: Option<(u128, u128)>,
-    overflow: u128,
-}
+/// A design, the loads of routes by their edges, and what price lists can prove of it: a bound, and how much overflow every
+/// routing has. A line that begins with `#` says what follows.
+const CUTS: &str =
+    "# three nets from the left column to the right one, over two edges with room for one each: three halves, and whichever edge
+# the third net takes has an overflow of 2
+ROW 0 144 grid 2 2 1;vertical capacity 100;horizontal capacity 2;minimum width 1;minimum spacing 1;via spacing 1;0 0 10 10;num net 3;a 0 2 1;5 5 1;15 5 1;b 1 2 1;5 5 1;15 5 1;c 2 2 1;5 15 1;15 15 1;0;|0 4,4 2|3/2 2
+# two nets through a wall, whose one gap has room for one
+ROW 0 144 grid 5 3 1;vertical capacity 20;horizontal capacity 20;minimum width 1;minimum spacing 1;via spacing 1;0 0 10 10;num net 2;a 0 2 1;5 5 1;45 5 1;b 1 2 1;5 25 1;45 25 1;3;1 0 1 2 0 1 0;1 1 1 2 1 1 2;1 2 1 2 2 1 0;|1 2,9 2,10 4,11 2,12 4,14 4,16 4,19 2|2/1 2
+# five nets out of the tile in the middle, whose four exits have room for one each
+ROW 0 144 grid 3 3 1;vertical capacity 20;horizontal capacity 20;minimum width 1;minimum spacing 1;via spacing 1;0 0 10 10;num net 5;a 0 2 1;15 15 1;5 5 1;b 1 2 1;15 15 1;25 5 1;c 2 2 1;15 15 1;5 25 1;d 3 2 1;15 15 1;25 25 1;e 4 2 1;15 15 1;5 15 1;4;1 1 1 2 1 1 2;0 1 1 1 1 1 2;1 1 1 1 2 1 2;1 0 1 1 1 1 2;|1 2,2 2,3 2,6 4,8 2,9 2,11 2,12 2|5/4 2
+# three nets out of such a tile: there is room for all
+ROW 0 144 grid 3 3 1;vertical capacity 20;horizontal capacity 20;minimum width 1;minimum spacing 1;via spacing 1;0 0 10 10;num net 3;a 0 2 1;15 15 1;5 15 1;b 1 2 1;15 15 1;25 15 1;c 2 2 1;15 15 1;15 25 1;4;1 1 1 2 1 1 2;0 1 1 1 1 1 2;1 1 1 1 2 1 2;1 0 1 1 1 1 2;|6 2,8 2,9 2|3/4 0
+# there is no open edge
+STACK||none 0";
 
 /// The loads of all edge numbers.
-fn loads_of(alloc: Global, design: &Design, given: &[(u32, u64)]) -> Result<Vec<u64>, AllocError> {
+fn loads_of(alloc: Global, design: &Design, field: &str) -> Result<Vec<u64>, Fail> {
     let mut loads = vec![in alloc; 0; 2 * design.grid.size().vertices() as usize]?;
-    for (e, load) in given {
-        if let Some(place) = loads.get_mut(*e as usize) {
-            *place = *load;
+    for pair in field.split(',') {
+        if let Some((e, load)) = pair.split_once(' ') {
+            let place: usize = e.parse()?;
+            *loads.get_mut(place).ok_or("an edge")? = load.parse()?;
         }
     }
     Ok(loads)
@@ -113,11 +56,14 @@ fn cost_of(design: &Design, prices: &[u32]) -> u128 {
 }
 
 /// What the nets cost beyond the capacities, by the greatest price, rounded up.
-fn overflow_of(design: &Design, prices: &[u32], bound: (u128, u128)) -> u128 {
+fn overflow_of(design: &Design, prices: &[u32], bound: Option<Fraction>) -> u128 {
+    let Some(Fraction { num, den, .. }) = bound else {
+        return 0;
+    };
     let cost = cost_of(design, prices);
     let greatest = u128::from(prices.iter().copied().max().unwrap_or(0));
-    let times = cost.checked_div(bound.1).unwrap_or(0);
-    let beyond = bound.0.saturating_mul(times).saturating_sub(cost);
+    let times = cost.checked_div(den).unwrap_or(0);
+    let beyond = num.saturating_mul(times).saturating_sub(cost);
     let rounding = greatest.saturating_sub(1);
     beyond
         .saturating_add(rounding)
@@ -125,48 +71,56 @@ fn overflow_of(design: &Design, prices: &[u32], bound: (u128, u128)) -> u128 {
         .unwrap_or(0)
 }
 
-/// What a price list shows.
+/// What a price list shows: the bound, and how much overflow every routing has.
 fn evidence_of_prices<R: Threads + Sync>(
     rt: &R,
     alloc: Global,
     design: &Design,
     grounds: &[Ground],
     prices: &[u32],
-) -> Result<Evidence, Fail>
+) -> Result<(Option<Fraction>, u128), Fail>
     requires grounds { AreGrounds design.now.grid design.now.nets grounds.now }
     requires prices { AreEdgePrices design.now.grid prices.now }
 {
     let found = bound(rt, alloc, design, grounds, prices, None)?;
-    let bound = found.map(|f| (f.num, f.den));
-    Ok(Evidence {
-        bound,
-        overflow: overflow_of(design, prices, bound.unwrap_or((0, 1))),
-    })
+    Ok((found, overflow_of(design, prices, found)))
 }
 
-/// What the two lists show.
-fn evidence_of_cuts<R: Threads + Sync>(
+/// What the two lists prove: the first one's bound, and the second one's overflow.
+fn evidence_text<R: Threads + Sync>(
     rt: &R,
     alloc: Global,
-    case: &Case,
-) -> Result<(Evidence, Evidence), Fail> {
-    let design = design(alloc, 0, 144, case.text)?;
+    design: &Design,
+    loads: &[u64],
+) -> Result<String, Fail> {
     let grounds = design.grounds().map_err(|_| Fail::new("grounds"))?;
-    let loads = loads_of(alloc, &design, case.loads)?;
-    let cuts = hot_cuts(alloc, &design, loads.as_slice(), 20)?;
+    let cuts = hot_cuts(alloc, design, loads, 20)?;
     let grounds = grounds.as_slice();
-    Ok((
-        evidence_of_prices(rt, alloc, &design, grounds, cuts.for_bound.as_slice())?,
-        evidence_of_prices(rt, alloc, &design, grounds, cuts.for_overflow.as_slice())?,
-    ))
+    let (found, _) = evidence_of_prices(rt, alloc, design, grounds, cuts.for_bound.as_slice())?;
+    let (_, overflow) = evidence_of_prices(
+        rt,
+        alloc,
+        design,
+        grounds,
+        cuts.for_overflow.as_slice(),
+    )?;
+    let found = fraction_text(alloc, found)?;
+    Ok(format!(in alloc; "{found} {overflow}")?)
 }
 
 #[test]
 fn cuts_prove_what_can_be_proved_on_paper(rt: HostRuntime) -> Result<(), Fail> {
-    for case in [CUT, GAP, EXITS, ROOM, NO_EDGE] {
-        let (for_bound, for_overflow) = evidence_of_cuts(&rt, rt.alloc(), &case)?;
-        assert_eq!(rt; for_bound.bound, case.bound);
-        assert_eq!(rt; for_overflow.overflow, case.overflow);
+    let alloc = rt.alloc();
+    for row in CUTS.split('\n') {
+        if row.starts_with('#') {
+            continue;
+        }
+        let (given, rest) = row.split_once('|').ok_or("bar")?;
+        let (loads, wanted) = rest.split_once('|').ok_or("loads")?;
+        let design = design_of(alloc, given)?;
+        let loads = loads_of(alloc, &design, loads)?;
+        let found = evidence_text(&rt, alloc, &design, loads.as_slice())?;
+        agree(row, found.as_str(), wanted)?;
     }
     Ok(())
 }

@@ -7,9 +7,19 @@
 #[cfg(test)]
 mod bound_tests;
 #[cfg(test)]
+mod brought_tests;
+#[cfg(test)]
 mod cut_tests;
 #[cfg(test)]
+mod fields;
+#[cfg(test)]
+mod meeting;
+#[cfg(test)]
+mod pick_tests;
+#[cfg(test)]
 mod repair_tests;
+#[cfg(test)]
+mod settings;
 #[cfg(test)]
 mod share_tests;
 #[cfg(test)]

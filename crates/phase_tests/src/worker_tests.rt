@@ -8,14 +8,14 @@ ghost use Rattle.grid_graph.specs.Grounds.{AreGrounds, IsGround};
 ghost use Rattle.load_core.specs.Parties.{share_at};
 ghost use Rattle.price_workers.specs.TreeLoads.{HasRoomForSet, HoldsTree};
 
-use grid_base::{Edge, Piece};
+use crate::fields::{numbers_of, numbers_text, routing_text, set_of};
 use grid_graph::{Design, Ground};
 use load_table::{LoadTable, Share};
 use price_workers::Worker;
 use std::alloc::Global;
 use std::test::Fail;
 use tree_set::{Tree, add_load, inside};
-use worked_designs::{ARCH, ROW_SET, SQUARE, THREE_NETS, WIDE_WIRES, design};
+use worked_designs::{agree, design_of};
 
 /// No set puts more than this on a word.
 const MAX_TREE_LOAD: u64 = 1 << 25;
@@ -94,42 +94,22 @@ fn routed(alloc: Global, design: &Design, grounds: &[Ground]) -> Result<(Vec<Tre
     Ok((trees, loads))
 }
 
-/// The row with the bytes between two places replaced, the set of each net, and the load of each entry, the wirelength's
-/// last.
-type Routed = (
-    usize,
-    usize,
-    &'static [u8],
-    &'static [Piece],
-    &'static [u64],
-);
-
-const ROUTED: [Routed; 3] = [
-    (0, 0, b"", ROW_SET, &[2, 0, 2, 0, 0, 0, 2]),
-    (119, 144, THREE_NETS, ROW_SET, &[6, 0, 6, 0, 0, 0, 6]),
-    (
-        0,
-        144,
-        WIDE_WIRES,
-        ARCH,
-        &[0, 0, 0, 0, 0, 0, 0, 0, 3, 0, 3, 0, 3, 0, 0, 0, 5],
-    ),
-];
+/// A design, the set of each net, and the load of each entry, the wirelength's last.
+const ROUTED: &str = "ROW| e0 e2;| 2 0 2 0 0 0 2
+CROWDED_ROW| e0 e2; e0 e2; e0 e2;| 6 0 6 0 0 0 6
+WIDE_WIRES| e8 e10 e12 v0 v3;| 0 0 0 0 0 0 0 0 3 0 3 0 3 0 0 0 5";
 
 #[test]
 fn workers_give_each_net_its_set_and_put_its_load_on_the_table(
     rt: HostRuntime,
 ) -> Result<(), Fail> {
-    for (from, to, by, set, loads) in ROUTED {
-        let design = design(rt.alloc(), from, to, by)?;
+    let alloc = rt.alloc();
+    for row in ROUTED.split('\n') {
+        let (given, wanted) = row.split_once('|').ok_or("bar")?;
+        let design = design_of(alloc, given)?;
         let grounds = design.grounds()?;
-        let found = routed(rt.alloc(), &design, grounds.as_slice())?;
-        assert_eq!(rt; found.0.len(), design.nets.list().len());
-        let want = Tree::of(Vec::from_slice(rt.alloc(), set)?);
-        for tree in &found.0 {
-            assert_eq!(rt; tree.pieces(), want.pieces());
-        }
-        assert_eq!(rt; found.1.as_slice(), loads, "with {by:?}");
+        let (trees, loads) = routed(alloc, &design, grounds.as_slice())?;
+        agree(row, routing_text(alloc, &trees, &loads)?.as_str(), wanted)?;
     }
     Ok(())
 }
@@ -137,14 +117,12 @@ fn workers_give_each_net_its_set_and_put_its_load_on_the_table(
 /// Two ways are as short, so either may be taken.
 #[test]
 fn a_worker_takes_a_shortest_way_round_the_square(rt: HostRuntime) -> Result<(), Fail> {
-    let design = design(rt.alloc(), 0, 144, SQUARE)?;
+    let design = design_of(rt.alloc(), "SQUARE")?;
     let grounds = design.grounds()?;
-    let found = routed(rt.alloc(), &design, grounds.as_slice())?;
-    let loads = found.1.as_slice();
-    assert!(rt;
-        loads == [2, 0, 0, 2, 0, 0, 0, 0, 2].as_slice()
-            || loads == [0, 2, 0, 0, 2, 0, 0, 0, 2].as_slice()
-    );
+    let (_, loads) = routed(rt.alloc(), &design, grounds.as_slice())?;
+    let text = numbers_text(rt.alloc(), loads.as_slice())?;
+    let found = text.as_str();
+    assert!(rt; found == " 2 0 0 2 0 0 0 0 2" || found == " 0 2 0 0 2 0 0 0 2");
     Ok(())
 }
 
@@ -239,7 +217,7 @@ fn repaired(
     alloc: Global,
     design: &Design,
     grounds: &[Ground],
-    set: &[Piece],
+    tree: Tree,
     loads: &[u64],
 ) -> Result<(Vec<Tree>, Vec<u64>), Fail>
     requires grounds { AreGrounds design.now.grid design.now.nets grounds.now }
@@ -251,98 +229,40 @@ fn repaired(
     let (table, mut share) = LoadTable::open(alloc, words)?;
     fill(&mut share, &table, words, loads)?;
     let mut trees = Vec::new(alloc);
-    trees.push(Tree::of(Vec::from_slice(alloc, set)?))?;
+    trees.push(tree)?;
     let (share, trees) = after_repair(alloc, design, &table, share, trees, grounds[0])?;
     let loads = loads_of(alloc, &share, words)?;
     Ok((trees, loads))
 }
 
-/// The row with the bytes between two places replaced, and the set of the first net with the load of each entry, the
-/// wirelength's last, before its turn in a round of repair and behind it.
-type Repaired = (
-    usize,
-    usize,
-    &'static [u8],
-    (&'static [Piece], &'static [u64]),
-    (&'static [Piece], &'static [u64]),
-);
-
-/// From the tile at the front along x, and then along y.
-const X_FIRST: &[Piece] = &[Piece::Edge(Edge(0)), Piece::Edge(Edge(3))];
-
-/// From the tile at the front along y, and then along x.
-const Y_FIRST: &[Piece] = &[Piece::Edge(Edge(1)), Piece::Edge(Edge(4))];
-
-/// All four edges of the square.
-const BOTH_WAYS: &[Piece] = &[
-    Piece::Edge(Edge(0)),
-    Piece::Edge(Edge(1)),
-    Piece::Edge(Edge(3)),
-    Piece::Edge(Edge(4)),
-];
-
-/// The lower layer of the design with the wide wires.
-const LOWER: &[Piece] = &[
-    Piece::Edge(Edge(0)),
-    Piece::Edge(Edge(2)),
-    Piece::Edge(Edge(4)),
-];
-
-const REPAIRED: [Repaired; 5] = [
-    // others use both edges of its way
-    (
-        0,
-        144,
-        SQUARE,
-        (X_FIRST, &[4, 0, 0, 4, 0, 0, 0, 0, 4]),
-        (Y_FIRST, &[2, 2, 0, 2, 2, 0, 0, 0, 4]),
-    ),
-    // its own load alone made its way dearer than the other one
-    (
-        0,
-        144,
-        SQUARE,
-        (X_FIRST, &[2, 1, 0, 2, 1, 0, 0, 0, 4]),
-        (X_FIRST, &[2, 1, 0, 2, 1, 0, 0, 0, 4]),
-    ),
-    // its set went both ways, of which others use one
-    (
-        0,
-        144,
-        SQUARE,
-        (BOTH_WAYS, &[2, 4, 0, 2, 4, 0, 0, 0, 6]),
-        (X_FIRST, &[2, 2, 0, 2, 2, 0, 0, 0, 4]),
-    ),
-    // there is one way
-    (
-        119,
-        144,
-        THREE_NETS,
-        (ROW_SET, &[6, 0, 6, 0, 0, 0, 6]),
-        (ROW_SET, &[6, 0, 6, 0, 0, 0, 6]),
-    ),
-    // a wire of the upper layer uses less
-    (
-        0,
-        144,
-        WIDE_WIRES,
-        (LOWER, &[4, 0, 4, 0, 4, 0, 0, 0, 0, 0, 0, 0, 0, 0, 0, 0, 3]),
-        (ARCH, &[0, 0, 0, 0, 0, 0, 0, 0, 3, 0, 3, 0, 3, 0, 0, 0, 5]),
-    ),
-];
+/// A design, the set of its first net with the load of each entry, the wirelength's last, before the net's turn in a round of
+/// repair, and both behind it. A line that begins with `#` says what follows.
+const REPAIRED: &str = "# others use both edges of its way
+SQUARE| e0 e3;| 4 0 0 4 0 0 0 0 4| e1 e4;| 2 2 0 2 2 0 0 0 4
+# its own load alone made its way dearer than the other one
+SQUARE| e0 e3;| 2 1 0 2 1 0 0 0 4| e0 e3;| 2 1 0 2 1 0 0 0 4
+# its set went both ways, of which others use one
+SQUARE| e0 e1 e3 e4;| 2 4 0 2 4 0 0 0 6| e0 e3;| 2 2 0 2 2 0 0 0 4
+# there is one way
+CROWDED_ROW| e0 e2;| 6 0 6 0 0 0 6| e0 e2;| 6 0 6 0 0 0 6
+# a wire of the upper layer uses less
+WIDE_WIRES| e0 e2 e4;| 4 0 4 0 4 0 0 0 0 0 0 0 0 0 0 0 3| e8 e10 e12 v0 v3;| 0 0 0 0 0 0 0 0 3 0 3 0 3 0 0 0 5";
 
 #[test]
 fn repair_takes_out_the_old_set_of_a_net_and_puts_a_new_one(rt: HostRuntime) -> Result<(), Fail> {
-    for (from, to, by, before, after) in REPAIRED {
-        let design = design(rt.alloc(), from, to, by)?;
-        let grounds = design.grounds()?;
-        let found = repaired(rt.alloc(), &design, grounds.as_slice(), before.0, before.1)?;
-        assert_eq!(rt; found.0.len(), 1);
-        let want = Tree::of(Vec::from_slice(rt.alloc(), after.0)?);
-        for tree in &found.0 {
-            assert_eq!(rt; tree.pieces(), want.pieces(), "with {by:?}");
+    let alloc = rt.alloc();
+    for row in REPAIRED.split('\n') {
+        if row.starts_with('#') {
+            continue;
         }
-        assert_eq!(rt; found.1.as_slice(), after.1, "with {by:?}");
+        let (given, rest) = row.split_once('|').ok_or("bar")?;
+        let (set, rest) = rest.split_once(";|").ok_or("set")?;
+        let (loads, wanted) = rest.split_once('|').ok_or("loads")?;
+        let design = design_of(alloc, given)?;
+        let grounds = design.grounds()?;
+        let (tree, loads) = (set_of(alloc, set)?, numbers_of(alloc, loads)?);
+        let (trees, loads) = repaired(alloc, &design, grounds.as_slice(), tree, loads.as_slice())?;
+        agree(row, routing_text(alloc, &trees, &loads)?.as_str(), wanted)?;
     }
     Ok(())
 }

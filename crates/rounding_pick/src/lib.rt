@@ -19,6 +19,3 @@ mod taking;
 
 pub use picks::pick;
 pub use rounding::round;
-
-#[cfg(test)]
-mod tests;
