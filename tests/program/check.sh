@@ -586,7 +586,7 @@ judge 'want of memory' 8
 # ---- what all runs left
 
 ls -R . >"$room/said"
-printf '%s\n' .: along.gr detour.gr few_exits.gr folder many.gr 'no nets.gr' one_net.gr three_layers.gr vast.gr '' ./folder: crlf.gr >"$room/wanted"
+printf '%s\n' .: along.gr detour.gr few_exits.gr folder many.gr misspelled.gr 'no nets.gr' one_net.gr three_layers.gr vast.gr '' ./folder: crlf.gr >"$room/wanted"
 : >"$room/complained"
 got=0
 judge 'no other file was made' 0
