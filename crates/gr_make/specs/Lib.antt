@@ -1,5 +1,5 @@
 pub use Rattle.gr_desk.specs.Pens
-pub use Rattle.seed_words.specs.SeedWords
+pub use Rattle.seed_streams.specs.SeedWords
 pub mod Shapes
 pub mod RandomWords
 pub mod MadeNets

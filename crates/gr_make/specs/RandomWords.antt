@@ -1,6 +1,6 @@
 -- The random words that a design is drawn from, and how many of them were drawn.
 use Rattle.std.specs.Prelude.{ℕ, ◌^◌}
-use Rattle.seed_words.specs.SeedWords.{seed_word}
+use Rattle.seed_streams.specs.SeedWords.{seed_word}
 
 -- the number of the seed's stream: the first above all positions of nets, whose picks have streams of their own
 abbrev pub design_stream : ℕ

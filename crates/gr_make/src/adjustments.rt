@@ -2,7 +2,7 @@
 
 ghost use Rattle.std.specs.Prelude.{◌≡◌, ◌<◌, ◌+◌, ◌∷◌, [], decimal, flat_map, map};
 ghost use Rattle.gr_desk.specs.Pens.{Puts, pen_told, HasSameDesk};
-ghost use Rattle.seed_words.specs.SeedWords.{stream_length};
+ghost use Rattle.seed_streams.specs.SeedWords.{stream_length};
 ghost use Rattle.gr_make.specs.MadeAdjustments.{adjustment_count, made_adjustment, made_adjustments};
 ghost use Rattle.gr_make.specs.MadeNets.{net_words};
 ghost use Rattle.gr_make.specs.MadeText.{line_text, adjustment_line};

@@ -2,7 +2,7 @@
 
 ghost use Rattle.std.specs.Prelude.{◌≡◌, ◌<◌, ◌+◌, ◌*◌, flat_map, map};
 ghost use Rattle.gr_desk.specs.Pens.{Puts, pen_told, HasSameDesk};
-ghost use Rattle.seed_words.specs.SeedWords.{stream_length};
+ghost use Rattle.seed_streams.specs.SeedWords.{stream_length};
 ghost use Rattle.gr_make.specs.MadeNets.{pin_count, made_pin, made_pins, made_net, net_words, made_nets};
 ghost use Rattle.gr_make.specs.MadeText.{line_text, pin_line, net_lines};
 ghost use Rattle.gr_make.specs.Shapes.{IsShape};

@@ -1,10 +1,10 @@
 //! The random words that a design is drawn from.
 
 ghost use Rattle.std.specs.Prelude.{◌≡◌, ◌<◌, ◌+◌, ◌%◌};
-ghost use Rattle.seed_words.specs.SeedWords.{stream_length};
+ghost use Rattle.seed_streams.specs.SeedWords.{stream_length};
 ghost use Rattle.gr_make.specs.RandomWords.{random_word};
 
-use seed_words::SeedWords;
+use seed_streams::SeedWords;
 use std::marker::Model;
 
 /// The first stream of a seed that no pick of a net is drawn from.

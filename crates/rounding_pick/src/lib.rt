@@ -5,7 +5,7 @@
 //! let chosen = round(&design, shared, 7);    // each net with its set of the phase that is picked for it
 //! ```
 //!
-//! It stands on `seed_words`, on `price_workers` for what the stages of a run hand on, on `load_table` and
+//! It stands on `seed_streams`, on `price_workers` for what the stages of a run hand on, on `load_table` and
 //! `load_core` for the shared loads, and on `sharing_runs`, `tree_set`, `grid_graph` and `grid_base`.
 //!
 //! Promised: the pick is the first word of the net's own ChaCha8 stream under the seed, modulo the number of phases.

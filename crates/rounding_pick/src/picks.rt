@@ -3,7 +3,7 @@
 ghost use Rattle.std.specs.Prelude.{◌≡◌, ◌<◌};
 ghost use Rattle.rounding_pick.specs.Picks.{pick};
 
-use seed_words::SeedWords;
+use seed_streams::SeedWords;
 
 /// The phase, counted from 0, that is picked for the net at this position of the design. It depends on nothing but the
 /// seed, the position and the number of phases, so workers have no part in it.

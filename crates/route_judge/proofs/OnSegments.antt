@@ -4,9 +4,9 @@ use Rattle.std.specs.Prelude.{◌↔◌, IfErr, OnOk}
 use Rattle.std.proofs.lemmas.List.{take_more, take_all}
 use Rattle.std.proofs.lemmas.List.Elements.{Contains-append_left, Contains-append_right, Contains-append_cases}
 use Rattle.std.proofs.lemmas.Option.{same_Some}
-use Rattle.block_runs.specs.declared.run.Run.{Run}
-use Rattle.block_runs.specs.Between.{RunsBetween}
-use Rattle.block_runs.specs.Runs.{pieces_of}
+use Rattle.straight_runs.specs.declared.run.Run.{Run}
+use Rattle.straight_runs.specs.Between.{RunsBetween}
+use Rattle.straight_runs.specs.Runs.{pieces_of}
 use Rattle.grid_base.specs.declared.piece.Piece.{Piece}
 use Rattle.grid_base.specs.declared.place.Place.{Place}
 use Rattle.grid_base.specs.Lines.{AreInLine}

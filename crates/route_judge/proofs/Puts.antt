@@ -1,9 +1,9 @@
 -- Runs that are put on a list, one behind the other.
 use Rattle.std.proofs.Common.{◌⊎◌, List, [], ◌∷◌, ◌++◌, Contains, inl, inr, ⊎_elim}
 use Rattle.std.proofs.lemmas.List.Elements.{All-push}
-use Rattle.block_runs.specs.declared.run.Run.{Run}
-use Rattle.block_runs.specs.Runs.{IsRun, run_pieces}
-use Rattle.block_runs.proofs.Merges.{in_run, of_run, push_pieces, pushed_pieces}
+use Rattle.straight_runs.specs.declared.run.Run.{Run}
+use Rattle.straight_runs.specs.Runs.{IsStraightRun, run_pieces}
+use Rattle.straight_runs.proofs.Merges.{in_run, of_run, push_pieces, pushed_pieces}
 use Rattle.grid_base.specs.declared.piece.Piece.{Piece}
 use Rattle.grid_base.specs.declared.piece.Piece.TheVariants.{Edge, Via}
 use Rattle.grid_base.specs.Numbers.{IsPiece}
@@ -26,7 +26,7 @@ allowed g P (Edge e) none piece one = λ wall. none (e, one, wall)
 allowed g P (Via v) none piece one = piece
 
 -- a run is put
-pub put_run : (g : Grid) (P : Piece → Type 0) (runs : List Run) (run : Run) → IsRun (size_of g) run → ¬ HasWall g (Contains (run_pieces (size_of g) run)) → ((p : Piece) → P p → IsPiece (size_of g) p) → ((p : Piece) → Contains (run_pieces (size_of g) run) p → P p) → ((p : Piece) → P p → Contains (run_pieces (size_of g) run) p) → ArePut g P runs (runs ++ run ∷ [])
+pub put_run : (g : Grid) (P : Piece → Type 0) (runs : List Run) (run : Run) → IsStraightRun (size_of g) run → ¬ HasWall g (Contains (run_pieces (size_of g) run)) → ((p : Piece) → P p → IsPiece (size_of g) p) → ((p : Piece) → Contains (run_pieces (size_of g) run) p → P p) → ((p : Piece) → P p → Contains (run_pieces (size_of g) run) p) → ArePut g P runs (runs ++ run ∷ [])
 put_run g P runs run is none pieces to from =
     let s = size_of g in
     record {
@@ -35,7 +35,7 @@ put_run g P runs run is none pieces to from =
         λ held. push_pieces s runs run p (⊎_elim (λ was. inl was) (λ one. inr (of_run s run p (from p one))) held),
       );
       no_wall = λ p one. allowed g (Contains (run_pieces s run)) p none (pieces p one) (from p one);
-      runs = λ are. All-push (IsRun s) runs run are is;
+      runs = λ are. All-push (IsStraightRun s) runs run are is;
     }
 
 -- some are put, and then others

@@ -2,9 +2,9 @@
 use Rattle.std.proofs.Common.{All, Contains, List, Result, Ok, Err, Bool, sym, subst}
 use Rattle.std.specs.Prelude.{◌↔◌, IfOk, IsTrue}
 use Rattle.std.proofs.lemmas.List.Elements.{All-contains, All-contains_itself, All-weaker}
-use Rattle.block_runs.specs.declared.run.Run.{Run}
-use Rattle.block_runs.specs.Runs.{IsRun, pieces_of}
-use Rattle.block_runs.proofs.Merges.{of_some_run}
+use Rattle.straight_runs.specs.declared.run.Run.{Run}
+use Rattle.straight_runs.specs.Runs.{IsStraightRun, pieces_of}
+use Rattle.straight_runs.proofs.Merges.{of_some_run}
 use Rattle.grid_base.specs.declared.no_memory.NoMemory.{NoMemory}
 use Rattle.grid_base.specs.declared.piece.Piece.{Piece}
 use Rattle.grid_base.specs.declared.size.Size.{Size}
@@ -15,14 +15,14 @@ use Rattle.grid_base.proofs.Joined.{Joins-superset}
 use Rattle.tree_set.specs.Routings.{ArePieces}
 
 -- what runs have are pieces of the grid
-piece_of_runs : (s : Size) (runs : List Run) → All (IsRun s) runs → (p : Piece) → Contains (pieces_of s runs) p → IsPiece s p
+piece_of_runs : (s : Size) (runs : List Run) → All (IsStraightRun s) runs → (p : Piece) → Contains (pieces_of s runs) p → IsPiece s p
 piece_of_runs s runs are p held =
     let of = of_some_run s runs p held in
-    let is = All-contains (IsRun s) runs of.0 are of.1 in
+    let is = All-contains (IsStraightRun s) runs of.0 are of.1 in
     subst (IsPiece s) (sym of.2.2) (is.each of.2.0 of.2.1)
 
 -- and so has a list of the same pieces
-pub same_pieces : (s : Size) (runs : List Run) (tree : List Piece) → All (IsRun s) runs → ((p : Piece) → Contains tree p ↔ Contains (pieces_of s runs) p) → ArePieces s tree
+pub same_pieces : (s : Size) (runs : List Run) (tree : List Piece) → All (IsStraightRun s) runs → ((p : Piece) → Contains tree p ↔ Contains (pieces_of s runs) p) → ArePieces s tree
 same_pieces s runs tree are same =
     All-weaker (Contains tree) (IsPiece s) (λ p held. piece_of_runs s runs are p ((same p).0 held)) tree (All-contains_itself tree)
 

@@ -1,6 +1,6 @@
 -- Counts along the lines of a grid.
 use Rattle.std.specs.Prelude.{◌≡◌}
-use Rattle.block_runs.specs.declared.line_counts.LineCounts.{LineCounts}
+use Rattle.straight_runs.specs.declared.line_counts.LineCounts.{LineCounts}
 use Rattle.grid_graph.specs.declared.grid.Grid.{Grid}
 use Rattle.grid_graph.specs.declared.kind.Kind.{Kind}
 

@@ -1,7 +1,7 @@
 -- What is put on a list of runs, and for which wall a run is refused.
 use Rattle.std.specs.Prelude.{◌≡◌, ◌↔◌, ◌⊎◌, All, List, Contains}
-use Rattle.block_runs.specs.declared.run.Run.{Run}
-use Rattle.block_runs.specs.Runs.{IsRun, pieces_of}
+use Rattle.straight_runs.specs.declared.run.Run.{Run}
+use Rattle.straight_runs.specs.Runs.{IsStraightRun, pieces_of}
 use Rattle.grid_base.specs.declared.edge.Edge.{Edge as EdgeNumber}
 use Rattle.grid_base.specs.declared.piece.Piece.{Piece}
 use Rattle.grid_base.specs.declared.piece.Piece.TheVariants.{Edge}
@@ -17,7 +17,7 @@ use Rattle.route_judge.specs.declared.stop.Stop.TheVariants.{Refused, NoMemory}
 pub record ArePut (g : Grid) (Wanted : Piece → Type 0) (old new : List Run) : Type 0 where
   pub pieces : (p : Piece) → Contains (pieces_of (size_of g) new) p ↔ (Contains (pieces_of (size_of g) old) p ⊎ Wanted p)
   pub no_wall : (p : Piece) → Wanted p → Allows g WithChoked p
-  pub runs : All (IsRun (size_of g)) old → All (IsRun (size_of g)) new
+  pub runs : All (IsStraightRun (size_of g)) old → All (IsStraightRun (size_of g)) new
 
 -- one of the edges with a property is a wall
 abbrev pub HasWall : Grid → (Piece → Type 0) → Type 0

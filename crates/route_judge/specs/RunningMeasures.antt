@@ -1,6 +1,6 @@
 -- What is summed up of the sets that blocks give the nets.
 use Rattle.std.specs.Prelude.{◌≡◌, List}
-use Rattle.block_runs.specs.LoadSums.{AreLoadSums}
+use Rattle.straight_runs.specs.LoadSums.{AreLoadSums}
 use Rattle.grid_base.specs.declared.piece.Piece.{Piece}
 use Rattle.grid_graph.specs.declared.design.Design.{Design}
 use Rattle.grid_graph.specs.declared.ground.Ground.{Ground}

@@ -1,7 +1,7 @@
 //! The blocks of a text, one after the other.
 
 ghost use Rattle.std.specs.Prelude.{◌≡◌, ◌<◌, ◌+◌, ◌↔◌, ◌++◌, ◌∷◌, [], All, IfOk, OnOk, IsTrue, Contains, length, take};
-ghost use Rattle.block_runs.specs.Runs.{IsRun, pieces_of};
+ghost use Rattle.straight_runs.specs.Runs.{IsStraightRun, pieces_of};
 ghost use Rattle.grid_base.specs.declared.piece.Piece.{Piece};
 ghost use Rattle.grid_base.specs.Lists.{At, HasNoRepeats};
 ghost use Rattle.grid_base.specs.Walks.{JoinsList};
@@ -27,7 +27,7 @@ use crate::segments::runs_of;
 use crate::stop::Stop;
 use crate::taken::TakenNets;
 use crate::tested::TestedBlock;
-use block_runs::{LineCounts, Run, merged};
+use straight_runs::{LineCounts, Run, merged};
 use grid_base::NoMemory;
 use grid_graph::Design;
 use route_text::Block;
@@ -36,7 +36,7 @@ use std::alloc::Global;
 /// Whether the runs' pieces join the terminals of the net at this place.
 fn joins_net(alloc: Global, design: &Design, place: usize, runs: &[Run]) -> Result<bool, NoMemory>
     requires place { place < length design.now.nets }
-    requires runs { All (IsRun (size_of design.now.grid)) runs.now }
+    requires runs { All (IsStraightRun (size_of design.now.grid)) runs.now }
     ensures { (n : NetSpec) → At design.now.nets place n
         → IfOk result (λ joined. IsTrue joined ↔ JoinsList (size_of design.now.grid) (pieces_of (size_of design.now.grid) runs.now) n.terminals) }
 {
@@ -60,7 +60,7 @@ fn joining_runs_of(
     requires place { place < length design.now.nets }
     requires net { (n : NetSpec) → At design.now.nets place n → n.id ≡ block.now.id }
     ensures stops { StopsAt design.now (all_segment_objections number block.now.segments ++ objections.not_joined block.now ∷ []) result }
-    ensures runs { IfOk result (λ runs. All (IsRun (size_of design.now.grid)) runs.items) }
+    ensures runs { IfOk result (λ runs. All (IsStraightRun (size_of design.now.grid)) runs.items) }
     ensures once { IfOk result (λ runs. HasNoRepeats (pieces_of (size_of design.now.grid) runs.items)) }
     ensures named { IfOk result (λ runs. (p : Piece) → Contains (pieces_of (size_of design.now.grid) runs.items) p ↔ IsPieceOf design.now.grid block.now p) }
     ensures joining { (n : NetSpec) → At design.now.nets place n → IfOk result (λ runs. IsJoining design.now.grid n (pieces_of (size_of design.now.grid) runs.items)) }
@@ -90,7 +90,7 @@ pub(crate) fn test_block(
     requires taken { AreTaken design.now (take number blocks.now) taken.old.nets.items }
     ensures stops { (block : Block) → At blocks.now number block → StopsAt design.now (block_objections blocks.now (number, block)) result }
     ensures place { IfOk result (λ b. b.place < length design.now.nets) }
-    ensures runs { IfOk result (λ b. All (IsRun (size_of design.now.grid)) b.runs.items) }
+    ensures runs { IfOk result (λ b. All (IsStraightRun (size_of design.now.grid)) b.runs.items) }
     ensures tested { (block : Block) → At blocks.now number block
         → IfOk result (λ b. IsTested design.now (take number blocks.now) block b.place (pieces_of (size_of design.now.grid) b.runs.items)) }
     ensures taken { OnOk result (AreTaken design.now (take (number + 1) blocks.now) taken.new.nets.items) }

@@ -1,11 +1,11 @@
 //! Whether runs join vertices.
 
 ghost use Rattle.std.specs.Prelude.{◌↔◌, All, IfOk, IsTrue};
-ghost use Rattle.block_runs.specs.Runs.{IsRun, pieces_of};
+ghost use Rattle.straight_runs.specs.Runs.{IsStraightRun, pieces_of};
 ghost use Rattle.grid_base.specs.Numbers.{IsVertex};
 ghost use Rattle.grid_base.specs.Walks.{JoinsList};
 
-use block_runs::{Run, joins_surely, set_of_runs};
+use straight_runs::{Run, joins_surely, set_of_runs};
 use grid_base::{NoMemory, Size, Vertex};
 use std::alloc::Global;
 use tree_set::joins;
@@ -20,7 +20,7 @@ pub(crate) fn runs_join(
     runs: &[Run],
     terminals: &[Vertex],
 ) -> Result<bool, NoMemory>
-    requires runs { All (IsRun size) runs.now }
+    requires runs { All (IsStraightRun size) runs.now }
     requires vertices { All (λ t. IsVertex size t.0) terminals.now }
     ensures { IfOk result (λ joined. IsTrue joined ↔ JoinsList size (pieces_of size runs.now) terminals.now) }
 {

@@ -13,7 +13,7 @@
 //! let trees = trees_of(alloc, &design, blocks.as_slice())?;    // and the nets' sets
 //! ```
 //!
-//! It stands on `route_text` and `cert_text` for what was read, on `block_runs` for blocks as straight runs, on `tree_set` for
+//! It stands on `route_text` and `cert_text` for what was read, on `straight_runs` for blocks as straight runs, on `tree_set` for
 //! sets and measures, on `dual_bound` and `edge_prices` for the bound at a certificate's prices, and on `grid_graph` and
 //! `grid_base`. It knows nothing of how routes are found.
 //!

@@ -1,8 +1,8 @@
 //! The runs between two places in line.
 
 ghost use Rattle.std.specs.Prelude.{◌≡◌, ◌↔◌, Contains, IfErr, IsTrue, OnOk};
-ghost use Rattle.block_runs.specs.Between.{RunsBetween};
-ghost use Rattle.block_runs.specs.Runs.{IsRun, run_pieces};
+ghost use Rattle.straight_runs.specs.Between.{RunsBetween};
+ghost use Rattle.straight_runs.specs.Runs.{IsStraightRun, run_pieces};
 ghost use Rattle.grid_base.specs.Lines.{AreInLine};
 ghost use Rattle.grid_base.specs.Numbers.{IsInside};
 ghost use Rattle.grid_graph.specs.declared.kind.Kind.TheVariants.{Wall};
@@ -12,14 +12,14 @@ ghost use Rattle.route_judge.specs.Lines.{ArePut, HasWall, IsForWall};
 
 use crate::reason::Reason;
 use crate::stop::Stop;
-use block_runs::{LineCounts, Run, run_between};
+use straight_runs::{LineCounts, Run, run_between};
 use grid_base::Place;
 use grid_graph::Grid;
 
 /// Whether a run has a wall, by the counts of walls.
 fn has_wall(grid: &Grid, walls: &LineCounts<'_>, run: Run) -> bool
     requires walls { AreCountsOf grid.now Wall walls.now }
-    requires run { IsRun (size_of grid.now) run }
+    requires run { IsStraightRun (size_of grid.now) run }
     ensures { IsTrue result ↔ HasWall grid.now (Contains (run_pieces (size_of grid.now) run)) }
 {
     walls.count(run) > 0

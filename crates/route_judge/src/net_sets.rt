@@ -11,7 +11,7 @@ use crate::net_places::NetPlaces;
 use crate::stop::Stop;
 use crate::taken::TakenNets;
 use crate::tested::TestedBlock;
-use block_runs::{LineCounts, set_of_runs};
+use straight_runs::{LineCounts, set_of_runs};
 use grid_base::NoMemory;
 use grid_graph::{Design, Kind};
 use route_text::Block;

@@ -2,8 +2,8 @@
 
 ghost use Rattle.std.specs.Prelude.{◌≡◌, ◌+◌, ◌<◌, ◌^◌, ℕ, All, IfOk, length, cond};
 ghost use Rattle.std.specs.List.{list_any};
-ghost use Rattle.block_runs.specs.LoadSums.{AreLoadSums};
-ghost use Rattle.block_runs.specs.Runs.{IsRun, pieces_of};
+ghost use Rattle.straight_runs.specs.LoadSums.{AreLoadSums};
+ghost use Rattle.straight_runs.specs.Runs.{IsStraightRun, pieces_of};
 ghost use Rattle.grid_base.specs.Lists.{HasNoRepeats};
 ghost use Rattle.grid_graph.specs.declared.kind.Kind.TheVariants.{Choked};
 ghost use Rattle.grid_graph.specs.Grids.{IsNetWidth, size_of};
@@ -12,7 +12,7 @@ ghost use Rattle.route_judge.specs.KindCounts.{AreCountsOf};
 ghost use Rattle.route_judge.specs.Measured as measured;
 
 use crate::beyond::goes_beyond;
-use block_runs::{LineCounts, LoadSums, Run, piece_count};
+use straight_runs::{LineCounts, LoadSums, Run, piece_count};
 use grid_base::{NoMemory, Size};
 use grid_graph::{Grid, Ground};
 use std::alloc::Global;
@@ -54,7 +54,7 @@ impl RunningMeasure {
     )
         requires choked { AreCountsOf grid.now Choked choked.now }
         requires width { IsNetWidth grid.now width }
-        requires runs { All (IsRun (size_of grid.now)) runs.now }
+        requires runs { All (IsStraightRun (size_of grid.now)) runs.now }
         requires distinct { HasNoRepeats (pieces_of (size_of grid.now) runs.now) }
         requires size { self.old.loads.size ≡ size_of grid.now }
         requires long { self.old.wirelength + length (pieces_of (size_of grid.now) runs.now) < 2 ^ 64 }

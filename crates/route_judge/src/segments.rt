@@ -1,7 +1,7 @@
 //! The segments of a block.
 
 ghost use Rattle.std.specs.Prelude.{◌≡◌, ◌↔◌, ◌<◌, IsTrue, IfOk, OnOk, length, All, Contains};
-ghost use Rattle.block_runs.specs.Runs.{IsRun, pieces_of};
+ghost use Rattle.straight_runs.specs.Runs.{IsStraightRun, pieces_of};
 ghost use Rattle.grid_base.specs.declared.piece.Piece.{Piece};
 ghost use Rattle.grid_base.specs.Lines.{AreInLine};
 ghost use Rattle.grid_graph.specs.declared.ground.Ground.TheVariants.{WithChoked};
@@ -19,7 +19,7 @@ use crate::lines::add_between;
 use crate::placing::place_of;
 use crate::reason::Reason;
 use crate::stop::Stop;
-use block_runs::{LineCounts, Run};
+use straight_runs::{LineCounts, Run};
 use grid_base::Place;
 use grid_graph::Design;
 use route_text::{Block, Segment};
@@ -85,7 +85,7 @@ pub(crate) fn runs_of(
     requires range { IsBlockInRange block.now }
     requires walls { AreCountsOf design.now.grid Wall walls.now }
     ensures stops { StopsAt design.now (all_segment_objections number block.now.segments) result }
-    ensures runs { IfOk result (λ runs. All (IsRun (size_of design.now.grid)) runs.items) }
+    ensures runs { IfOk result (λ runs. All (IsStraightRun (size_of design.now.grid)) runs.items) }
     ensures named { IfOk result (λ runs. (p : Piece) → Contains (pieces_of (size_of design.now.grid) runs.items) p ↔ IsPieceOf design.now.grid block.now p) }
     ensures no_wall { IfOk result (λ runs. (p : Piece) → Contains (pieces_of (size_of design.now.grid) runs.items) p → Allows design.now.grid WithChoked p) }
 {

@@ -13,7 +13,7 @@ use crate::net_places::NetPlaces;
 use crate::running_measure::RunningMeasure;
 use crate::stop::Stop;
 use crate::taken::TakenNets;
-use block_runs::LineCounts;
+use straight_runs::LineCounts;
 use grid_graph::{Design, Ground, Kind};
 use route_text::Block;
 use std::alloc::Global;

@@ -1,6 +1,6 @@
 //! A block to which nothing is objected.
 
-use block_runs::Run;
+use straight_runs::Run;
 
 /// A block to which nothing is objected.
 #[derive(Drop)]

@@ -1,4 +1,4 @@
--- What the terminals of a mask span along a coordinate.
+-- What the terminals of a mask extent along a coordinate.
 use Rattle.std.proofs.Common.{ℕ, zero, suc, ◌≡◌, ◌≢◌, ◌+◌, ◌-◌, ◌%◌, ◌^◌, ◌<◌, ◌≤◌, ◌==◌, cond, min, max, List, get_or, true, false, refl, ap, ◌∙◌, ⊎_elim, arith, add-one}
 use Rattle.std.proofs.lemmas.Bool.{cases_eq}
 use Rattle.std.proofs.lemmas.Bool.Decides.{nat_tests}
@@ -7,8 +7,8 @@ use Rattle.std.proofs.lemmas.Nat.{pow_pos}
 use Rattle.grid_base.specs.declared.vertex.Vertex.{Vertex}
 use Rattle.shortest_paths.specs.Masks.{bit, single}
 use Rattle.shortest_paths.proofs.Masks.{bit-small, bit-single}
-use Rattle.steiner_exact.specs.declared.span.Span.{Span}
-use Rattle.steiner_exact.specs.Boxes.{none, lowest, highest, span_of, with_number, width_with}
+use Rattle.steiner_exact.specs.declared.extent.Extent.{Extent}
+use Rattle.steiner_exact.specs.Boxes.{none, lowest, highest, extent_of, with_number, width_with}
 
 -- the bits of two masks add up to those of a third
 abbrev Shared : ℕ → ℕ → ℕ → Type 0
@@ -105,15 +105,15 @@ pub highest-more : (f : ℕ → ℕ) (terminals : List Vertex) (mask n : ℕ) �
 unfolding highest
 highest-more f terminals mask n = ap (highest f terminals mask) (add-one n)
 
-pub span_none : (f : ℕ → ℕ) (terminals : List Vertex) (mask : ℕ) → span_of f terminals mask 0 ≡ record { least = 2 ^ 32 - 1; greatest = 0 }
+pub extent_none : (f : ℕ → ℕ) (terminals : List Vertex) (mask : ℕ) → extent_of f terminals mask 0 ≡ record { least = 2 ^ 32 - 1; greatest = 0 }
 unfolding lowest highest
-span_none f terminals mask = refl
+extent_none f terminals mask = refl
 
-pub span_taken : (f : ℕ → ℕ) (terminals : List Vertex) (mask n : ℕ) → (bit mask n == 1) ≡ true → span_of f terminals mask (n + 1) ≡ with_number (span_of f terminals mask n) (f (get_or terminals n none).0)
-span_taken f terminals mask n has = rw (lowest-more f terminals mask n, highest-more f terminals mask n) (rw has refl)
+pub extent_taken : (f : ℕ → ℕ) (terminals : List Vertex) (mask n : ℕ) → (bit mask n == 1) ≡ true → extent_of f terminals mask (n + 1) ≡ with_number (extent_of f terminals mask n) (f (get_or terminals n none).0)
+extent_taken f terminals mask n has = rw (lowest-more f terminals mask n, highest-more f terminals mask n) (rw has refl)
 
-pub span_passed : (f : ℕ → ℕ) (terminals : List Vertex) (mask n : ℕ) → (bit mask n == 1) ≡ false → span_of f terminals mask (n + 1) ≡ span_of f terminals mask n
-span_passed f terminals mask n has = rw (lowest-more f terminals mask n, highest-more f terminals mask n) (rw has refl)
+pub extent_passed : (f : ℕ → ℕ) (terminals : List Vertex) (mask n : ℕ) → (bit mask n == 1) ≡ false → extent_of f terminals mask (n + 1) ≡ extent_of f terminals mask n
+extent_passed f terminals mask n has = rw (lowest-more f terminals mask n, highest-more f terminals mask n) (rw has refl)
 
 -- the greatest is below what all numbers are below
 pub highest-below : (f : ℕ → ℕ) (terminals : List Vertex) (mask n limit : ℕ) → 0 < limit → ((k : ℕ) → k < n → f (get_or terminals k none).0 < limit) → highest f terminals mask n < limit
@@ -137,7 +137,7 @@ lowest_of l l1 l2 x is = omega (arith, is)
 
 -- two spans that meet in a number are together at least as wide as both in one
 pub width-parts : (f : ℕ → ℕ) (terminals : List Vertex) (one other mask n x : ℕ) → Shared one other mask →
-    width_with (span_of f terminals mask n) x ≤ width_with (span_of f terminals one n) x + width_with (span_of f terminals other n) x
+    width_with (extent_of f terminals mask n) x ≤ width_with (extent_of f terminals one n) x + width_with (extent_of f terminals other n) x
 width-parts f terminals one other mask n x shared =
     let l = lowest f terminals mask n in
     let l1 = lowest f terminals one n in
@@ -151,13 +151,13 @@ width-parts f terminals one other mask n x shared =
 
 -- a number alone has no width
 pub width-single : (f : ℕ → ℕ) (terminals : List Vertex) (p n x : ℕ) → p < n → f (get_or terminals p none).0 ≡ x → x < 2 ^ 32 →
-    width_with (span_of f terminals (single p) n) x ≡ 0
+    width_with (extent_of f terminals (single p) n) x ≡ 0
 width-single f terminals p n x inside is small =
     omega (arith, lowest-single f terminals p n inside (omega (arith, is)), highest-single f terminals p n inside, is)
 
 -- one step changes a width by at most one
-pub width-more : (span : Span) (x : ℕ) → width_with span (x + 1) ≤ width_with span x + 1
-width-more span x = omega arith
+pub width-more : (extent : Extent) (x : ℕ) → width_with extent (x + 1) ≤ width_with extent x + 1
+width-more extent x = omega arith
 
-pub width-less : (span : Span) (x : ℕ) → width_with span x ≤ width_with span (x + 1) + 1
-width-less span x = omega arith
+pub width-less : (extent : Extent) (x : ℕ) → width_with extent x ≤ width_with extent (x + 1) + 1
+width-less extent x = omega arith

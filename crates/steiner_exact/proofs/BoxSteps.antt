@@ -22,16 +22,16 @@ use Rattle.shortest_paths.specs.Masks.{bit, single, AreParts}
 use Rattle.shortest_paths.specs.Sets.{RisesSlowly}
 use Rattle.shortest_paths.specs.Tables.{IsFamily}
 use Rattle.shortest_paths.proofs.FloorSteps.{AreApartBy, scaled, sides_within, sum_within}
-use Rattle.steiner_exact.specs.declared.span.Span.{Span}
+use Rattle.steiner_exact.specs.declared.extent.Extent.{Extent}
 use Rattle.steiner_exact.specs.declared.terminal_box.TerminalBox.{TerminalBox}
-use Rattle.steiner_exact.specs.Boxes.{none, span_of, width_with, with_place, box_distance, IsBoxIn, no_box, box_of, first_box, box_low}
-use Rattle.steiner_exact.proofs.BoxSides.{span_none, span_taken, span_passed, width-parts, width-single, width-more, width-less, highest-below}
+use Rattle.steiner_exact.specs.Boxes.{none, extent_of, width_with, with_place, box_distance, IsBoxIn, no_box, box_of, first_box, box_low}
+use Rattle.steiner_exact.proofs.BoxSides.{extent_none, extent_taken, extent_passed, width-parts, width-single, width-more, width-less, highest-below}
 
-more : (span : Span) (x floor : ℕ) → width_with span (x + 1) * floor ≤ width_with span x * floor + floor
-more span x floor = scaled (width_with span (x + 1)) (width_with span x) floor (width-more span x)
+more : (extent : Extent) (x floor : ℕ) → width_with extent (x + 1) * floor ≤ width_with extent x * floor + floor
+more extent x floor = scaled (width_with extent (x + 1)) (width_with extent x) floor (width-more extent x)
 
-less : (span : Span) (x floor : ℕ) → width_with span x * floor ≤ width_with span (x + 1) * floor + floor
-less span x floor = scaled (width_with span x) (width_with span (x + 1)) floor (width-less span x)
+less : (extent : Extent) (x floor : ℕ) → width_with extent x * floor ≤ width_with extent (x + 1) * floor + floor
+less extent x floor = scaled (width_with extent x) (width_with extent (x + 1)) floor (width-less extent x)
 
 -- a step along an axis
 step_along : (floors : Floors) (box : TerminalBox) (axis : Axis) (p : Place) → AreApartBy (box_distance floors box (next_along axis p)) (box_distance floors box p) (floor_along floors axis)
@@ -71,7 +71,7 @@ pub box-parts : (s : Size) (floors : Floors) (terminals : List Vertex) (one othe
     box_low s floors terminals mask v ≤ box_low s floors terminals one v + box_low s floors terminals other v
 box-parts s floors terminals one other mask v parts =
     let n = length terminals in
-    let width : (ℕ → ℕ) → ℕ → ℕ = λ f m. width_with (span_of f terminals m n) (f v) in
+    let width : (ℕ → ℕ) → ℕ → ℕ = λ f m. width_with (extent_of f terminals m n) (f v) in
     split_sides (width (col_of s) mask) (width (row_of s) mask) (width (layer_of s) mask)
     (width (col_of s) one) (width (row_of s) one) (width (layer_of s) one)
     (width (col_of s) other) (width (row_of s) other) (width (layer_of s) other)
@@ -100,7 +100,7 @@ box-single s floors terminals place v at vertex =
     let inside = slice_get_within terminals place v at in
     let is : (get_or terminals place none).0 ≡ v.0 = ap (λ (x : Vertex). x.0) (get_or_from_slice_get terminals place v none at) in
     let small = fits s v.0 vertex in
-    let width : (ℕ → ℕ) → ℕ = λ f. width_with (span_of f terminals (single place) n) (f v.0) in
+    let width : (ℕ → ℕ) → ℕ = λ f. width_with (extent_of f terminals (single place) n) (f v.0) in
     none_wide (width (col_of s)) (width (row_of s)) (width (layer_of s)) floors.along_x floors.along_y floors.via
     (width-single (col_of s) terminals place n (col_of s v.0) inside (ap (col_of s) is) small.0)
     (width-single (row_of s) terminals place n (row_of s v.0) inside (ap (row_of s) is) small.1)
@@ -119,13 +119,13 @@ box-family s floors pieces terminals are vertices = record {
 -- ---- boxes terminal by terminal
 
 pub box_none : (s : Size) (terminals : List Vertex) (mask : ℕ) → first_box s terminals mask 0 ≡ no_box
-box_none s terminals mask = rw (span_none (col_of s) terminals mask, span_none (row_of s) terminals mask, span_none (layer_of s) terminals mask) refl
+box_none s terminals mask = rw (extent_none (col_of s) terminals mask, extent_none (row_of s) terminals mask, extent_none (layer_of s) terminals mask) refl
 
 pub box_taken : (s : Size) (terminals : List Vertex) (mask n : ℕ) → (bit mask n == 1) ≡ true → first_box s terminals mask (n + 1) ≡ with_place (first_box s terminals mask n) (place_at s (get_or terminals n none).0)
-box_taken s terminals mask n has = rw (span_taken (col_of s) terminals mask n has, span_taken (row_of s) terminals mask n has, span_taken (layer_of s) terminals mask n has) refl
+box_taken s terminals mask n has = rw (extent_taken (col_of s) terminals mask n has, extent_taken (row_of s) terminals mask n has, extent_taken (layer_of s) terminals mask n has) refl
 
 pub box_passed : (s : Size) (terminals : List Vertex) (mask n : ℕ) → (bit mask n == 1) ≡ false → first_box s terminals mask (n + 1) ≡ first_box s terminals mask n
-box_passed s terminals mask n has = rw (span_passed (col_of s) terminals mask n has, span_passed (row_of s) terminals mask n has, span_passed (layer_of s) terminals mask n has) refl
+box_passed s terminals mask n has = rw (extent_passed (col_of s) terminals mask n has, extent_passed (row_of s) terminals mask n has, extent_passed (layer_of s) terminals mask n has) refl
 
 -- ---- limits
 

@@ -15,7 +15,7 @@ use Rattle.shortest_paths.specs.Stamped.{most, far}
 use Rattle.shortest_paths.specs.Masks.{single, all_of}
 use Rattle.shortest_paths.specs.Tables.{IsHoldingTable, IsFamily, IsPrunedTable, completed}
 use Rattle.shortest_paths.proofs.Pruned.{completed_holds}
-use Rattle.steiner_exact.specs.Boxes.{none, span_of, width_with}
+use Rattle.steiner_exact.specs.Boxes.{none, extent_of, width_with}
 use Rattle.steiner_exact.specs.FlatPieces.{edges_with}
 use Rattle.grid_graph.specs.TilePieces.{tiles_of}
 use Rattle.steiner_exact.specs.RowLows.{layers_with, raised_by_layers}
@@ -41,13 +41,13 @@ climbs a b w v via k same near light =
     let layers : w * via ≤ v * via + via = omega (arith, mul-le w via (v + 1) via near (omega arith)) in omega (arith, same, layers, light)
 
 same_layers : (s : Size) (terminals : List Vertex) (mask a b : ℕ) → layer_of s b ≡ layer_of s a → layers_with s terminals mask b ≡ layers_with s terminals mask a
-same_layers s terminals mask a b same = ap (width_with (span_of (layer_of s) terminals mask (length terminals))) same
+same_layers s terminals mask a b same = ap (width_with (extent_of (layer_of s) terminals mask (length terminals))) same
 
 near_layers : (s : Size) (terminals : List Vertex) (mask a b : ℕ) → layer_of s b ≡ layer_of s a + 1 → (layers_with s terminals mask b ≤ layers_with s terminals mask a + 1) × (layers_with s terminals mask a ≤ layers_with s terminals mask b + 1)
 near_layers s terminals mask a b up =
-    let span = span_of (layer_of s) terminals mask (length terminals) in
-    let is : width_with span (layer_of s b) ≡ width_with span (layer_of s a + 1) = ap (width_with span) up in
-    (omega (arith, is, width-more span (layer_of s a)), omega (arith, is, width-less span (layer_of s a)))
+    let extent = extent_of (layer_of s) terminals mask (length terminals) in
+    let is : width_with extent (layer_of s b) ≡ width_with extent (layer_of s a + 1) = ap (width_with extent) up in
+    (omega (arith, is, width-more extent (layer_of s a)), omega (arith, is, width-less extent (layer_of s a)))
 
 -- a table of tiles, and what stands over it
 pub record IsOverTable (flat s : Size) (pieces : List (Piece × ℕ)) (terminals : List Vertex) (floors : Floors) (over : ℕ → ℕ) (across : ℕ → ℕ → ℕ) : Type 0 where

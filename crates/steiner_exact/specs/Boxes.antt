@@ -1,4 +1,4 @@
--- Boxes of terminals: the columns, rows and layers that they span.
+-- Boxes of terminals: the columns, rows and layers that they extent.
 use Rattle.std.specs.Prelude.{ℕ, zero, suc, ◌+◌, ◌-◌, ◌*◌, ◌^◌, ◌<◌, ◌==◌, cond, min, max, List, length, get_or}
 use Rattle.grid_base.specs.declared.place.Place.{Place}
 use Rattle.grid_base.specs.declared.size.Size.{Size}
@@ -7,16 +7,16 @@ use Rattle.grid_base.specs.Lists.{At}
 use Rattle.grid_base.specs.Numbers.{cols, rows, layers, col_of, row_of, layer_of, place_at}
 use Rattle.grid_graph.specs.declared.floors.Floors.{Floors}
 use Rattle.shortest_paths.specs.Masks.{few_terminals, bit}
-use Rattle.steiner_exact.specs.declared.span.Span.{Span}
+use Rattle.steiner_exact.specs.declared.extent.Extent.{Extent}
 use Rattle.steiner_exact.specs.declared.terminal_box.TerminalBox.{TerminalBox}
 
--- the span with one more number
-abbrev pub with_number : Span → ℕ → Span
-with_number span x = record { least = min span.least x; greatest = max span.greatest x }
+-- the extent with one more number
+abbrev pub with_number : Extent → ℕ → Extent
+with_number extent x = record { least = min extent.least x; greatest = max extent.greatest x }
 
 -- how far it reaches with one more number
-abbrev pub width_with : Span → ℕ → ℕ
-width_with span x = max span.greatest x - min span.least x
+abbrev pub width_with : Extent → ℕ → ℕ
+width_with extent x = max extent.greatest x - min extent.least x
 
 -- the box with one more place
 abbrev pub with_place : TerminalBox → Place → TerminalBox
@@ -28,7 +28,7 @@ with_place box place = record {
 
 -- the box of no terminal
 abbrev pub no_box : TerminalBox
-no_box = let nothing : Span = record { least = 2 ^ 32 - 1; greatest = 0 } in record { cols = nothing; rows = nothing; layers = nothing }
+no_box = let nothing : Extent = record { least = 2 ^ 32 - 1; greatest = 0 } in record { cols = nothing; rows = nothing; layers = nothing }
 
 -- how far the box reaches with one more place, each step at its floor
 abbrev pub box_distance : Floors → TerminalBox → Place → ℕ
@@ -56,15 +56,15 @@ highest f terminals mask zero = 0
 highest f terminals mask (suc n) = cond (bit mask n == 1) (max (highest f terminals mask n) (f (get_or terminals n none).0)) (highest f terminals mask n)
 
 -- what f spans over these terminals
-abbrev pub span_of : (ℕ → ℕ) → List Vertex → ℕ → ℕ → Span
-span_of f terminals mask n = record { least = lowest f terminals mask n; greatest = highest f terminals mask n }
+abbrev pub extent_of : (ℕ → ℕ) → List Vertex → ℕ → ℕ → Extent
+extent_of f terminals mask n = record { least = lowest f terminals mask n; greatest = highest f terminals mask n }
 
 -- the box of these terminals
 abbrev pub first_box : Size → List Vertex → ℕ → ℕ → TerminalBox
 first_box s terminals mask n = record {
-  cols = span_of (col_of s) terminals mask n;
-  rows = span_of (row_of s) terminals mask n;
-  layers = span_of (layer_of s) terminals mask n;
+  cols = extent_of (col_of s) terminals mask n;
+  rows = extent_of (row_of s) terminals mask n;
+  layers = extent_of (layer_of s) terminals mask n;
 }
 
 -- the box of a mask's terminals

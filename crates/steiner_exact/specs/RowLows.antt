@@ -6,12 +6,12 @@ use Rattle.grid_base.specs.Numbers.{layer_of}
 use Rattle.grid_graph.specs.Flat.{tile_of}
 use Rattle.shortest_paths.specs.Stamped.{far}
 use Rattle.shortest_paths.specs.Tables.{completed}
-use Rattle.steiner_exact.specs.Boxes.{span_of, width_with}
+use Rattle.steiner_exact.specs.Boxes.{extent_of, width_with}
 use Rattle.grid_graph.specs.TilePieces.{tiles_of}
 
--- how many layers the terminals of a mask span with a vertex
+-- how many layers the terminals of a mask extent with a vertex
 abbrev pub layers_with : Size → List Vertex → ℕ → ℕ → ℕ
-layers_with s terminals mask v = width_with (span_of (layer_of s) terminals mask (length terminals)) (layer_of s v)
+layers_with s terminals mask v = width_with (extent_of (layer_of s) terminals mask (length terminals)) (layer_of s v)
 
 -- the number of a table of tiles, and each layer to go at the floor of vias; far where that is more
 abbrev pub raised_by_layers : Size → List Vertex → ℕ → (ℕ → ℕ → ℕ) → ℕ → ℕ → ℕ

@@ -1,17 +1,17 @@
 //! Boxes of terminals.
 
-ghost use Rattle.steiner_exact.specs.declared.span.Span.{Span};
+ghost use Rattle.steiner_exact.specs.declared.extent.Extent.{Extent};
 
-use crate::span::Span;
+use crate::extent::Extent;
 use grid_base::{Place, Size};
 use grid_graph::Floors;
 
 /// The columns, rows and layers that terminals span.
 #[derive(Debug, Drop, Clone, Copy, PartialEq, Eq)]
 pub struct TerminalBox {
-    pub cols: Span,
-    pub rows: Span,
-    pub layers: Span,
+    pub cols: Extent,
+    pub rows: Extent,
+    pub layers: Extent,
 }
 
 impl TerminalBox {
@@ -23,9 +23,9 @@ impl TerminalBox {
 
     /// The box of no terminal.
     pub const NONE: TerminalBox = TerminalBox {
-        cols: Span::NONE,
-        rows: Span::NONE,
-        layers: Span::NONE,
+        cols: Extent::NONE,
+        rows: Extent::NONE,
+        layers: Extent::NONE,
     };
 
     /// The box with one more place.

@@ -1,1 +1,5 @@
 pub mod WeighedTrees
+pub mod Exchange
+pub mod Growing
+pub mod Reaching
+pub mod LeastRest

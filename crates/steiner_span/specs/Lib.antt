@@ -1,1 +1,4 @@
 pub mod LightTrees
+pub mod Exchanges
+pub mod Growths
+pub mod Aheads

@@ -8,11 +8,11 @@ ghost use Rattle.shortest_paths.specs.LabelWords.{labels_size, masks_of};
 ghost use Rattle.shortest_paths.specs.Paths.{NoneWeighsNothing};
 ghost use Rattle.steiner_span.specs.LightTrees.{IsLightTree};
 
+use crate::grow::grow_tree;
 use crate::weighing::weight_of;
 use grid_base::{NoMemory, Vertex};
 use grid_graph::FlooredWeights;
 use shortest_paths::Labels;
-use tree_growth::grow_tree;
 use tree_set::Tree;
 
 /// A tree of allowed pieces that joins the terminals, and its weight, which is at most that of each spanning tree of the

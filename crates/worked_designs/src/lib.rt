@@ -5,7 +5,7 @@
 //! let same = design_of(alloc, "CROWDED_ROW")?;
 //! ```
 //!
-//! It stands on `ispd_reader`, `grid_graph` and `grid_base`. The tests of `design_tests`, `judge_tests` and `phase_tests` stand
+//! It stands on `ispd_reader`, `grid_graph` and `grid_base`. The tests of `design_tests`, `judge_tests` and `routing_tests` stand
 //! on it, and nothing that a run uses.
 //!
 //! Promised: nothing. The texts are what they are, and the tests say what is read of them.

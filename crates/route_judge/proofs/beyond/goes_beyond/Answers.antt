@@ -1,7 +1,7 @@
 use Rattle.std.proofs.Common.{◌≡◌, false, sym, ◌∙◌, subst}
 use Rattle.std.specs.List.{list_any}
-use Rattle.block_runs.specs.LineCounts.{is_of_kind}
-use Rattle.block_runs.specs.Runs.{pieces_of}
+use Rattle.straight_runs.specs.LineCounts.{is_of_kind}
+use Rattle.straight_runs.specs.Runs.{pieces_of}
 use Rattle.grid_graph.specs.Grids.{size_of}
 use Rattle.route_judge.specs.Measured.{is_beyond}
 use Rattle.route_judge.proofs.Walls.{beyond_open, beyond_choked}

@@ -2,9 +2,9 @@ use Rattle.std.proofs.Common.{◌≡◌, true, refl, inl, inr, Bool, List, [], �
 use Rattle.std.specs.Prelude.{◌↔◌, IsTrue}
 use Rattle.std.proofs.lemmas.List.Elements.{All-contains_itself, All-weaker}
 use Rattle.std.proofs.lemmas.Result.{err_from_is_err_and}
-use Rattle.block_runs.specs.declared.run.Run.{Run}
-use Rattle.block_runs.specs.Merging.{AreMerged}
-use Rattle.block_runs.specs.Runs.{IsRun, pieces_of}
+use Rattle.straight_runs.specs.declared.run.Run.{Run}
+use Rattle.straight_runs.specs.Merging.{AreMerged}
+use Rattle.straight_runs.specs.Runs.{IsStraightRun, pieces_of}
 use Rattle.grid_base.specs.declared.piece.Piece.{Piece}
 use Rattle.grid_base.specs.declared.size.Size.{Size}
 use Rattle.grid_base.specs.declared.vertex.Vertex.{Vertex}
@@ -39,7 +39,7 @@ returns-in_err-listed-clause-stops c =
     rw (exit.1, exit.2) (stops_before c.args.design.now (all_segment_objections c.args.number c.args.block.now.segments) (objections.not_joined c.args.block.now ∷ []) c.in_err-listed.field-0.0 c.in_err-listed.ensures.stops)
 
 pub merged-requires : goal.merged-requires
-merged-requires c = record { runs = subst (λ s. All (IsRun s) c.in_ok-listed.listed.items) (sym c.size.ensures) c.in_ok-listed.ensures.runs }
+merged-requires c = record { runs = subst (λ s. All (IsStraightRun s) c.in_ok-listed.listed.items) (sym c.size.ensures) c.in_ok-listed.ensures.runs }
 
 pub joins_net-requires-clause-runs : goal.joins_net-requires-clause-runs
 joins_net-requires-clause-runs c = rw c.as_slice.ensures.value (sized _ (size_of c.args.design.now.grid) _ _ c.size.ensures c.in_ok-runs.ensures).runs

@@ -1,7 +1,7 @@
 use Rattle.std.proofs.Common.{◌≡◌, ℕ, ◌<◌, List, length, get_or, refl, sym, ◌∙◌, ap, subst, All}
 use Rattle.std.specs.Prelude.{◌↔◌, IfOk, IsTrue}
 use Rattle.std.proofs.lemmas.Option.{slice_get_read, same_Some}
-use Rattle.block_runs.specs.Runs.{IsRun, pieces_of}
+use Rattle.straight_runs.specs.Runs.{IsStraightRun, pieces_of}
 use Rattle.grid_base.specs.declared.vertex.Vertex.{Vertex}
 use Rattle.grid_base.specs.Lists.{At}
 use Rattle.grid_base.specs.Numbers.{IsVertex}
@@ -15,7 +15,7 @@ read_net : (nets xs : List NetSpec) (place : ℕ) (n : NetSpec) → xs ≡ nets 
 read_net nets xs place n same below is = slice_get_read nets _ place n refl below (is ∙ ap (λ ys. get_or ys place n) same)
 
 pub runs_join-requires-clause-runs : goal.runs_join-requires-clause-runs
-runs_join-requires-clause-runs c = subst (λ s. All (IsRun s) c.args.runs.now) (sym c.size.ensures) c.requires.runs
+runs_join-requires-clause-runs c = subst (λ s. All (IsStraightRun s) c.args.runs.now) (sym c.size.ensures) c.requires.runs
 
 pub runs_join-requires-clause-vertices : goal.runs_join-requires-clause-vertices
 runs_join-requires-clause-vertices c =

@@ -1,7 +1,7 @@
 use Rattle.std.proofs.Common.{◌≡◌, ℕ, ◌<◌, refl, sym, subst, ◌∙◌, List, length, get_or, take, Some, None}
 use Rattle.std.proofs.lemmas.Option.{same_Some, slice_get_read}
 use Rattle.std.proofs.lemmas.Result.{err_from_is_err_and}
-use Rattle.block_runs.specs.Runs.{pieces_of}
+use Rattle.straight_runs.specs.Runs.{pieces_of}
 use Rattle.grid_base.specs.Lists.{At}
 use Rattle.grid_graph.specs.Grids.{size_of}
 use Rattle.route_text.specs.declared.block.Block.{Block}

@@ -1,4 +1,4 @@
-use Rattle.block_runs.specs.Runs.{pieces_of}
+use Rattle.straight_runs.specs.Runs.{pieces_of}
 use Rattle.route_judge.proofs.RunPieces.{same_joining, same_pieces}
 use Rattle.route_judge.proofs.joining.runs_join.Goals as goal
 

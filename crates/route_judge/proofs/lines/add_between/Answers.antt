@@ -1,6 +1,6 @@
 use Rattle.std.proofs.Common.{◌≡◌, true, Contains, Some, refl, sym, subst}
-use Rattle.block_runs.specs.Between.{IsRunBetween, RunsBetween}
-use Rattle.block_runs.specs.Runs.{run_pieces}
+use Rattle.straight_runs.specs.Between.{IsRunBetween, RunsBetween}
+use Rattle.straight_runs.specs.Runs.{run_pieces}
 use Rattle.grid_graph.specs.Grids.{size_of}
 use Rattle.route_judge.specs.Lines.{ArePut, HasWall}
 use Rattle.route_judge.proofs.Puts.{put_run, wall_among}

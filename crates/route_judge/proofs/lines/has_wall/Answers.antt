@@ -1,14 +1,14 @@
 use Rattle.std.proofs.Common.{◌≡◌, ◌<◌, ◌∙◌, ap, sym, subst}
 use Rattle.std.proofs.lemmas.Bool.{lt-ltb, ltb-true}
-use Rattle.block_runs.specs.LineCounts.{kind_count}
-use Rattle.block_runs.specs.Runs.{IsRun, run_pieces}
+use Rattle.straight_runs.specs.LineCounts.{kind_count}
+use Rattle.straight_runs.specs.Runs.{IsStraightRun, run_pieces}
 use Rattle.grid_graph.specs.declared.kind.Kind.TheVariants.{Wall}
 use Rattle.grid_graph.specs.Grids.{size_of}
 use Rattle.route_judge.proofs.Walls.{wall_where_counted, counted_where_wall}
 use Rattle.route_judge.proofs.lines.has_wall.Goals as goal
 
 pub count-requires : goal.count-requires
-count-requires c = subst (λ g. IsRun (size_of g) c.args.run) (sym c.requires.walls.of_grid) c.requires.run
+count-requires c = subst (λ g. IsStraightRun (size_of g) c.args.run) (sym c.requires.walls.of_grid) c.requires.run
 
 pub returns : goal.returns
 returns c =

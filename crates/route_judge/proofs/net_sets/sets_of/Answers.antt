@@ -3,8 +3,8 @@ use Rattle.std.proofs.lemmas.List.{take_all}
 use Rattle.std.proofs.lemmas.Option.{get_or_from_slice_get, slice_get-get_or}
 use Rattle.std.proofs.lemmas.Result.{err_from_is_err_and}
 use Rattle.std.specs.Prelude.{◌↔◌}
-use Rattle.block_runs.specs.declared.run.Run.{Run}
-use Rattle.block_runs.specs.Runs.{IsRun, pieces_of}
+use Rattle.straight_runs.specs.declared.run.Run.{Run}
+use Rattle.straight_runs.specs.Runs.{IsStraightRun, pieces_of}
 use Rattle.grid_base.specs.declared.piece.Piece.{Piece}
 use Rattle.grid_base.specs.declared.size.Size.{Size}
 use Rattle.grid_graph.specs.Grids.{size_of}
@@ -21,7 +21,7 @@ set_of_sized s t given runs tree size list same = subst (λ rs. (p : Piece) → 
 
 pub set_of_runs-requires : goal.set_of_runs-requires
 set_of_runs-requires c =
-    subst (λ s. All (IsRun s) c.as_slice.result.now) (sym c.size.ensures) (subst (All (IsRun (size_of c.args.design.now.grid))) (sym c.as_slice.ensures.value) c.in_ok-place.ensures.runs)
+    subst (λ s. All (IsStraightRun s) c.as_slice.result.now) (sym c.size.ensures) (subst (All (IsStraightRun (size_of c.args.design.now.grid))) (sym c.as_slice.ensures.value) c.in_ok-place.ensures.runs)
 
 pub returns-in_err-place-clause-stops : goal.returns-in_err-place-clause-stops
 returns-in_err-place-clause-stops c =

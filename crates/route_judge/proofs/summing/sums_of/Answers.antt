@@ -3,7 +3,7 @@ use Rattle.std.proofs.lemmas.List.{take_all}
 use Rattle.std.proofs.lemmas.Option.{slice_get_read, slice_get-get_or}
 use Rattle.std.proofs.lemmas.Result.{err_from_is_err_and}
 use Rattle.std.proofs.lemmas.Slice.Zip.{AllZip-long}
-use Rattle.block_runs.specs.Runs.{IsRun, pieces_of}
+use Rattle.straight_runs.specs.Runs.{IsStraightRun, pieces_of}
 use Rattle.grid_base.specs.Lists.{At, HasNoRepeats}
 use Rattle.grid_graph.specs.declared.design.Design.{Design}
 use Rattle.grid_graph.specs.declared.ground.Ground.{Ground}
@@ -48,7 +48,7 @@ add-requires-clause-width c =
     (d.limits.net c.in_ok-block.block.place c.index-list-block.result at).width
 
 pub add-requires-clause-runs : goal.add-requires-clause-runs
-add-requires-clause-runs c = subst (All (IsRun (size_of c.args.design.now.grid))) (sym c.as_slice-runs.ensures.value) c.in_ok-block.ensures.runs
+add-requires-clause-runs c = subst (All (IsStraightRun (size_of c.args.design.now.grid))) (sym c.as_slice-runs.ensures.value) c.in_ok-block.ensures.runs
 
 pub add-requires-clause-distinct : goal.add-requires-clause-distinct
 add-requires-clause-distinct c =

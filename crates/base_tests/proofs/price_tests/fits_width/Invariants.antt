@@ -1,8 +1,0 @@
-use Rattle.std.proofs.Common.{ℕ, ◌+◌, ◌<◌, ◌≤◌}
-use Rattle.grid_graph.specs.Grids.{spacing_of_layer}
-use Rattle.grid_graph.specs.Limits.{max_demand}
-use Rattle.base_tests.proofs.price_tests.fits_width.Given as goal
-
--- the width fits the layers before this one
-abbrev pub invariant-loop-layer : goal.invariant-loop-layer
-invariant-loop-layer l = (k : ℕ) → k < l.layer → l.width + spacing_of_layer l.grid k ≤ max_demand

@@ -1,8 +1,0 @@
-use Rattle.std.proofs.Common.{◌<◌, ℕ, get_or}
-use Rattle.block_runs.specs.declared.run.Run.{Run}
-use Rattle.block_runs.specs.Runs.{IsRun}
-use Rattle.base_tests.proofs.straight_run_tests.are_runs.Given as goal
-
--- those so far are runs
-abbrev pub invariant-loop-run : goal.invariant-loop-run
-invariant-loop-run l = (k : ℕ) (d : Run) → k < l.run-index → IsRun l.size (get_or l.runs k d)

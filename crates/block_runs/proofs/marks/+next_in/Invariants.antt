@@ -1,6 +1,0 @@
-use Rattle.std.proofs.Common.{length}
-use Rattle.block_runs.proofs.marks.+next_in.Given as goal
-
--- the rows that are left
-abbrev pub decreases-next_in : goal.decreases-next_in
-decreases-next_in l = length l.rows.now

@@ -1,6 +1,0 @@
-use Rattle.block_runs.specs.Touching.{AreGroups}
-use Rattle.block_runs.proofs.sweep.cross.Given as goal
-
--- walks lead through the groups
-abbrev pub invariant-loop : goal.invariant-loop
-invariant-loop l = AreGroups l.size l.runs l.groups

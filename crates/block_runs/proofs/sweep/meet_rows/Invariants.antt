@@ -1,6 +1,0 @@
-use Rattle.block_runs.specs.Touching.{AreGroups}
-use Rattle.block_runs.proofs.sweep.meet_rows.Given as goal
-
--- walks lead through the groups
-abbrev pub invariant-loop-i : goal.invariant-loop-i
-invariant-loop-i l = AreGroups l.size l.runs l.groups

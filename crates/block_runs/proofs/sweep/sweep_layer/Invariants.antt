@@ -1,6 +1,0 @@
-use Rattle.block_runs.specs.Touching.{AreGroups}
-use Rattle.block_runs.proofs.sweep.sweep_layer.Given as goal
-
--- walks lead through the groups
-abbrev pub invariant-loop-stack : goal.invariant-loop-stack
-invariant-loop-stack l = AreGroups l.size l.runs l.groups

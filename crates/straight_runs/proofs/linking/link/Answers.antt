@@ -1,0 +1,18 @@
+use Rattle.std.proofs.Common.{◌∙◌}
+use Rattle.straight_runs.specs.Runs.{pieces_of}
+use Rattle.straight_runs.specs.Touching.{IsRunWith, first_of}
+use Rattle.straight_runs.proofs.Chained.{walk_over}
+use Rattle.straight_runs.proofs.linking.link.Goals as goal
+
+pub returns : goal.returns
+returns c =
+    let s = c.args.size in
+    let runs = c.args.runs.now in
+    let one : IsRunWith s runs c.args.at.0 c.args.one.run = c.is_at.ensures c.if-not-is_at.false in
+    let other : IsRunWith s runs c.args.at.0 c.args.other.run = c.is_at-else-not-is_at.ensures c.if-not-is_at-2.false in
+    record {
+      long = c.unite.ensures.long ∙ c.requires.groups.long;
+      chained = c.unite.ensures.chained s (pieces_of s runs) (first_of runs)
+          (walk_over s runs c.args.one.run c.args.other.run c.args.at.0 c.requires.runs one.0 other.0 one.1 other.1)
+          c.requires.groups.chained;
+    }

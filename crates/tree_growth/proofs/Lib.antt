@@ -1,4 +1,0 @@
-pub mod Exchange
-pub mod Growing
-pub mod Reaching
-pub mod LeastRest
