@@ -5,10 +5,10 @@ ghost use Rattle.grid_base.specs.Numbers.{IsPiece, IsVertex};
 ghost use Rattle.straight_runs.specs.Runs.{IsStraightRun};
 
 use crate::rows::{agree, numbers_text};
-use straight_runs::{Direction, LoadSums, Run, joins_surely, merged, piece_count, set_of_runs};
 use grid_base::{Piece, Size, Vertex};
 use std::alloc::Global;
 use std::test::Fail;
+use straight_runs::{Direction, LoadSums, Run, joins_surely, merged, piece_count, set_of_runs};
 use tree_set::joins;
 
 /// Whether a run has a piece, and all that it names are pieces of the grid.

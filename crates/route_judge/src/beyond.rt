@@ -8,8 +8,8 @@ ghost use Rattle.grid_graph.specs.Grids.{size_of};
 ghost use Rattle.route_judge.specs.KindCounts.{AreCountsOf};
 ghost use Rattle.route_judge.specs.Measured as measured;
 
-use straight_runs::{LineCounts, Run};
 use grid_graph::{Grid, Ground};
+use straight_runs::{LineCounts, Run};
 
 /// Whether one of the runs has a choked edge that the ground doesn't allow.
 pub(crate) fn goes_beyond(grid: &Grid, choked: &LineCounts<'_>, over: Ground, runs: &[Run]) -> bool

@@ -27,11 +27,11 @@ use crate::segments::runs_of;
 use crate::stop::Stop;
 use crate::taken::TakenNets;
 use crate::tested::TestedBlock;
-use straight_runs::{LineCounts, Run, merged};
 use grid_base::NoMemory;
 use grid_graph::Design;
 use route_text::Block;
 use std::alloc::Global;
+use straight_runs::{LineCounts, Run, merged};
 
 /// Whether the runs' pieces join the terminals of the net at this place.
 fn joins_net(alloc: Global, design: &Design, place: usize, runs: &[Run]) -> Result<bool, NoMemory>

@@ -5,9 +5,9 @@ ghost use Rattle.straight_runs.specs.Runs.{IsStraightRun, pieces_of};
 ghost use Rattle.grid_base.specs.Numbers.{IsVertex};
 ghost use Rattle.grid_base.specs.Walks.{JoinsList};
 
-use straight_runs::{Run, joins_surely, set_of_runs};
 use grid_base::{NoMemory, Size, Vertex};
 use std::alloc::Global;
+use straight_runs::{Run, joins_surely, set_of_runs};
 use tree_set::joins;
 
 /// Whether walks in the runs' pieces lead from each of the terminals to each other one.

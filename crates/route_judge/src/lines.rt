@@ -12,9 +12,9 @@ ghost use Rattle.route_judge.specs.Lines.{ArePut, HasWall, IsForWall};
 
 use crate::reason::Reason;
 use crate::stop::Stop;
-use straight_runs::{LineCounts, Run, run_between};
 use grid_base::Place;
 use grid_graph::Grid;
+use straight_runs::{LineCounts, Run, run_between};
 
 /// Whether a run has a wall, by the counts of walls.
 fn has_wall(grid: &Grid, walls: &LineCounts<'_>, run: Run) -> bool

@@ -11,11 +11,11 @@ use crate::net_places::NetPlaces;
 use crate::stop::Stop;
 use crate::taken::TakenNets;
 use crate::tested::TestedBlock;
-use straight_runs::{LineCounts, set_of_runs};
 use grid_base::NoMemory;
 use grid_graph::{Design, Kind};
 use route_text::Block;
 use std::alloc::Global;
+use straight_runs::{LineCounts, set_of_runs};
 use tree_set::Tree;
 
 /// One empty set per net.

@@ -12,10 +12,10 @@ ghost use Rattle.route_judge.specs.KindCounts.{AreCountsOf};
 ghost use Rattle.route_judge.specs.Measured as measured;
 
 use crate::beyond::goes_beyond;
-use straight_runs::{LineCounts, LoadSums, Run, piece_count};
 use grid_base::{NoMemory, Size};
 use grid_graph::{Grid, Ground};
 use std::alloc::Global;
+use straight_runs::{LineCounts, LoadSums, Run, piece_count};
 
 /// The loads, the wirelength and the nets beyond their grounds, of the sets so far.
 #[derive(Drop)]

@@ -19,11 +19,11 @@ use crate::lines::add_between;
 use crate::placing::place_of;
 use crate::reason::Reason;
 use crate::stop::Stop;
-use straight_runs::{LineCounts, Run};
 use grid_base::Place;
 use grid_graph::Design;
 use route_text::{Block, Segment};
 use std::alloc::Global;
+use straight_runs::{LineCounts, Run};
 
 /// Whether two places differ in at most one of column, row and layer.
 fn are_in_line(from: Place, to: Place) -> bool

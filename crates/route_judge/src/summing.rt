@@ -13,10 +13,10 @@ use crate::net_places::NetPlaces;
 use crate::running_measure::RunningMeasure;
 use crate::stop::Stop;
 use crate::taken::TakenNets;
-use straight_runs::LineCounts;
 use grid_graph::{Design, Ground, Kind};
 use route_text::Block;
 use std::alloc::Global;
+use straight_runs::LineCounts;
 
 /// The sums of all sets. Stops at the first reason against the blocks. Each block's runs are let go before the next is read.
 pub(crate) fn sums_of(

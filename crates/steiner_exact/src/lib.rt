@@ -20,6 +20,7 @@
 
 mod box_family;
 mod boxes;
+mod extent;
 mod flat_edges;
 mod flat_size;
 mod flat_weights;
@@ -32,19 +33,18 @@ mod reading;
 mod root_label;
 mod root_search;
 mod row_family;
-mod extent;
 mod terminal_box;
 mod tiles;
 mod tree_labels;
 mod trees;
 
 pub use box_family::BoxFamily;
+pub use extent::Extent;
 pub use flat_size::flat_of;
 pub use flat_weights::FlatWeights;
 pub use guess::tree_guess;
 pub use root_search::least_at_root;
 pub use row_family::RowFamily;
-pub use extent::Extent;
 pub use terminal_box::TerminalBox;
 pub use tiles::tiles_of;
 pub use tree_labels::TreeLabels;
