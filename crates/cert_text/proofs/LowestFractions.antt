@@ -5,9 +5,9 @@ use Rattle.std.proofs.Math.Bridge.{le_prop}
 use Rattle.std.proofs.Math.Nat.{eq_of_mul-eq-mul_right, le_of_mul-le-mul_right, mul-le-mul_right, dvd-mul_left, ℕ_set}
 use Rattle.std.proofs.lemmas.Nat.Gcd.{le_of_dvd}
 use Rattle.std.specs.Int.{◌∣◌}
-use Rattle.tree_set.specs.Fractions.{IsRatio}
-use Rattle.tree_set.specs.LowestTerms.{IsLowest}
-use Rattle.tree_set.specs.declared.fraction.Fraction.{Fraction}
+use Rattle.fractions.specs.Fractions.{IsRatio}
+use Rattle.fractions.specs.LowestTerms.{IsLowest}
+use Rattle.fractions.specs.declared.fraction.Fraction.{Fraction}
 
 -- a/b and c/d are multiples of one fraction
 record AreMultiples (a b c d : ℕ) : Type 0 where

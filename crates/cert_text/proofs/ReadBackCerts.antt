@@ -7,10 +7,10 @@ use Rattle.text_scan.specs.Parts.{parts_at}
 use Rattle.text_scan.specs.Reading.{Reading, whole, left, past_blanks}
 use Rattle.text_scan.specs.Tokens.{is_word}
 use Rattle.text_scan.proofs.Texts.{Leads, leads-then, gap_is_left}
-use Rattle.tree_set.specs.Budgets.{IsWithinLimits}
-use Rattle.tree_set.specs.Limits.{max_wirelength_price}
-use Rattle.tree_set.specs.declared.budget.Budget.{Budget}
-use Rattle.tree_set.specs.declared.fraction.Fraction.{Fraction}
+use Rattle.edge_prices.specs.Budgets.{IsWithinLimits}
+use Rattle.edge_prices.specs.Limits.{max_price}
+use Rattle.edge_prices.specs.declared.budget.Budget.{Budget}
+use Rattle.fractions.specs.declared.fraction.Fraction.{Fraction}
 use Rattle.cert_text.specs.declared.cert.Cert.{Cert}
 use Rattle.cert_text.specs.declared.cert_error.CertError.TheVariants.{PriceLimit, NumberLimit}
 use Rattle.cert_text.specs.declared.ratio.Ratio.{Ratio}
@@ -62,7 +62,7 @@ stated_budget_leads b r rest within here =
     leads-then _ (fixed_word_leads (codes "budget") r _ (word_is_found r (10 ∷ []) (codes "budget") _ refl refl refl parts)) (λ r1 here1.
     leads-then _ (limited_leads NumberLimit 1 max_budget b.most r1 _ limits.0.0 limits.0.1 (omega arith)
     (word_is_found r1 (32 ∷ []) (decimal b.most) _ refl (printed b.most (omega (arith, limits.0.1))).word refl here1)) (λ r2 here2.
-    leads-then _ (limited_leads PriceLimit 0 max_wirelength_price b.price r2 _ (omega arith) limits.1 (omega arith)
+    leads-then _ (limited_leads PriceLimit 0 max_price b.price r2 _ (omega arith) limits.1 (omega arith)
     (word_is_found r2 (32 ∷ []) (decimal b.price) _ refl (printed b.price (omega (arith, limits.1))).word refl here2)) (λ r3 here3.
     record { after = r3; reads = refl; leaves = here3 })))
 

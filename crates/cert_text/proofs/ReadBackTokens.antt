@@ -15,8 +15,8 @@ use Rattle.text_scan.specs.Within.{within}
 use Rattle.text_scan.proofs.Digits.{numerals}
 use Rattle.text_scan.proofs.Texts.{Leads, word_is_next, left_past_token, number_is_word, word_is_long}
 use Rattle.text_scan.proofs.Words.{printed_number}
-use Rattle.tree_set.specs.Limits.{numerator_limit}
-use Rattle.tree_set.specs.declared.fraction.Fraction.{Fraction}
+use Rattle.fractions.specs.Limits.{numerator_limit}
+use Rattle.fractions.specs.declared.fraction.Fraction.{Fraction}
 use Rattle.cert_text.specs.declared.cert_error.CertError.{CertError}
 use Rattle.cert_text.specs.declared.ratio.Ratio.{Ratio}
 use Rattle.cert_text.specs.declared.version.Version.{Version}

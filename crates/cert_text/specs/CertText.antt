@@ -1,7 +1,7 @@
 -- The text of a certificate: a line for each thing that it says, and then the prices, one a line.
 use Rattle.std.specs.Prelude.{ℕ, List, [], ◌++◌, length, flat_map, codes, decimal, Option, Some, None}
-use Rattle.tree_set.specs.declared.budget.Budget.{Budget}
-use Rattle.tree_set.specs.declared.fraction.Fraction.{Fraction}
+use Rattle.edge_prices.specs.declared.budget.Budget.{Budget}
+use Rattle.fractions.specs.declared.fraction.Fraction.{Fraction}
 use Rattle.cert_text.specs.declared.cert.Cert.{Cert}
 use Rattle.cert_text.specs.Versions.{version_text, version_of}
 

@@ -6,7 +6,7 @@ use Rattle.text_scan.specs.Parts.{◌>>=◌, or_refuse}
 use Rattle.text_scan.specs.Reading.{Reading, first_token, past_token}
 use Rattle.text_scan.specs.Tokens.{Token}
 use Rattle.text_scan.specs.Within.{within}
-use Rattle.tree_set.specs.Limits.{numerator_limit}
+use Rattle.fractions.specs.Limits.{numerator_limit}
 use Rattle.cert_text.specs.declared.cert_error.CertError.{CertError}
 use Rattle.cert_text.specs.declared.cert_error.CertError.TheVariants.{Syntax, NumberLimit}
 use Rattle.cert_text.specs.declared.ratio.Ratio.{Ratio}

@@ -1,9 +1,9 @@
 -- The certificate of a text, and the limits of certificates.
 use Rattle.std.specs.Prelude.{ℕ, ◌≡◌, ◌≤◌, List, All, length, Option, Some, None, Ok}
 use Rattle.std.specs.Option.{ForSome}
-use Rattle.tree_set.specs.Budgets.{IsWithinLimits}
-use Rattle.tree_set.specs.Fractions.{IsRatio}
-use Rattle.tree_set.specs.declared.fraction.Fraction.{Fraction}
+use Rattle.edge_prices.specs.Budgets.{IsWithinLimits}
+use Rattle.fractions.specs.Fractions.{IsRatio}
+use Rattle.fractions.specs.declared.fraction.Fraction.{Fraction}
 use Rattle.cert_text.specs.declared.cert.Cert.{Cert}
 use Rattle.cert_text.specs.declared.ratio.Ratio.{Ratio}
 use Rattle.cert_text.specs.declared.stated.Stated.{Stated}

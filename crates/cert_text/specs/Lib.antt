@@ -1,7 +1,7 @@
 pub use Rattle.gr_desk.specs.Pens
 pub use Rattle.text_scan.specs.Tokens
-pub use Rattle.tree_set.specs.Budgets
-pub use Rattle.tree_set.specs.Fractions
+pub use Rattle.edge_prices.specs.Budgets
+pub use Rattle.fractions.specs.Fractions
 pub mod Versions
 pub mod CertText
 pub mod Limits

@@ -3,8 +3,8 @@ use Rattle.std.specs.Prelude.{ℕ, List, codes, if◌then◌else◌, Option, Som
 use Rattle.grid_graph.specs.Limits.{max_budget}
 use Rattle.text_scan.specs.Parts.{◌>>=◌, parts_at}
 use Rattle.text_scan.specs.Reading.{Reading, whole, next_byte, next_place, past_blanks}
-use Rattle.tree_set.specs.Limits.{max_wirelength_price}
-use Rattle.tree_set.specs.declared.budget.Budget.{Budget}
+use Rattle.edge_prices.specs.Limits.{max_price}
+use Rattle.edge_prices.specs.declared.budget.Budget.{Budget}
 use Rattle.cert_text.specs.declared.cert_error.CertError.{CertError}
 use Rattle.cert_text.specs.declared.cert_error.CertError.TheVariants.{Syntax, PriceLimit, NumberLimit}
 use Rattle.cert_text.specs.declared.ratio.Ratio.{Ratio}
@@ -39,7 +39,7 @@ unfoldable pub stated_budget_at : Reading → CertRead Budget
 stated_budget_at r = do
   word ← fixed_word_at (codes "budget") r
   most ← limited_at NumberLimit 1 max_budget word.1
-  price ← limited_at PriceLimit 0 max_wirelength_price most.1
+  price ← limited_at PriceLimit 0 max_price most.1
   Ok (record { most = most.0; price = price.0 }, price.1)
 
 -- the budget, in the version that has one

@@ -1,8 +1,8 @@
 -- The limits of what a text states.
 use Rattle.std.specs.Prelude.{◌≤◌, ◌<◌, All, length, Option}
 use Rattle.std.specs.Option.{ForSome}
-use Rattle.tree_set.specs.Budgets.{IsWithinLimits}
-use Rattle.tree_set.specs.Limits.{numerator_limit}
+use Rattle.edge_prices.specs.Budgets.{IsWithinLimits}
+use Rattle.fractions.specs.Limits.{numerator_limit}
 use Rattle.cert_text.specs.declared.ratio.Ratio.{Ratio}
 use Rattle.cert_text.specs.declared.stated.Stated.{Stated}
 use Rattle.cert_text.specs.declared.version.Version.{Version}

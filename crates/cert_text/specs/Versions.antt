@@ -1,7 +1,7 @@
 -- The two versions of the text of a certificate.
 use Rattle.std.specs.Prelude.{ℕ, ◌^◌, List, codes, Option, Some, None}
-use Rattle.tree_set.specs.Limits.{max_denominator}
-use Rattle.tree_set.specs.declared.budget.Budget.{Budget}
+use Rattle.fractions.specs.Limits.{max_denominator}
+use Rattle.edge_prices.specs.declared.budget.Budget.{Budget}
 use Rattle.cert_text.specs.declared.version.Version.{Version}
 use Rattle.cert_text.specs.declared.version.Version.TheVariants.{One, Two}
 

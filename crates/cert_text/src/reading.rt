@@ -1,7 +1,7 @@
 //! Reads a certificate.
 
 ghost use Rattle.std.specs.Prelude.{◌≡◌, ◌≤◌, length, All, IfOk, IfErr};
-ghost use Rattle.tree_set.specs.Budgets.{IsWithinLimits};
+ghost use Rattle.edge_prices.specs.Budgets.{IsWithinLimits};
 ghost use Rattle.cert_text.specs.Versions.{version_of};
 ghost use Rattle.cert_text.specs.Limits.{max_stated_count, max_stated_price};
 ghost use Rattle.cert_text.specs.CertReads.{IsCertReadAs, RefusesCert};

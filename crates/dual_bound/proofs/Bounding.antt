@@ -2,8 +2,8 @@
 use Rattle.std.proofs.Common.{ℕ, ◌*◌, ◌<◌, ◌≤◌, List, Option, subst}
 use Rattle.rayon.proofs.ListFacts.{AllZip-weaken}
 use Rattle.grid_graph.specs.declared.design.Design.{Design}
-use Rattle.tree_set.specs.declared.budget.Budget.{Budget}
-use Rattle.tree_set.specs.Budgets.{most_of}
+use Rattle.edge_prices.specs.declared.budget.Budget.{Budget}
+use Rattle.edge_prices.specs.Budgets.{most_of}
 use Rattle.dual_bound.specs.Bounds.{BoundsDesign}
 use Rattle.dual_bound.specs.DesignBounds.{IsAtMostEachRoute, IsBoundOfNet, IsSumOfBounds}
 use Rattle.dual_bound.specs.Prices.{ArePricesWith, capacity_cost}

@@ -5,8 +5,8 @@ use Rattle.std.proofs.lemmas.List.Sums.{sum_by-cons}
 use Rattle.grid_graph.specs.declared.grid.Grid.{Grid}
 use Rattle.grid_graph.specs.Grids.{capacity, edge_numbers}
 use Rattle.edge_prices.specs.Vectors.{capacity_of}
-use Rattle.tree_set.specs.declared.budget.Budget.{Budget}
-use Rattle.tree_set.specs.Budgets.{most_of, price_per_piece}
+use Rattle.edge_prices.specs.declared.budget.Budget.{Budget}
+use Rattle.edge_prices.specs.Budgets.{most_of, price_per_piece}
 use Rattle.dual_bound.specs.Prices.{price_at, capacity_cost}
 use Rattle.dual_bound.proofs.Closed.{at_edge, at_wirelength}
 

@@ -4,8 +4,8 @@ use Rattle.std.proofs.lemmas.Bool.{cases_eq}
 use Rattle.grid_graph.specs.declared.grid.Grid.{Grid}
 use Rattle.grid_graph.specs.Grids.{capacity, edge_numbers, entries}
 use Rattle.edge_prices.specs.Vectors.{capacity_of}
-use Rattle.tree_set.specs.declared.budget.Budget.{Budget}
-use Rattle.tree_set.specs.Budgets.{most_of, price_per_piece, IsWithinLimits}
+use Rattle.edge_prices.specs.declared.budget.Budget.{Budget}
+use Rattle.edge_prices.specs.Budgets.{most_of, price_per_piece, IsWithinLimits}
 use Rattle.dual_bound.specs.Prices.{ArePricesWith, price_at}
 
 -- the entry of the wirelength, or one of an edge

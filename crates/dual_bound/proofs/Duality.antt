@@ -10,8 +10,8 @@ use Rattle.grid_graph.specs.declared.grid.Grid.{Grid}
 use Rattle.grid_graph.specs.declared.net_spec.NetSpec.{NetSpec}
 use Rattle.grid_graph.specs.Grids.{edge_numbers, entries}
 use Rattle.edge_prices.specs.Vectors.{capacity_of}
-use Rattle.tree_set.specs.declared.budget.Budget.{Budget}
-use Rattle.tree_set.specs.Budgets.{most_of}
+use Rattle.edge_prices.specs.declared.budget.Budget.{Budget}
+use Rattle.edge_prices.specs.Budgets.{most_of}
 use Rattle.tree_set.specs.Loads.{tree_load, load_on, net_load, load}
 use Rattle.tree_set.specs.Measures.{wirelength}
 use Rattle.tree_set.specs.Routings.{IsRouting}

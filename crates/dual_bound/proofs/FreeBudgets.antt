@@ -7,8 +7,8 @@ use Rattle.grid_graph.specs.declared.grid.Grid.{Grid}
 use Rattle.grid_graph.specs.declared.net_spec.NetSpec.{NetSpec}
 use Rattle.grid_graph.specs.Grids.{capacity, edge_numbers}
 use Rattle.edge_prices.specs.Vectors.{capacity_of}
-use Rattle.tree_set.specs.declared.fraction.Fraction.{Fraction}
-use Rattle.tree_set.specs.Fractions.{IsRatio}
+use Rattle.fractions.specs.declared.fraction.Fraction.{Fraction}
+use Rattle.fractions.specs.Fractions.{IsRatio}
 use Rattle.dual_bound.specs.Bounds.{BoundsDesign}
 use Rattle.dual_bound.specs.DesignBounds.{IsBoundOfNet, IsBoundOrNone, IsSumOfBounds}
 use Rattle.dual_bound.specs.Prices.{capacity_cost, free_budget}

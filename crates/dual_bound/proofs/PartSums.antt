@@ -8,7 +8,7 @@ use Rattle.std.proofs.lemmas.List.Sums.{sum_by-cons, sum_by-append}
 use Rattle.rayon.proofs.ListFacts.{AllZip-append}
 use Rattle.grid_graph.specs.declared.grid.Grid.{Grid}
 use Rattle.grid_graph.specs.declared.net_spec.NetSpec.{NetSpec}
-use Rattle.tree_set.specs.declared.budget.Budget.{Budget}
+use Rattle.edge_prices.specs.declared.budget.Budget.{Budget}
 use Rattle.dual_bound.specs.DesignBounds.{IsBoundOfNet, IsSumOfBounds}
 
 module _ (g : Grid) (prices : List ℕ) (budget : Option Budget) where

@@ -10,10 +10,10 @@ use Rattle.grid_graph.specs.Grids.{size_of}
 use Rattle.grid_graph.specs.Grounds.{IsGround}
 use Rattle.lower_bound.specs.Costs.{costed}
 use Rattle.lower_bound.specs.NetBounds.{IsNetBound}
-use Rattle.tree_set.specs.declared.budget.Budget.{Budget}
-use Rattle.tree_set.specs.declared.fraction.Fraction.{Fraction}
-use Rattle.tree_set.specs.Budgets.{price_per_piece}
-use Rattle.tree_set.specs.Fractions.{IsRatio}
+use Rattle.edge_prices.specs.declared.budget.Budget.{Budget}
+use Rattle.fractions.specs.declared.fraction.Fraction.{Fraction}
+use Rattle.edge_prices.specs.Budgets.{price_per_piece}
+use Rattle.fractions.specs.Fractions.{IsRatio}
 use Rattle.tree_set.specs.Routings.{IsRoute}
 use Rattle.dual_bound.specs.Prices.{capacity_cost, load_cost}
 

@@ -1,6 +1,6 @@
 pub use Rattle.grid_graph.specs.Grids
-pub use Rattle.tree_set.specs.Budgets
-pub use Rattle.tree_set.specs.Fractions
+pub use Rattle.edge_prices.specs.Budgets
+pub use Rattle.fractions.specs.Fractions
 pub use Rattle.tree_set.specs.Loads
 pub use Rattle.tree_set.specs.Routings
 pub use Rattle.lower_bound.specs.Costs

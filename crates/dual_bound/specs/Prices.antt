@@ -7,8 +7,8 @@ use Rattle.grid_graph.specs.declared.grid.Grid.{Grid}
 use Rattle.grid_graph.specs.Grids.{edge_numbers, entries}
 use Rattle.edge_prices.specs.Vectors.{capacity_of}
 use Rattle.edge_prices.specs.Weights.{AreEdgePrices}
-use Rattle.tree_set.specs.declared.budget.Budget.{Budget}
-use Rattle.tree_set.specs.Budgets.{IsWithinLimits, most_of, price_per_piece}
+use Rattle.edge_prices.specs.declared.budget.Budget.{Budget}
+use Rattle.edge_prices.specs.Budgets.{IsWithinLimits, most_of, price_per_piece}
 use Rattle.tree_set.specs.Loads.{tree_load}
 
 -- a price list: any prices of the edges within the limit, 0 where an edge isn't open, and with a budget one of the wirelength

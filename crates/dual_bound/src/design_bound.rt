@@ -2,7 +2,7 @@
 
 ghost use Rattle.std.specs.Prelude.{◌≡◌, ◌↔◌, IfOk, IfSome, IsNone};
 ghost use Rattle.grid_graph.specs.Grounds.{AreGrounds};
-ghost use Rattle.tree_set.specs.Budgets.{most_of};
+ghost use Rattle.edge_prices.specs.Budgets.{most_of};
 ghost use Rattle.dual_bound.specs.Bounds.{BoundsDesign};
 ghost use Rattle.dual_bound.specs.DesignBounds.{IsBoundOrNone};
 ghost use Rattle.dual_bound.specs.Prices.{ArePricesWith};

@@ -3,7 +3,7 @@
 ghost use Rattle.std.specs.Prelude.{◌≡◌, ◌+◌, ◌*◌, ◌/◌, ◌≤◌, ◌<◌, length, IfOk};
 ghost use Rattle.std.specs.List.{sum};
 ghost use Rattle.grid_base.specs.Limits.{max_vertices};
-ghost use Rattle.tree_set.specs.Limits.{numerator_limit};
+ghost use Rattle.fractions.specs.Limits.{numerator_limit};
 ghost use Rattle.grid_graph.specs.Limits.{max_nets};
 ghost use Rattle.dual_bound.specs.Limits.{max_parts};
 ghost use Rattle.dual_bound.specs.Parts as words;

@@ -32,8 +32,8 @@ impl Priced<'_> {
     ghost use Rattle.edge_prices.specs.Limits.{max_price};
     ghost use Rattle.shortest_paths.specs.LabelWords.{labels_size, masks_of};
     ghost use Rattle.shortest_paths.specs.Masks.{rooted_masks};
-    ghost use Rattle.tree_set.specs.Budgets.{price_per_piece, most_of};
-    ghost use Rattle.tree_set.specs.Limits.{max_denominator};
+    ghost use Rattle.edge_prices.specs.Budgets.{price_per_piece, most_of};
+    ghost use Rattle.fractions.specs.Limits.{max_denominator};
     ghost use Rattle.dual_bound.specs.DesignBounds.{IsBoundOfNet};
     ghost use Rattle.dual_bound.specs.Limits.{max_net_bound, max_edge_cost, max_wirelength_cost};
     ghost use Rattle.dual_bound.specs.Parts.{priced_grid, priced_nets, HasGrounds, IsSumOver};

@@ -2,6 +2,7 @@ pub use Rattle.grid_base.specs.Numbers
 pub use Rattle.grid_graph.specs.Flat
 pub use Rattle.grid_graph.specs.Grids
 pub use Rattle.grid_graph.specs.Weighed
+pub mod Budgets
 pub mod Costings
 pub mod Demands
 pub mod Floors

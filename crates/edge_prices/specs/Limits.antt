@@ -23,6 +23,10 @@ max_scale = 16
 abbrev pub IsScale : ℕ → Type 0
 IsScale scale = (1 ≤ scale) × (scale ≤ max_scale)
 
+-- a wirelength may be a budget
+abbrev pub MayBeBudget : ℕ → Type 0
+MayBeBudget most = (1 ≤ most) × (most ≤ max_budget)
+
 -- a wirelength that is to be kept, or none
 abbrev pub IsBudget : Option ℕ → Type 0
-IsBudget budget = ForSome budget (λ most. (1 ≤ most) × (most ≤ max_budget))
+IsBudget budget = ForSome budget MayBeBudget

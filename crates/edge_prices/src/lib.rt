@@ -15,6 +15,7 @@
 //! stand, that no allowed piece weighs less than its floor, and no edge less than the least over its tile edge.
 #![tactic(auto)]
 
+mod budget;
 mod change;
 mod costing;
 mod index;
@@ -32,6 +33,7 @@ mod resources;
 mod tile_prices;
 mod weighing;
 
+pub use budget::Budget;
 pub use costing::Costing;
 pub use index::index_at;
 pub use kept_prices::KeptPrices;

@@ -5,7 +5,7 @@ use Rattle.route_judge.specs.declared.reason.Reason.{Reason}
 use Rattle.route_judge.specs.declared.reason.Reason.TheVariants.{UnknownNet, RepeatedNet, MissingNet, PointOutside, Slanted, OnWall, NotJoined, WrongOverflow, WrongWirelength, WrongPeak, WrongCount, BoundTooHigh}
 use Rattle.route_judge.specs.Counted.{counted_word}
 use Rattle.route_judge.specs.Reasons.{reason_number}
-use Rattle.tree_set.specs.declared.fraction.Fraction.{Fraction}
+use Rattle.fractions.specs.declared.fraction.Fraction.{Fraction}
 use Rattle.judge_cli.specs.declared.answer.Answer.{Answer}
 use Rattle.judge_cli.specs.declared.answer.Answer.TheVariants.{Measured, Yes, No}
 use Rattle.judge_cli.specs.declared.routes_report.RoutesReport.{RoutesReport}

@@ -1,7 +1,7 @@
 -- Lines of the report.
 use Rattle.std.specs.Prelude.{ℕ, List, ◌∷◌, [], ◌++◌, flat_map, codes, decimal, Some, None}
 use Rattle.std.specs.declared.option.Option.{Option}
-use Rattle.tree_set.specs.declared.budget.Budget.{Budget}
+use Rattle.edge_prices.specs.declared.budget.Budget.{Budget}
 use Rattle.grid_graph.specs.GroundErrors.{unreachable_number}
 use Rattle.ispd_reader.specs.declared.wanted.Wanted.{Wanted}
 use Rattle.ispd_reader.specs.Faults.{input_fault_number, fields_of, wanted_of}

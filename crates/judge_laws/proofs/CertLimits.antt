@@ -33,9 +33,9 @@ use Rattle.grid_graph.specs.Grids.{capacity, demand_on, edge_numbers, kind, size
 use Rattle.grid_graph.specs.Grounds.{IsGround, AreGrounds}
 use Rattle.grid_graph.specs.Limits.{max_capacity, max_demand}
 use Rattle.grid_graph.proofs.Grounds.{at_place}
-use Rattle.tree_set.specs.declared.budget.Budget.{Budget}
-use Rattle.tree_set.specs.declared.fraction.Fraction.{Fraction}
-use Rattle.tree_set.specs.Budgets.{most_of}
+use Rattle.edge_prices.specs.declared.budget.Budget.{Budget}
+use Rattle.fractions.specs.declared.fraction.Fraction.{Fraction}
+use Rattle.edge_prices.specs.Budgets.{most_of}
 use Rattle.tree_set.specs.Loads.{holds, load, net_load}
 use Rattle.tree_set.specs.Measures.{excess, overflow, wirelength, IsPeakWith}
 use Rattle.tree_set.proofs.Counting.{length-pieces}

@@ -23,10 +23,10 @@ use Rattle.shortest_paths.specs.Sets.{IsLeastWeight}
 use Rattle.lower_bound.specs.Costs.{costed}
 use Rattle.lower_bound.specs.NetBounds.{IsLeastToOther, AreHalves, IsBoundOfMany, IsNetBound}
 use Rattle.lower_bound.specs.Spread.{IsNext, IsSpread}
-use Rattle.tree_set.specs.declared.budget.Budget.{Budget}
-use Rattle.tree_set.specs.declared.fraction.Fraction.{Fraction}
-use Rattle.tree_set.specs.Budgets.{price_per_piece}
-use Rattle.tree_set.proofs.Ratios.{ratio-trans}
+use Rattle.edge_prices.specs.declared.budget.Budget.{Budget}
+use Rattle.fractions.specs.declared.fraction.Fraction.{Fraction}
+use Rattle.edge_prices.specs.Budgets.{price_per_piece}
+use Rattle.fractions.proofs.Ratios.{ratio-trans}
 use Rattle.dual_bound.specs.DesignBounds.{IsBoundOfNet, IsDesignBound, IsBoundOrNone}
 use Rattle.dual_bound.specs.Prices.{capacity_cost}
 use Rattle.route_judge.specs.Bounds.{IsAtMostFound}

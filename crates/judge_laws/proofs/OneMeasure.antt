@@ -7,11 +7,11 @@ use Rattle.grid_graph.specs.declared.grid.Grid.{Grid}
 use Rattle.grid_graph.specs.declared.net_spec.NetSpec.{NetSpec}
 use Rattle.grid_graph.specs.Grids.{capacity}
 use Rattle.route_text.specs.declared.block.Block.{Block}
-use Rattle.tree_set.specs.declared.fraction.Fraction.{Fraction}
-use Rattle.tree_set.specs.Fractions.{IsRatio, IsAtMost}
+use Rattle.fractions.specs.declared.fraction.Fraction.{Fraction}
+use Rattle.fractions.specs.Fractions.{IsRatio, IsAtMost}
 use Rattle.tree_set.specs.Measures.{IsGreatest, IsGreatestWith, IsPeakWith}
 use Rattle.tree_set.proofs.Fullest.{capacity-open}
-use Rattle.tree_set.proofs.Ratios.{ratio-trans}
+use Rattle.fractions.proofs.Ratios.{ratio-trans}
 use Rattle.route_judge.specs.NetSets.{IsSetOfNet, AreSetsOf}
 use Rattle.route_judge.specs.Objections.{Differ}
 use Rattle.judge_laws.proofs.RisingSets.{same_list}

@@ -19,10 +19,10 @@ use Rattle.grid_graph.specs.declared.design.Design.{Design}
 use Rattle.grid_graph.specs.declared.ground.Ground.{Ground}
 use Rattle.grid_graph.specs.Grids.{edge_numbers, size_of}
 use Rattle.route_text.specs.declared.block.Block.{Block}
-use Rattle.tree_set.specs.declared.budget.Budget.{Budget}
-use Rattle.tree_set.specs.declared.fraction.Fraction.{Fraction}
-use Rattle.tree_set.specs.Budgets.{IsWithinLimits, MayBeBudget, most_of}
-use Rattle.tree_set.specs.Limits.{max_wirelength_price}
+use Rattle.edge_prices.specs.declared.budget.Budget.{Budget}
+use Rattle.fractions.specs.declared.fraction.Fraction.{Fraction}
+use Rattle.edge_prices.specs.Budgets.{IsWithinLimits, most_of}
+use Rattle.edge_prices.specs.Limits.{MayBeBudget, max_price}
 use Rattle.route_judge.specs.Bounds.{IsTooHigh}
 use Rattle.route_judge.specs.Counts.{listed_prices}
 use Rattle.route_judge.specs.Judgements.{IsFound, IsJudged, StatesBound}
@@ -50,7 +50,7 @@ pub free_within : (budget : Option Budget) → IsWithinLimits budget → IsWithi
 free_within None within b is = absurd (cc is)
 free_within (Some b) within f is =
     let free : Budget = record { most = b.most; price = 0 } in
-    subst (λ (x : Budget). MayBeBudget x.most × (x.price ≤ max_wirelength_price)) (same_Some free f is) ((within b refl).0, omega arith)
+    subst (λ (x : Budget). MayBeBudget x.most × (x.price ≤ max_price)) (same_Some free f is) ((within b refl).0, omega arith)
 
 -- the counts that are stated are still right
 counts_stay : (d : Design) (over : List Ground) (cert : Cert) (prices : List ℕ) (bound : Option Fraction) → Finds d (count_objections d over cert) None

@@ -8,8 +8,8 @@ use Rattle.grid_base.proofs.Lists.{Contains-rest}
 use Rattle.grid_graph.specs.declared.grid.Grid.{Grid}
 use Rattle.grid_graph.specs.Grids.{entries}
 use Rattle.edge_prices.specs.Vectors.{capacity_of}
-use Rattle.tree_set.specs.declared.budget.Budget.{Budget}
-use Rattle.tree_set.specs.Budgets.{most_of}
+use Rattle.edge_prices.specs.declared.budget.Budget.{Budget}
+use Rattle.edge_prices.specs.Budgets.{most_of}
 use Rattle.dual_bound.specs.Prices.{price_at, capacity_cost}
 use Rattle.route_judge.specs.Bounds.{HasResource}
 

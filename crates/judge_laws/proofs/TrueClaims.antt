@@ -8,10 +8,10 @@ use Rattle.grid_base.specs.declared.piece.Piece.{Piece}
 use Rattle.grid_graph.specs.declared.design.Design.{Design}
 use Rattle.grid_graph.specs.declared.ground.Ground.{Ground}
 use Rattle.route_text.specs.declared.block.Block.{Block}
-use Rattle.tree_set.specs.declared.budget.Budget.{Budget}
-use Rattle.tree_set.specs.declared.fraction.Fraction.{Fraction}
+use Rattle.edge_prices.specs.declared.budget.Budget.{Budget}
+use Rattle.fractions.specs.declared.fraction.Fraction.{Fraction}
 use Rattle.tree_set.specs.declared.measure.Measure.{Measure}
-use Rattle.tree_set.specs.Budgets.{IsWithinLimits, most_of}
+use Rattle.edge_prices.specs.Budgets.{IsWithinLimits, most_of}
 use Rattle.tree_set.specs.Loads.{load}
 use Rattle.tree_set.specs.Measures.{wirelength}
 use Rattle.route_judge.specs.Bounds.{HasResource, IsTooHigh}

@@ -7,7 +7,7 @@ use Rattle.grid_graph.specs.declared.design.Design.{Design}
 use Rattle.grid_graph.specs.declared.ground.Ground.{Ground}
 use Rattle.route_text.specs.declared.block.Block.{Block}
 use Rattle.tree_set.specs.declared.measure.Measure.{Measure}
-use Rattle.tree_set.specs.Budgets.{IsWithinLimits, most_of}
+use Rattle.edge_prices.specs.Budgets.{IsWithinLimits, most_of}
 use Rattle.tree_set.specs.Loads.{load}
 use Rattle.tree_set.specs.Measures.{overflow, wirelength, IsPeakWith}
 use Rattle.route_judge.specs.declared.reason.Reason.{Reason}

@@ -6,8 +6,8 @@ use Rattle.dual_bound.specs.Prices.{free_budget}
 use Rattle.edge_prices.specs.Weights.{is_open}
 use Rattle.grid_graph.specs.declared.grid.Grid.{Grid}
 use Rattle.grid_graph.specs.Grids.{edge_numbers}
-use Rattle.tree_set.specs.declared.fraction.Fraction.{Fraction}
-use Rattle.tree_set.specs.Budgets.{most_of}
+use Rattle.fractions.specs.declared.fraction.Fraction.{Fraction}
+use Rattle.edge_prices.specs.Budgets.{most_of}
 
 -- the open edges, in rising order
 abbrev pub open_edges : Grid → List ℕ

@@ -9,9 +9,9 @@ use Rattle.dual_bound.proofs.Duality.{nothing_bounds}
 use Rattle.grid_graph.specs.declared.design.Design.{Design}
 use Rattle.grid_graph.specs.declared.ground.Ground.{Ground}
 use Rattle.route_text.specs.declared.block.Block.{Block}
-use Rattle.tree_set.specs.declared.fraction.Fraction.{Fraction}
+use Rattle.fractions.specs.declared.fraction.Fraction.{Fraction}
 use Rattle.tree_set.specs.declared.measure.Measure.{Measure}
-use Rattle.tree_set.specs.Budgets.{most_of}
+use Rattle.edge_prices.specs.Budgets.{most_of}
 use Rattle.route_judge.specs.declared.reason.Reason.{Reason}
 use Rattle.route_judge.specs.declared.stop.Stop.{Stop}
 use Rattle.route_judge.specs.declared.stop.Stop.TheVariants.{Refused, NoMemory}

@@ -2,8 +2,8 @@
 use Rattle.std.specs.Prelude.{ℕ, ◌<◌, ◌⊎◌, Option, Some, None}
 use Rattle.grid_graph.specs.declared.grid.Grid.{Grid}
 use Rattle.dual_bound.specs.Bounds.{IsResource}
-use Rattle.tree_set.specs.declared.fraction.Fraction.{Fraction}
-use Rattle.tree_set.specs.Fractions.{IsAtMost}
+use Rattle.fractions.specs.declared.fraction.Fraction.{Fraction}
+use Rattle.fractions.specs.Fractions.{IsAtMost}
 
 -- there is an open edge or a budget
 abbrev pub HasResource : Grid → Option ℕ → Type 0

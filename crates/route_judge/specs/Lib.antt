@@ -1,7 +1,7 @@
 pub use Rattle.grid_graph.specs.Grids
 pub use Rattle.grid_graph.specs.Grounds
-pub use Rattle.tree_set.specs.Budgets
-pub use Rattle.tree_set.specs.Fractions
+pub use Rattle.edge_prices.specs.Budgets
+pub use Rattle.fractions.specs.Fractions
 pub use Rattle.tree_set.specs.Measures
 pub use Rattle.tree_set.specs.Routings
 pub use Rattle.route_text.specs.BlockPieces

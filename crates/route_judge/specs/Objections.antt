@@ -13,7 +13,7 @@ use Rattle.grid_graph.specs.Grids.{kind, size_of}
 use Rattle.route_text.specs.declared.block.Block.{Block}
 use Rattle.route_text.specs.declared.segment.Segment.{Segment}
 use Rattle.route_text.specs.BlockPieces.{point_place, LiesOn, IsPieceOf}
-use Rattle.tree_set.specs.declared.fraction.Fraction.{Fraction}
+use Rattle.fractions.specs.declared.fraction.Fraction.{Fraction}
 use Rattle.route_judge.specs.declared.counted.Counted.{Counted}
 use Rattle.route_judge.specs.declared.reason.Reason.{Reason}
 use Rattle.route_judge.specs.declared.reason.Reason.TheVariants as reasons

@@ -6,9 +6,9 @@ use Rattle.grid_graph.specs.declared.ground.Ground.{Ground}
 use Rattle.cert_text.specs.declared.cert.Cert.{Cert}
 use Rattle.route_text.specs.declared.block.Block.{Block}
 use Rattle.route_text.specs.declared.segment.Segment.{Segment}
-use Rattle.tree_set.specs.declared.fraction.Fraction.{Fraction}
+use Rattle.fractions.specs.declared.fraction.Fraction.{Fraction}
 use Rattle.tree_set.specs.declared.measure.Measure.{Measure}
-use Rattle.tree_set.specs.Budgets.{most_of}
+use Rattle.edge_prices.specs.Budgets.{most_of}
 use Rattle.route_judge.specs.declared.counted.Counted.TheVariants.{Nets, Forced, Prices}
 use Rattle.route_judge.specs.Counts.{forced_count, open_count}
 use Rattle.route_judge.specs.Objections.{Objection, Finds}

@@ -6,7 +6,7 @@ ghost use Rattle.edge_prices.specs.Limits.{max_price};
 ghost use Rattle.grid_graph.specs.Grids as grids;
 ghost use Rattle.grid_graph.specs.Grids.{edge_numbers};
 ghost use Rattle.grid_graph.specs.Grounds.{AreGrounds};
-ghost use Rattle.tree_set.specs.Budgets.{IsWithinLimits, most_of};
+ghost use Rattle.edge_prices.specs.Budgets.{IsWithinLimits, most_of};
 ghost use Rattle.route_judge.specs.Bounds as bounds;
 ghost use Rattle.route_judge.specs.Judgements.{IsFound};
 ghost use Rattle.route_judge.specs.Orders.{bound_objections};

@@ -6,7 +6,7 @@ ghost use Rattle.grid_graph.specs.declared.design.Design.{Design};
 ghost use Rattle.grid_graph.specs.declared.ground.Ground.{Ground};
 ghost use Rattle.grid_graph.specs.Grounds.{AreGrounds};
 ghost use Rattle.route_text.specs.declared.block.Block.{Block};
-ghost use Rattle.tree_set.specs.Budgets.{IsWithinLimits, most_of};
+ghost use Rattle.edge_prices.specs.Budgets.{IsWithinLimits, most_of};
 ghost use Rattle.route_judge.specs.Answers.{reason_of_verdict, IfYes};
 ghost use Rattle.route_judge.specs.Judgements.{IsJudged, IsJudgedAs, StatesBound};
 ghost use Rattle.route_judge.specs.Limits.{AreBlocks};

@@ -13,9 +13,9 @@ use Rattle.grid_graph.specs.declared.grid.Grid.{Grid}
 use Rattle.grid_graph.specs.Grids.{capacity, edge_numbers, entries}
 use Rattle.edge_prices.specs.Vectors.{capacity_of, index_of, top_of, price_vector}
 use Rattle.edge_prices.proofs.PriceVectors.{price_or_zero-positive, entry-price_vector}
-use Rattle.tree_set.specs.declared.budget.Budget.{Budget}
-use Rattle.tree_set.specs.declared.fraction.Fraction.{Fraction}
-use Rattle.tree_set.specs.Budgets.{most_of, price_per_piece}
+use Rattle.edge_prices.specs.declared.budget.Budget.{Budget}
+use Rattle.fractions.specs.declared.fraction.Fraction.{Fraction}
+use Rattle.edge_prices.specs.Budgets.{most_of, price_per_piece}
 use Rattle.cert_text.specs.declared.cert.Cert.{Cert}
 use Rattle.dual_bound.specs.Bounds.{IsResource}
 use Rattle.dual_bound.specs.DesignBounds.{IsBoundOrNone}

@@ -8,7 +8,7 @@ use Rattle.cert_text.specs.declared.cert.Cert.{Cert}
 use Rattle.cert_text.specs.CertText.{cert_text}
 use Rattle.cert_text.proofs.ReadBackCerts.{cert_reads_back}
 use Rattle.dual_bound.specs.DesignBounds.{IsBoundOrNone}
-use Rattle.edge_prices.specs.Limits.{IsBudget, max_price}
+use Rattle.edge_prices.specs.Limits.{IsBudget, max_price, MayBeBudget}
 use Rattle.edge_prices.specs.Weights.{ArePrices}
 use Rattle.edge_prices.proofs.PriceVectors.{price_vector-ArePrices}
 use Rattle.grid_base.specs.declared.piece.Piece.{Piece}
@@ -28,9 +28,8 @@ use Rattle.price_workers.specs.Settings.{AreSettings}
 use Rattle.route_text.specs.RouteText.{routes_text}
 use Rattle.route_text.specs.Written.{written_blocks}
 use Rattle.route_text.proofs.ReadBackBlocks.{text_reads_back}
-use Rattle.tree_set.specs.declared.budget.Budget.{Budget}
-use Rattle.tree_set.specs.Budgets.{IsWithinLimits, MayBeBudget, most_of}
-use Rattle.tree_set.specs.Limits.{max_wirelength_price}
+use Rattle.edge_prices.specs.declared.budget.Budget.{Budget}
+use Rattle.edge_prices.specs.Budgets.{IsWithinLimits, most_of}
 use Rattle.tree_set.specs.Loads.{load}
 use Rattle.tree_set.specs.Measures.{wirelength, IsPeakWith}
 use Rattle.tree_set.specs.Routings.{IsRoute, KeepsTo}
@@ -73,7 +72,7 @@ most_is g prices (Some most) = refl
 budget_within : (g : Grid) (prices : List ℕ) (budget : Option ℕ) → IsBudget budget → ArePrices g prices → IsWithinLimits (priced_budget g prices budget)
 budget_within g prices None fits are = λ b same. absurd (cc same)
 budget_within g prices (Some most) fits are = λ b same.
-    subst (λ (x : Budget). MayBeBudget x.most × (x.price ≤ max_wirelength_price)) (same_Some _ b same) (fits most refl, are.within (edge_numbers g))
+    subst (λ (x : Budget). MayBeBudget x.most × (x.price ≤ max_price)) (same_Some _ b same) (fits most refl, are.within (edge_numbers g))
 
 claims_truly : (d : Design) (budget : Option ℕ) (over : List Ground) (trees : List (List Piece)) (prices : List ℕ) (cert : Cert) → AreGrounds d.grid d.nets over
     → IsBudget budget → ArePrices d.grid prices → IsCertified d budget trees prices cert → (HasResource d.grid budget → IsSome cert.bound) → ClaimsTruly d over trees cert

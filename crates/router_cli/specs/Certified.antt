@@ -7,7 +7,7 @@ use Rattle.grid_graph.specs.declared.grid.Grid.{Grid}
 use Rattle.grid_graph.specs.declared.ground.Ground.{Ground}
 use Rattle.grid_graph.specs.Grids.{edge_numbers}
 use Rattle.grid_graph.specs.Grounds.{AreGrounds}
-use Rattle.tree_set.specs.declared.budget.Budget.{Budget}
+use Rattle.edge_prices.specs.declared.budget.Budget.{Budget}
 use Rattle.tree_set.specs.Loads.{load}
 use Rattle.tree_set.specs.Measures.{overflow, wirelength, IsPeakWith}
 use Rattle.dual_bound.specs.DesignBounds.{IsBoundOrNone}

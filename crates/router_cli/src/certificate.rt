@@ -5,7 +5,7 @@ ghost use Rattle.grid_graph.specs.Grids.{edge_numbers, size_of};
 ghost use Rattle.grid_graph.specs.Grounds.{AreGrounds};
 ghost use Rattle.edge_prices.specs.Limits.{IsBudget};
 ghost use Rattle.edge_prices.specs.Weights.{IsPriceList};
-ghost use Rattle.tree_set.specs.Budgets as budgets;
+ghost use Rattle.edge_prices.specs.Budgets as budgets;
 ghost use Rattle.tree_set.specs.Loads.{load};
 ghost use Rattle.tree_set.specs.Measures as measures;
 ghost use Rattle.tree_set.specs.Routings.{ArePieces};

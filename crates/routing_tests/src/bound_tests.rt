@@ -1,7 +1,7 @@
 //! Bounds of the worked designs at price lists.
 
 ghost use Rattle.std.specs.Prelude.{IsTrue};
-ghost use Rattle.tree_set.specs.Budgets.{IsWithinLimits};
+ghost use Rattle.edge_prices.specs.Budgets.{IsWithinLimits};
 
 use crate::fields::fraction_text;
 use dual_bound::bound;

@@ -8,10 +8,10 @@ use Rattle.grid_graph.specs.declared.grid.Grid.{Grid}
 use Rattle.grid_graph.specs.declared.kind.Kind.TheVariants.{Open, Choked, Wall}
 use Rattle.grid_graph.specs.Grids.{kind, capacity, first_capacity, IsEdgeNumber, size_of}
 use Rattle.tree_set.specs.Fullest.{IsFullest, IsFullestBelow}
-use Rattle.tree_set.specs.Fractions.{IsRatio}
+use Rattle.fractions.specs.Fractions.{IsRatio}
 use Rattle.tree_set.specs.Measures.{IsGreatest}
-use Rattle.tree_set.specs.declared.fraction.Fraction.{Fraction}
-use Rattle.tree_set.proofs.Ratios.{ratio-trans}
+use Rattle.fractions.specs.declared.fraction.Fraction.{Fraction}
+use Rattle.fractions.proofs.Ratios.{ratio-trans}
 
 open_by_test : (has had : Bool) → cond has Open (cond had Choked Wall) ≡ Open → has ≡ true
 open_by_test true had is = refl

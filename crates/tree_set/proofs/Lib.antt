@@ -4,7 +4,6 @@ pub mod Loads
 pub mod Peaks
 pub mod PeaksWith
 pub mod Order
-pub mod Ratios
 pub mod Reaching
 pub mod Search
 pub mod RunEnds

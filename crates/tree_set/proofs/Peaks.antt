@@ -2,7 +2,7 @@
 use Rattle.std.proofs.Common.{◌≡◌, ℕ, ◌*◌, ◌≤◌, Option, Some, None, subst}
 use Rattle.grid_graph.specs.declared.grid.Grid.{Grid}
 use Rattle.grid_graph.specs.Grids.{capacity}
-use Rattle.tree_set.specs.declared.fraction.Fraction.{Fraction}
+use Rattle.fractions.specs.declared.fraction.Fraction.{Fraction}
 use Rattle.tree_set.specs.Measures.{IsPeak}
 
 pub IsPeak-same : (g : Grid) (f h : ℕ → ℕ) (peak : Option Fraction) → ((e : ℕ) → f e ≡ h e) → IsPeak g f peak → IsPeak g h peak

@@ -1,10 +1,10 @@
 -- The peak with a budget, from the peak of the edges.
 use Rattle.std.proofs.Common.{ℕ, ◌*◌, ◌≤◌, ◌<◌, Option, Some, None, inl, inr, ⊎_elim, subst, sym, arith}
 use Rattle.grid_graph.specs.declared.grid.Grid.{Grid}
-use Rattle.tree_set.specs.declared.fraction.Fraction.{Fraction}
-use Rattle.tree_set.specs.Fractions.{IsGreaterOf, IsRatio}
+use Rattle.fractions.specs.declared.fraction.Fraction.{Fraction}
+use Rattle.fractions.specs.Fractions.{IsGreaterOf, IsRatio}
 use Rattle.tree_set.specs.Measures.{IsPeak, IsGreatest, IsGreatestWith}
-use Rattle.tree_set.proofs.Ratios.{ratio-trans}
+use Rattle.fractions.proofs.Ratios.{ratio-trans}
 
 -- the edges have no more than the wirelength has
 above_edges : (g : Grid) (load : ℕ → ℕ) (wire budget : ℕ) (edges f : Fraction) → IsGreatest g load edges → IsRatio wire budget f → 0 < budget

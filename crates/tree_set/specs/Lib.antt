@@ -3,12 +3,9 @@ pub use Rattle.grid_base.specs.Numbers
 pub use Rattle.grid_base.specs.Walks
 pub use Rattle.grid_graph.specs.Grids
 pub use Rattle.grid_graph.specs.Grounds
-pub mod Budgets
-pub mod Fractions
 pub mod Fullest
 pub mod Loads
 pub mod Limits
-pub mod LowestTerms
 pub mod Measures
 pub mod Order
 pub mod Reached

@@ -7,8 +7,8 @@ use Rattle.grid_graph.specs.declared.grid.Grid.{Grid}
 use Rattle.grid_graph.specs.declared.kind.Kind.{Kind}
 use Rattle.grid_graph.specs.declared.kind.Kind.TheVariants.{Open, Choked, Wall}
 use Rattle.grid_graph.specs.Grids.{kind, capacity, size_of}
-use Rattle.tree_set.specs.declared.fraction.Fraction.{Fraction}
-use Rattle.tree_set.specs.Fractions.{IsRatio}
+use Rattle.fractions.specs.declared.fraction.Fraction.{Fraction}
+use Rattle.fractions.specs.Fractions.{IsRatio}
 
 -- how much more than the capacity the load of an edge of this kind is; walls don't count
 abbrev pub excess : Kind → ℕ → ℕ → ℕ

@@ -9,19 +9,15 @@
 //! let measure = measure_of(alloc, &design, trees.as_slice())?;      // overflow, wirelength, peak
 //! ```
 //!
-//! It stands on `grid_base` and `grid_graph`, whose pieces, walks, grids and designs it speaks of; `joins` is a flood of
-//! `grid_base`.
+//! It stands on `grid_base` and `grid_graph`, whose pieces, walks, grids and designs it speaks of, on `fractions` for the
+//! peak, and on `edge_prices` for the budget; `joins` is a flood of `grid_base`.
 //!
 //! Promised: a tree is the set of the pieces that it was made of, as a strictly rising list; `joins` and `inside`
-//! are true exactly where walks in the set join the terminals and where the ground allows every piece; loads and
-//! measures are exactly those of `specs/Loads.antt` and `specs/Measures.antt`; and fractions are in lowest terms and
-//! compared exactly.
+//! are true exactly where walks in the set join the terminals and where the ground allows every piece; and loads and
+//! measures are exactly those of `specs/Loads.antt` and `specs/Measures.antt`.
 
 #![tactic(auto)]
 
-mod budget;
-mod divisor;
-mod fraction;
 mod joining;
 mod laws;
 mod load;
@@ -34,8 +30,8 @@ mod reached;
 mod tree;
 mod within;
 
-pub use budget::Budget;
-pub use fraction::Fraction;
+pub use edge_prices::Budget;
+pub use fractions::Fraction;
 pub use joining::joins;
 pub use laws::loads_add_up;
 pub use load::{add_load, add_pieces};

@@ -1,9 +1,9 @@
 //! The measures of a routing.
 
-ghost use Rattle.tree_set.specs.Budgets.{MayBeBudget};
-ghost use Rattle.tree_set.specs.Fractions.{IsGreaterOf};
+ghost use Rattle.edge_prices.specs.Limits.{MayBeBudget};
+ghost use Rattle.fractions.specs.Fractions.{IsGreaterOf};
 
-use crate::fraction::Fraction;
+use fractions::Fraction;
 
 /// What is measured of a routing.
 #[derive(Debug, Drop, Clone, Copy, PartialEq, Eq)]

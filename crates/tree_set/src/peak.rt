@@ -8,7 +8,7 @@ ghost use Rattle.tree_set.specs.Fullest.{IsFullestBelow};
 ghost use Rattle.grid_graph.specs.Limits.{max_load};
 ghost use Rattle.grid_graph.specs.Grids.{size_of};
 
-use crate::fraction::Fraction;
+use fractions::Fraction;
 use grid_base::Edge;
 use grid_graph::{Grid, Kind};
 

@@ -13,9 +13,9 @@ use Rattle.judge_laws.specs.OpenPrices.{with_prices}
 use Rattle.judge_laws.proofs.OtherPrices.{accepted_anew, bounds_anew, reads_back_anew}
 use Rattle.route_judge.specs.Judgements.{IsJudged, StatesBound}
 use Rattle.route_text.specs.declared.block.Block.{Block}
-use Rattle.tree_set.specs.declared.budget.Budget.{Budget}
-use Rattle.tree_set.specs.declared.fraction.Fraction.{Fraction}
-use Rattle.tree_set.specs.Budgets.{most_of}
+use Rattle.edge_prices.specs.declared.budget.Budget.{Budget}
+use Rattle.fractions.specs.declared.fraction.Fraction.{Fraction}
+use Rattle.edge_prices.specs.Budgets.{most_of}
 use Rattle.unavoidable_cli.specs.declared.priced_edge.PricedEdge.{PricedEdge}
 use Rattle.unavoidable_cli.specs.Findings.{IsAbove, IsSameOrBetter}
 

@@ -14,7 +14,7 @@ use Rattle.route_judge.specs.Bounds.{IsAtMostFound}
 use Rattle.route_judge.specs.Judgements.{IsJudged, StatesBound}
 use Rattle.route_judge.specs.NetSets.{AreSetsOf}
 use Rattle.route_text.specs.declared.block.Block.{Block}
-use Rattle.tree_set.specs.declared.fraction.Fraction.{Fraction}
+use Rattle.fractions.specs.declared.fraction.Fraction.{Fraction}
 use Rattle.tree_set.specs.Loads.{load}
 use Rattle.tree_set.specs.Measures.{overflow}
 use Rattle.tree_set.specs.Routings.{IsRouting}

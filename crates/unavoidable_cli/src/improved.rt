@@ -2,7 +2,7 @@
 
 ghost use Rattle.std.specs.Prelude.{◌≡◌, IfOk};
 ghost use Rattle.dual_bound.specs.Prices as prices;
-ghost use Rattle.tree_set.specs.Budgets.{most_of};
+ghost use Rattle.edge_prices.specs.Budgets.{most_of};
 ghost use Rattle.unavoidable_cli.specs.Findings.{IsAbove, IsBetter, IsSameOrBetter};
 ghost use Rattle.unavoidable_cli.specs.ShownLists.{IsShownList};
 

@@ -1,7 +1,7 @@
 use Rattle.std.proofs.Common.{◌≡◌, ℕ, ◌*◌, ◌<◌, ◌≤◌, List, None, ap, sym, subst, ◌∙◌, ⊎_elim, arith}
 use Rattle.std.proofs.lemmas.Bool.{cases_lt}
 use Rattle.grid_graph.specs.declared.grid.Grid.{Grid}
-use Rattle.tree_set.specs.Fractions.{IsRatio}
+use Rattle.fractions.specs.Fractions.{IsRatio}
 use Rattle.dual_bound.specs.LeastOverflow.{IsGreatestPrice, least_overflow}
 use Rattle.dual_bound.specs.Prices.{capacity_cost}
 use Rattle.dual_bound.proofs.Bounding.{net_bounds_bound}

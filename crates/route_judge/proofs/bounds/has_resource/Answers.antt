@@ -3,8 +3,8 @@ use Rattle.std.specs.Option.{is_some, unwrap_or}
 use Rattle.std.proofs.lemmas.Bool.{cases_eq}
 use Rattle.grid_graph.specs.declared.grid.Grid.{Grid}
 use Rattle.grid_graph.specs.Grids.{capacity, edge_numbers}
-use Rattle.tree_set.specs.declared.budget.Budget.{Budget}
-use Rattle.tree_set.specs.Budgets.{most_of}
+use Rattle.edge_prices.specs.declared.budget.Budget.{Budget}
+use Rattle.edge_prices.specs.Budgets.{most_of}
 use Rattle.dual_bound.proofs.Closed.{at_wirelength, at_edge}
 use Rattle.route_judge.specs.Bounds.{HasResource}
 use Rattle.route_judge.proofs.bounds.has_resource.Goals as goal

@@ -1,5 +1,5 @@
 use Rattle.std.proofs.Common.{ℕ, Some, sym, ◌∙◌, subst}
-use Rattle.tree_set.specs.Budgets.{most_of}
+use Rattle.edge_prices.specs.Budgets.{most_of}
 use Rattle.tree_set.specs.Loads.{load}
 use Rattle.tree_set.specs.Measures.{IsPeakWith}
 use Rattle.route_judge.specs.Measured.{AreMeasured}

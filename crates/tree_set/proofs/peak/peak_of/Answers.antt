@@ -1,7 +1,7 @@
 use Rattle.std.proofs.Common.{◌*◌, slice_index, refl}
 use Rattle.grid_base.specs.Numbers.{vertices}
 use Rattle.grid_graph.specs.Grids.{capacity, size_of}
-use Rattle.tree_set.specs.Fractions.{IsRatio}
+use Rattle.fractions.specs.Fractions.{IsRatio}
 use Rattle.tree_set.proofs.Fullest.{IsGreatest-fullest}
 use Rattle.tree_set.proofs.peak.peak_of.Goals as goal
 

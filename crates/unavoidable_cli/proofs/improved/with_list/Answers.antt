@@ -2,8 +2,8 @@ use Rattle.std.proofs.Common.{ℕ, List, Option, sym, ◌∙◌, ap, subst, arit
 use Rattle.cert_text.specs.declared.cert.Cert.{Cert}
 use Rattle.dual_bound.specs.DesignBounds.{IsBoundOrNone}
 use Rattle.dual_bound.specs.Prices.{free_budget}
-use Rattle.tree_set.specs.declared.budget.Budget.{Budget}
-use Rattle.tree_set.specs.Budgets.{most_of}
+use Rattle.edge_prices.specs.declared.budget.Budget.{Budget}
+use Rattle.edge_prices.specs.Budgets.{most_of}
 use Rattle.unavoidable_cli.proofs.improved.with_list.Goals as goal
 
 pub returns-clause-better : goal.returns-clause-better

@@ -12,7 +12,7 @@ use Rattle.grid_graph.specs.Grounds.{IsGround, JoinsTerminals}
 use Rattle.lower_bound.specs.declared.tile_costs.TileCosts.{TileCosts}
 use Rattle.lower_bound.specs.Costs.{costed}
 use Rattle.lower_bound.specs.NetBounds.{IsNetBound}
-use Rattle.tree_set.specs.Budgets.{price_per_piece}
+use Rattle.edge_prices.specs.Budgets.{price_per_piece}
 use Rattle.dual_bound.specs.DesignBounds.{IsBoundOfNet}
 use Rattle.dual_bound.specs.Limits.{max_net_bound}
 use Rattle.dual_bound.proofs.NetLimits.{ground_joins, net_bound-limit}

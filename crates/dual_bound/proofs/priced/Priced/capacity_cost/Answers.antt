@@ -2,7 +2,7 @@ use Rattle.std.proofs.Common.{◌≡◌, ℕ, suc, ◌+◌, ◌*◌, slice_index
 use Rattle.std.specs.List.{sum_by, range_with_len}
 use Rattle.grid_base.specs.Numbers.{vertices}
 use Rattle.grid_graph.specs.Grids.{capacity, edge_numbers}
-use Rattle.tree_set.specs.Budgets.{most_of, price_per_piece}
+use Rattle.edge_prices.specs.Budgets.{most_of, price_per_piece}
 use Rattle.dual_bound.proofs.CapacityCosts.{sum_by-range-more, capacity_cost-parts}
 use Rattle.dual_bound.proofs.priced.Priced.capacity_cost.Goals as goal
 

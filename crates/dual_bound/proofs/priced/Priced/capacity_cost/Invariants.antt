@@ -1,7 +1,7 @@
 use Rattle.std.proofs.Common.{◌≡◌, ◌≤◌, ◌+◌, ◌*◌, slice_index, unwrap_or}
 use Rattle.std.specs.List.{sum_by, range_with_len}
 use Rattle.grid_graph.specs.Grids.{capacity}
-use Rattle.tree_set.specs.Budgets.{most_of, price_per_piece}
+use Rattle.edge_prices.specs.Budgets.{most_of, price_per_piece}
 use Rattle.dual_bound.specs.Limits.{max_edge_cost, max_wirelength_cost}
 use Rattle.dual_bound.proofs.priced.Priced.capacity_cost.Given as goal
 

@@ -1,6 +1,6 @@
 -- The value of a fraction, and the order of fractions, by cross products.
 use Rattle.std.specs.Prelude.{ℕ, ◌≡◌, ◌*◌, ◌≤◌, ◌⊎◌, Option, Some, None}
-use Rattle.tree_set.specs.declared.fraction.Fraction.{Fraction}
+use Rattle.fractions.specs.declared.fraction.Fraction.{Fraction}
 
 -- the fraction is num/den
 abbrev pub IsRatio : ℕ → ℕ → Fraction → Type 0

@@ -3,8 +3,8 @@ use Rattle.std.proofs.Common.{◌≡◌, ℕ, ◌*◌, ◌/◌, ◌≤◌, ◌<�
 use Rattle.std.specs.Int.{IsGcd, ◌∣◌}
 use Rattle.std.proofs.Math.Nat.{div-mul_cancel, dvd-mul_right, mul-le-mul_right, le_of_mul-le-mul_right}
 use Rattle.std.proofs.lemmas.Nat.Gcd.{le_from_IsGcd}
-use Rattle.tree_set.specs.LowestTerms.{IsLowest}
-use Rattle.tree_set.specs.Limits.{numerator_limit, max_denominator}
+use Rattle.fractions.specs.LowestTerms.{IsLowest}
+use Rattle.fractions.specs.Limits.{numerator_limit, max_denominator}
 
 -- a product is positive only where both factors are
 left_positive : (a b n : ℕ) → a * b ≡ n → 0 < n → 0 < a

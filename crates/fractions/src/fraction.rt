@@ -1,7 +1,7 @@
 //! A fraction in lowest terms.
 
-ghost use Rattle.tree_set.specs.LowestTerms.{IsLowest};
-ghost use Rattle.tree_set.specs.Limits.{numerator_limit, max_denominator};
+ghost use Rattle.fractions.specs.LowestTerms.{IsLowest};
+ghost use Rattle.fractions.specs.Limits.{numerator_limit, max_denominator};
 
 use crate::divisor::greatest_divisor;
 
@@ -17,7 +17,7 @@ pub struct Fraction {
 
 impl Fraction {
     ghost use Rattle.std.specs.Prelude.{◌≡◌, ◌*◌, ◌≤◌, ◌<◌, ◌^◌, ◌↔◌, IsTrue};
-    ghost use Rattle.tree_set.specs.Fractions.{IsRatio, IsAtMost};
+    ghost use Rattle.fractions.specs.Fractions.{IsRatio, IsAtMost};
 
     /// The fraction num/den.
     pub fn of(num: u128, den: u128) -> Fraction

@@ -1,6 +1,6 @@
 use Rattle.std.proofs.Common.{ℕ}
 use Rattle.std.specs.Int.{IsGcd}
-use Rattle.tree_set.proofs.divisor.greatest_divisor.Given as goal
+use Rattle.fractions.proofs.divisor.greatest_divisor.Given as goal
 
 -- the pair that is left has the divisors of the first one
 abbrev pub invariant-loop-y : goal.invariant-loop-y

@@ -1,17 +1,12 @@
 -- Budgets: a wirelength that is to be kept, and its price.
 use Rattle.std.specs.Prelude.{ℕ, ◌≤◌, Option, Some, None}
 use Rattle.std.specs.Option.{option_map, ForSome}
-use Rattle.tree_set.specs.declared.budget.Budget.{Budget}
-use Rattle.grid_graph.specs.Limits.{max_budget}
-use Rattle.tree_set.specs.Limits.{max_wirelength_price}
-
--- a wirelength may be a budget
-abbrev pub MayBeBudget : ℕ → Type 0
-MayBeBudget most = (1 ≤ most) × (most ≤ max_budget)
+use Rattle.edge_prices.specs.declared.budget.Budget.{Budget}
+use Rattle.edge_prices.specs.Limits.{max_price, MayBeBudget}
 
 -- a budget and its price are within their limits, where there is one
 abbrev pub IsWithinLimits : Option Budget → Type 0
-IsWithinLimits budget = ForSome budget (λ b. MayBeBudget b.most × (b.price ≤ max_wirelength_price))
+IsWithinLimits budget = ForSome budget (λ b. MayBeBudget b.most × (b.price ≤ max_price))
 
 -- the wirelength that is to be kept, or none
 abbrev pub most_of : Option Budget → Option ℕ

@@ -1,6 +1,6 @@
 -- When two numbers are a fraction in lowest terms.
 use Rattle.std.specs.Prelude.{ℕ, ◌≡◌, ◌*◌, ◌≤◌, ◌<◌}
-use Rattle.tree_set.specs.Limits.{numerator_limit, max_denominator}
+use Rattle.fractions.specs.Limits.{numerator_limit, max_denominator}
 
 -- a numerator and a denominator within the limits, which no number above 1 divides both
 pub record IsLowest (num den : ℕ) : Type 0 where
