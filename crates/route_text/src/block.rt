@@ -1,6 +1,6 @@
 //! A block of a route text.
 
-use crate::segments::Segments;
+use crate::segment::Segments;
 use grid_graph::Name;
 
 /// What a route text says of one net.

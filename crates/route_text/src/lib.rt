@@ -32,7 +32,6 @@ mod route_error;
 mod routes;
 mod runs;
 mod segment;
-mod segments;
 
 pub use block::Block;
 pub use laws::{
@@ -43,5 +42,4 @@ pub use points::put_point;
 pub use reading::read_routes;
 pub use route_error::RouteError;
 pub use routes::write_routes;
-pub use segment::Segment;
-pub use segments::Segments;
+pub use segment::{Segment, Segments};
