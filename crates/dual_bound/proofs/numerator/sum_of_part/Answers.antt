@@ -7,5 +7,5 @@ sum_between_with-requires-clause-inside c = omega (
   arith,
   c.first_of_part-to.ensures,
   first_of_part-within c.args.parts (length c.list-nets.result.now) (c.args.part + 1) (omega (arith, c.requires.part)) (omega (arith, c.requires.part)),
-  ap length c.list-nets.ensures.nets,
+  ap length c.list-nets.ensures.items,
 )

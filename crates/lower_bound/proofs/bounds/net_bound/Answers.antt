@@ -30,7 +30,7 @@ bound_at-requires-clause-joined c =
     let its_size : costed_size weights.weights ≡ size_of grid = c.new-weights.ensures.size ∙ c.new-costing.ensures.size in
     subst (λ (s : Size). Joins s (IsAllowed pieces) (InVertices c.list.result.now)) (sym its_size)
     (subst (λ (xs : List (Piece × ℕ)). Joins (size_of grid) (IsAllowed xs) (InVertices c.list.result.now)) (sym same)
-    (subst (λ (ts : List Vertex). Joins (size_of grid) (IsAllowed priced) (InVertices ts)) (sym c.list.ensures.vertices)
+    (subst (λ (ts : List Vertex). Joins (size_of grid) (IsAllowed priced) (InVertices ts)) (sym c.list.ensures.items)
     (joined_by_costs grid width c.args.ground prices c.args.piece c.args.net.now.terminals c.requires.ground)))
 
 pub returns-clause-bound : goal.returns-clause-bound
@@ -43,7 +43,7 @@ returns-clause-bound c =
     let priced = costed grid width c.args.ground prices c.args.piece in
     let same : pieces ≡ priced = c.new-weights.ensures.pieces ∙ ap (λ xs. raised xs c.args.piece) c.new-costing.ensures.list ∙ raised_costs grid width c.args.ground prices c.args.piece in
     let its_size : costed_size weights.weights ≡ size_of grid = c.new-weights.ensures.size ∙ c.new-costing.ensures.size in
-    subst (λ (ts : List Vertex). IsNetBound (size_of grid) priced ts c.bound_at.result) c.list.ensures.vertices
+    subst (λ (ts : List Vertex). IsNetBound (size_of grid) priced ts c.bound_at.result) c.list.ensures.items
     (subst (λ (xs : List (Piece × ℕ)). IsNetBound (size_of grid) xs c.list.result.now c.bound_at.result) same
     (subst (λ (s : Size). IsNetBound s pieces c.list.result.now c.bound_at.result) its_size c.bound_at.ensures.bound))
 

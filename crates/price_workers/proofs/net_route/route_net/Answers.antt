@@ -37,7 +37,7 @@ least_tree-requires-clause-joined c =
     let kept = c.renew.new.self in
     let w = c.weighing-weighing.result in
     joined_listed (grid_of kept) (weighed_size w) c.args.over (vector_of kept) (weighed_pieces w) c.args.net.now c.list-terminals.result.now
-    c.weighing-weighing.ensures.size c.list-terminals.ensures.vertices c.weighing-weighing.ensures.pieces
+    c.weighing-weighing.ensures.size c.list-terminals.ensures.items c.weighing-weighing.ensures.pieces
     (ground_kept (grid_of c.args.kept.now) (grid_of kept) c.args.net.now c.args.over c.renew.ensures.setting.grid c.requires.ground)
 
 pub least_tree-requires-clause-positive : goal.least_tree-requires-clause-positive
@@ -49,7 +49,7 @@ spanning_tree-requires-clause-joined c =
     let kept = c.renew.new.self in
     let w = c.weighing-weighing.result in
     joined_listed (grid_of kept) (weighed_size w) c.args.over (vector_of kept) (weighed_pieces w) c.args.net.now c.list-terminals.result.now
-    c.weighing-weighing.ensures.size c.list-terminals.ensures.vertices c.weighing-weighing.ensures.pieces
+    c.weighing-weighing.ensures.size c.list-terminals.ensures.items c.weighing-weighing.ensures.pieces
     (ground_kept (grid_of c.args.kept.now) (grid_of kept) c.args.net.now c.args.over c.renew.ensures.setting.grid c.requires.ground)
 
 pub spanning_tree-requires-clause-terminals : goal.spanning_tree-requires-clause-terminals
@@ -58,7 +58,7 @@ spanning_tree-requires-clause-terminals c =
     let w = c.weighing-weighing.result in
     λ i d short. joined_vertices (weighed_size w) (IsAllowed (weighed_pieces w)) c.list-terminals.result.now
     (joined_listed (grid_of kept) (weighed_size w) c.args.over (vector_of kept) (weighed_pieces w) c.args.net.now c.list-terminals.result.now
-    c.weighing-weighing.ensures.size c.list-terminals.ensures.vertices c.weighing-weighing.ensures.pieces
+    c.weighing-weighing.ensures.size c.list-terminals.ensures.items c.weighing-weighing.ensures.pieces
     (ground_kept (grid_of c.args.kept.now) (grid_of kept) c.args.net.now c.args.over c.renew.ensures.setting.grid c.requires.ground)) i d short
 
 pub spanning_tree-requires-clause-positive : goal.spanning_tree-requires-clause-positive
@@ -76,11 +76,11 @@ returns-then-terminals-gt-FEW_TERMINALS-clause-step c =
     let found = c.in_ok-found.found in
     let light : IsLightTree s pieces terminals found.0 found.1 = c.in_ok-found.ensures.tree in
     let there : IsLightTree (size_of g) pieces n.terminals found.0 found.1 =
-    subst (λ (z : Size). IsLightTree z pieces n.terminals found.0 found.1) c.weighing-weighing.ensures.size (subst (λ (ts : List Vertex). IsLightTree s pieces ts found.0 found.1) c.list-terminals.ensures.vertices light) in
+    subst (λ (z : Size). IsLightTree z pieces n.terminals found.0 found.1) c.weighing-weighing.ensures.size (subst (λ (ts : List Vertex). IsLightTree s pieces ts found.0 found.1) c.list-terminals.ensures.items light) in
     step_moved g (grid_of c.args.kept.now) n (loads_of kept) (loads_of c.args.kept.now) (scale_of kept) (scale_of c.args.kept.now) (budget_of kept) (budget_of c.args.kept.now) found.0
     c.renew.ensures.setting.grid c.renew.ensures.loads c.renew.ensures.setting.scale c.renew.ensures.setting.budget
     (step_from_light g n c.args.over (vector_of kept) pieces found.0 found.1 c.weighing-weighing.ensures.pieces
-    (omega (arith, c.if-terminals-gt-FEW_TERMINALS.true, ap (λ (ts : List Vertex). length ts) c.list-terminals.ensures.vertices))
+    (omega (arith, c.if-terminals-gt-FEW_TERMINALS.true, ap (λ (ts : List Vertex). length ts) c.list-terminals.ensures.items))
     (ground_kept (grid_of c.args.kept.now) g n c.args.over c.renew.ensures.setting.grid c.requires.ground) there)
 
 pub returns-clause-step : goal.returns-clause-step
@@ -94,11 +94,11 @@ returns-clause-step c =
     let found = c.in_ok-found-2.found in
     let least : IsLeastTree s pieces terminals found.0 found.1 = c.in_ok-found-2.ensures.tree in
     let joined : JoinsList (size_of g) found.0 n.terminals =
-    subst (λ (z : Size). JoinsList z found.0 n.terminals) c.weighing-weighing.ensures.size (subst (JoinsList s found.0) c.list-terminals.ensures.vertices least.joins) in
+    subst (λ (z : Size). JoinsList z found.0 n.terminals) c.weighing-weighing.ensures.size (subst (JoinsList s found.0) c.list-terminals.ensures.items least.joins) in
     let lightest : IsLeastSet (size_of g) pieces n.terminals found.0 =
-    subst (λ (z : Size). IsLeastSet z pieces n.terminals found.0) c.weighing-weighing.ensures.size (subst (λ (ts : List Vertex). IsLeastSet s pieces ts found.0) c.list-terminals.ensures.vertices least.least) in
+    subst (λ (z : Size). IsLeastSet z pieces n.terminals found.0) c.weighing-weighing.ensures.size (subst (λ (ts : List Vertex). IsLeastSet s pieces ts found.0) c.list-terminals.ensures.items least.least) in
     step_moved g (grid_of c.args.kept.now) n (loads_of kept) (loads_of c.args.kept.now) (scale_of kept) (scale_of c.args.kept.now) (budget_of kept) (budget_of c.args.kept.now) found.0
     c.renew.ensures.setting.grid c.renew.ensures.loads c.renew.ensures.setting.scale c.renew.ensures.setting.budget
     (step_from_least g n c.args.over (vector_of kept) pieces found.0 c.weighing-weighing.ensures.pieces
-    (omega (arith, c.if-terminals-gt-FEW_TERMINALS.false, ap (λ (ts : List Vertex). length ts) c.list-terminals.ensures.vertices))
+    (omega (arith, c.if-terminals-gt-FEW_TERMINALS.false, ap (λ (ts : List Vertex). length ts) c.list-terminals.ensures.items))
     (ground_kept (grid_of c.args.kept.now) g n c.args.over c.renew.ensures.setting.grid c.requires.ground) least.rising joined lightest)

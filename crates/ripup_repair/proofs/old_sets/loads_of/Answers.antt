@@ -54,8 +54,8 @@ add_tree-requires-clause-width c =
     let within : k < length d.nets = c.requires.positions c.loop-i.i 0
     (omega (arith, c.loop-i-test.true, c.loop-i.auto.i-end, c.requires.range)) in
     (d.limits.net k (slice_index_or c.list-nets.result.now k c.index-nets-net.result)
-    (read_at d.nets c.list-nets.result.now k c.index-nets-net.result c.list-nets.ensures.nets
-    (omega (arith, within, ap length c.list-nets.ensures.nets)))).width
+    (read_at d.nets c.list-nets.result.now k c.index-nets-net.result c.list-nets.ensures.items
+    (omega (arith, within, ap length c.list-nets.ensures.items)))).width
 
 pub add_tree-requires-clause-pieces : goal.add_tree-requires-clause-pieces
 add_tree-requires-clause-pieces c =
@@ -68,8 +68,8 @@ add_tree-requires-clause-pieces c =
     (arith, within, AllZip-long (IsRoute d.grid) d.nets c.args.trees.now c.requires.routing) in
     route_pieces d.grid net c.index-trees-net.result
     (AllZip-at (IsRoute d.grid) d.nets c.args.trees.now k net c.index-trees-net.result c.requires.routing
-    (read_at d.nets c.list-nets.result.now k c.index-nets-net.result c.list-nets.ensures.nets
-    (omega (arith, within, ap length c.list-nets.ensures.nets)))
+    (read_at d.nets c.list-nets.result.now k c.index-nets-net.result c.list-nets.ensures.items
+    (omega (arith, within, ap length c.list-nets.ensures.items)))
     (At-read c.args.trees.now k c.index-trees-net.result c.index-trees-net.is among))
 
 pub loop-i-preserved : goal.loop-i-preserved
@@ -83,8 +83,8 @@ loop-i-preserved c =
     let within : k < length d.nets = c.requires.positions i 0 place in
     let among : k < length c.args.trees.now = omega
     (arith, within, AllZip-long (IsRoute d.grid) d.nets c.args.trees.now c.requires.routing) in
-    let at : At d.nets k net = read_at d.nets c.list-nets.result.now k c.index-nets-net.result c.list-nets.ensures.nets
-    (omega (arith, within, ap length c.list-nets.ensures.nets)) in
+    let at : At d.nets k net = read_at d.nets c.list-nets.result.now k c.index-nets-net.result c.list-nets.ensures.items
+    (omega (arith, within, ap length c.list-nets.ensures.items)) in
     let stands : At c.args.trees.now k c.index-trees-net.result =
     At-read c.args.trees.now k c.index-trees-net.result c.index-trees-net.is among in
     let nets : List NetSpec = at_positions d.nets ks in

@@ -12,7 +12,7 @@ exchange-requires c =
     let d = c.args.design.now in
     let inv = c.loop-position.invariant in
     let phase = c.pick-phase.result - 1 in
-    let within : c.loop-position.position < length d.nets = omega (arith, c.loop-position-test.true, ap length c.list-position-end.ensures.nets) in
+    let within : c.loop-position.position < length d.nets = omega (arith, c.loop-position-test.true, ap length c.list-position-end.ensures.items) in
     let among : phase < length c.loop-position.others = omega (arith, c.if-phase-gt0.true, c.pick-phase.ensures.below, c.loop-position.auto.others) in
     record {
       position = (
@@ -29,7 +29,7 @@ loop-position-preserved c =
     let position = c.loop-position.position in
     let left = c.loop-position.others in
     let inv = c.loop-position.invariant in
-    let within : position < length d.nets = omega (arith, c.loop-position-test.true, ap length c.list-position-end.ensures.nets) in
+    let within : position < length d.nets = omega (arith, c.loop-position-test.true, ap length c.list-position-end.ensures.items) in
     let many : length (first ∷ others) ≡ length others + 1 = omega arith in
     let picked : pick c.args.seed position (length (first ∷ others)) ≡ c.pick-phase.result = ap (pick c.args.seed position) many ∙ sym c.pick-phase.ensures.word in
     elim c.if-phase-gt0.branch [
@@ -50,6 +50,6 @@ pub returns-clause-chosen : goal.returns-clause-chosen
 returns-clause-chosen c =
     let d = c.args.design.now in
     let done : c.loop-position.position ≡ length d.nets =
-    omega (arith, c.loop-position-test.false, c.loop-position.auto.position-end, ap length c.list-position-end.ensures.nets) in
+    omega (arith, c.loop-position-test.false, c.loop-position.auto.position-end, ap length c.list-position-end.ensures.items) in
     IsPickedUpTo-ends d c.args.seed c.args.first.now c.args.others.now c.loop-position.first c.loop-position.others
     (subst (λ (k : ℕ). IsPickedUpTo d c.args.seed c.args.first.now c.args.others.now k c.loop-position.first c.loop-position.others) done c.loop-position.invariant)

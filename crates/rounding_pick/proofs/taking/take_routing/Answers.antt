@@ -25,14 +25,14 @@ loop-position-init c = record {
 pub bounds-trees-position : goal.bounds-trees-position
 bounds-trees-position c =
     let d = c.args.design.now in
-    omega (arith, c.loop-position-test.true, ap length c.list-nets.ensures.nets, AllZip-long (IsRoute d.grid) d.nets c.args.trees.now c.requires.routing)
+    omega (arith, c.loop-position-test.true, ap length c.list-nets.ensures.items, AllZip-long (IsRoute d.grid) d.nets c.args.trees.now c.requires.routing)
 
 pub take_load-requires-clause-width : goal.take_load-requires-clause-width
 take_load-requires-clause-width c =
     let d = c.args.design.now in
     let k = c.loop-position.position in
     (d.limits.net k (slice_index_or c.list-nets.result.now k c.index-nets-position.result)
-    (read_at d.nets c.list-nets.result.now k c.index-nets-position.result c.list-nets.ensures.nets c.loop-position-test.true)).width
+    (read_at d.nets c.list-nets.result.now k c.index-nets-position.result c.list-nets.ensures.items c.loop-position-test.true)).width
 
 pub take_load-requires-clause-had : goal.take_load-requires-clause-had
 take_load-requires-clause-had c =
@@ -42,8 +42,8 @@ take_load-requires-clause-had c =
     let net = slice_index_or c.list-nets.result.now k c.index-nets-position.result in
     let tree = c.index-trees-position.result in
     let among : k < length trees =
-    omega (arith, c.loop-position-test.true, ap length c.list-nets.ensures.nets, AllZip-long (IsRoute d.grid) d.nets trees c.requires.routing) in
-    let at : At d.nets k net = read_at d.nets c.list-nets.result.now k c.index-nets-position.result c.list-nets.ensures.nets c.loop-position-test.true in
+    omega (arith, c.loop-position-test.true, ap length c.list-nets.ensures.items, AllZip-long (IsRoute d.grid) d.nets trees c.requires.routing) in
+    let at : At d.nets k net = read_at d.nets c.list-nets.result.now k c.index-nets-position.result c.list-nets.ensures.items c.loop-position-test.true in
     let stands : At trees k tree = At-read trees k tree c.index-trees-position.is among in
     let pieces : ArePieces (size_of d.grid) tree = route_pieces d.grid net tree (AllZip-at (IsRoute d.grid) d.nets trees k net tree c.requires.routing at stands) in
     record {
@@ -70,8 +70,8 @@ loop-position-preserved c =
     let tree = c.index-trees-position.result in
     let inv = c.loop-position.invariant in
     let among : k < length trees =
-    omega (arith, c.loop-position-test.true, ap length c.list-nets.ensures.nets, AllZip-long (IsRoute d.grid) d.nets trees c.requires.routing) in
-    let at : At d.nets k net = read_at d.nets c.list-nets.result.now k c.index-nets-position.result c.list-nets.ensures.nets c.loop-position-test.true in
+    omega (arith, c.loop-position-test.true, ap length c.list-nets.ensures.items, AllZip-long (IsRoute d.grid) d.nets trees c.requires.routing) in
+    let at : At d.nets k net = read_at d.nets c.list-nets.result.now k c.index-nets-position.result c.list-nets.ensures.items c.loop-position-test.true in
     let stands : At trees k tree = At-read trees k tree c.index-trees-position.is among in
     let took = c.take_load.ensures in
     record {
@@ -97,5 +97,5 @@ returns-clause-shares c r within =
     let trees = c.args.trees.now in
     let whole : take c.loop-position.position trees ≡ trees =
     take_all c.loop-position.position trees
-    (omega (arith, c.loop-position-test.false, ap length c.list-nets.ensures.nets, AllZip-long (IsRoute d.grid) d.nets trees c.requires.routing)) in
+    (omega (arith, c.loop-position-test.false, ap length c.list-nets.ensures.items, AllZip-long (IsRoute d.grid) d.nets trees c.requires.routing)) in
     c.loop-position.invariant.shares r within ∙ ap (λ ts. share_at r c.loop-position.share.party + load_on d.grid d.nets ts r) whole

@@ -20,16 +20,16 @@ runs_join-requires-clause-runs c = subst (λ s. All (IsStraightRun s) c.args.run
 pub runs_join-requires-clause-vertices : goal.runs_join-requires-clause-vertices
 runs_join-requires-clause-vertices c =
     let d = c.args.design.now in
-    let at = read_net d.nets _ c.args.place c.index-list-place.result c.list.ensures.nets c.requires.place c.index-list-place.is in
+    let at = read_net d.nets _ c.args.place c.index-list-place.result c.list.ensures.items c.requires.place c.index-list-place.is in
     subst (λ s. All (λ (t : Vertex). IsVertex s t.0) c.list-2.result.now) (sym c.size.ensures)
-    (subst (λ ts. All (λ (t : Vertex). IsVertex (size_of d.grid) t.0) ts) (sym c.list-2.ensures.vertices) (terminals_are_vertices d c.args.place c.index-list-place.result at))
+    (subst (λ ts. All (λ (t : Vertex). IsVertex (size_of d.grid) t.0) ts) (sym c.list-2.ensures.items) (terminals_are_vertices d c.args.place c.index-list-place.result at))
 
 pub returns : goal.returns
 returns c n here =
     let d = c.args.design.now in
     let runs = c.args.runs.now in
-    let at = read_net d.nets _ c.args.place c.index-list-place.result c.list.ensures.nets c.requires.place c.index-list-place.is in
+    let at = read_net d.nets _ c.args.place c.index-list-place.result c.list.ensures.items c.requires.place c.index-list-place.is in
     let is : c.index-list-place.result ≡ n = same_Some _ _ (sym at ∙ here) in
     let told = subst (λ s. IfOk c.runs_join.result (λ joined. IsTrue joined ↔ JoinsList s (pieces_of s runs) c.list-2.result.now)) c.size.ensures c.runs_join.ensures in
     subst (λ ts. IfOk c.runs_join.result (λ joined. IsTrue joined ↔ JoinsList (size_of d.grid) (pieces_of (size_of d.grid) runs) ts))
-    (c.list-2.ensures.vertices ∙ ap (λ (m : NetSpec). m.terminals) is) told
+    (c.list-2.ensures.items ∙ ap (λ (m : NetSpec). m.terminals) is) told

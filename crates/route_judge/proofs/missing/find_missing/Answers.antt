@@ -19,7 +19,7 @@ returns-then-lacks_block c = record {
       let below : k < length d.nets = omega (arith, c.requires, c.loop-place-test.true) in
       let found = at_place d.nets k below in
       let is : get_or c.list.result.now k c.index-list-place.result ≡ found.0 =
-      ap (λ xs. get_or xs k c.index-list-place.result) c.list.ensures.nets ∙ get_or_from_slice_get d.nets k found.0 c.index-list-place.result found.1 in
+      ap (λ xs. get_or xs k c.index-list-place.result) c.list.ensures.items ∙ get_or_from_slice_get d.nets k found.0 c.index-list-place.result found.1 in
       let applies = (c.lacks_block.ensures blocks found.0 filled found.1).0 c.if-lacks_block.true in
       subst (λ xs. Finds d xs (Some (MissingNet (get_or c.list.result.now k c.index-list-place.result).id))) (flat_map_single (missing_net blocks) d.nets)
       (found_at d one d.nets k found.0 (MissingNet (get_or c.list.result.now k c.index-list-place.result).id) below (get_or_from_slice_get d.nets k found.0 found.0 found.1)

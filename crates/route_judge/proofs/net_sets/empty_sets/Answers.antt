@@ -6,4 +6,4 @@ use Rattle.route_judge.proofs.net_sets.empty_sets.Goals as goal
 pub returns : goal.returns
 returns c =
     no_sets c.args.design.now c.loop-place.trees.items
-    (omega (arith, c.loop-place.invariant.long, c.loop-place-test.false, c.loop-place.auto._place-end, ap (length {A = NetSpec}) c.list-place-end.ensures.nets)) c.loop-place.invariant.empty
+    (omega (arith, c.loop-place.invariant.long, c.loop-place-test.false, c.loop-place.auto._place-end, ap (length {A = NetSpec}) c.list-place-end.ensures.items)) c.loop-place.invariant.empty

@@ -44,7 +44,7 @@ bounds-grounds-block c = omega (arith, c.in_ok-block.ensures.place, grounds_long
 pub add-requires-clause-width : goal.add-requires-clause-width
 add-requires-clause-width c =
     let d = c.args.design.now in
-    let at = read_net d.nets _ c.in_ok-block.block.place c.index-list-block.result c.list-in-loop-number.ensures.nets c.in_ok-block.ensures.place c.index-list-block.is in
+    let at = read_net d.nets _ c.in_ok-block.block.place c.index-list-block.result c.list-in-loop-number.ensures.items c.in_ok-block.ensures.place c.index-list-block.is in
     (d.limits.net c.in_ok-block.block.place c.index-list-block.result at).width
 
 pub add-requires-clause-runs : goal.add-requires-clause-runs
@@ -85,7 +85,7 @@ loop-number-preserved c =
     let k = c.loop-number.number in
     let block = at_place blocks k c.loop-number-test.true in
     let place = c.in_ok-block.block.place in
-    let at = read_net d.nets _ place c.index-list-block.result c.list-in-loop-number.ensures.nets c.in_ok-block.ensures.place c.index-list-block.is in
+    let at = read_net d.nets _ place c.index-list-block.result c.list-in-loop-number.ensures.items c.in_ok-block.ensures.place c.index-list-block.is in
     let within : place < length c.args.grounds.now = omega (arith, c.in_ok-block.ensures.place, grounds_long d c.args.grounds.now c.requires.grounds) in
     record {
       clear = none_numbered d (block_objections blocks) blocks blocks k block.0 refl c.loop-number-test.true c.loop-number.invariant.clear

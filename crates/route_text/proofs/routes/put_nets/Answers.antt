@@ -17,7 +17,7 @@ loop-k-preserved g c =
     let in_trees : k < length trees = c.loop-k-test.true in
     let in_nets : k < length d.nets = omega (arith, c.requires.one_each) in
     let within : k < length (zip d.nets trees) = omega (arith, length-zip d.nets trees) in
-    let net_is : n ≡ get_or d.nets k n = c.index-nets-k.is ∙ ap (λ (ns : List NetSpec). get_or ns k n) c.list-nets.ensures.nets in
+    let net_is : n ≡ get_or d.nets k n = c.index-nets-k.is ∙ ap (λ (ns : List NetSpec). get_or ns k n) c.list-nets.ensures.items in
     let at : get_or (zip d.nets trees) k (n, tree) ≡ (n, tree) =
     get_or-zip d.nets trees k (n, tree) in_nets in_trees ∙ ap (λ (x : NetSpec). (x, get_or trees k tree)) (sym net_is) ∙ ap (λ (t : List Piece). (n, t)) (sym c.index-trees-k.is) in
     record {

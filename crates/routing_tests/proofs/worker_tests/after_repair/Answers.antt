@@ -17,7 +17,7 @@ reprice_net-requires-clause-had c n before at there =
     let shares : p.shares ≡ c.args.share.party.shares =
     ap (λ (h : Holding). h.party.shares) c.refresh.ensures.reading ∙ ap (λ (h : Holding). h.party.shares) c.in-Ok.ensures.share in
     let stood : At c.args.trees.items 0 before = subst (λ (ts : List (List Piece)). At ts 0 before) (c.refresh.ensures.trees ∙ c.in-Ok.ensures.trees) there in
-    let same_net : net ≡ n = c.index-list-0.is ∙ ap (λ (ns : List NetSpec). get_or ns 0 net) c.list.ensures.nets ∙ get_or_from_slice_get d.nets 0 n net at in
+    let same_net : net ≡ n = c.index-list-0.is ∙ ap (λ (ns : List NetSpec). get_or ns 0 net) c.list.ensures.items ∙ get_or_from_slice_get d.nets 0 n net at in
     let same_tree : tree ≡ before = c.index.ensures ∙ get_or_from_slice_get c.args.trees.items 0 before tree stood in
     let its : HoldsTree d.grid net.width tree p = record {
       pieces = held.pieces;

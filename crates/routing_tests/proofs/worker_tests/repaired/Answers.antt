@@ -13,7 +13,7 @@ pub bounds-grounds-0 : goal.bounds-grounds-0
 bounds-grounds-0 c =
     let d = c.args.design.now in
     let listed : 0 < length c.list.result.now = grind (arith, common_steps) in
-    omega (arith, listed, ap length c.list.ensures.nets, AllZip-long (λ m found. IsGround d.grid m.terminals found) d.nets c.args.grounds.now c.requires.grounds)
+    omega (arith, listed, ap length c.list.ensures.items, AllZip-long (λ m found. IsGround d.grid m.terminals found) d.nets c.args.grounds.now c.requires.grounds)
 
 pub after_repair-requires-clause-ground : goal.after_repair-requires-clause-ground
 after_repair-requires-clause-ground c n at =

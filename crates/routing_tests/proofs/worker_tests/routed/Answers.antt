@@ -11,7 +11,7 @@ use Rattle.routing_tests.proofs.worker_tests.routed.Goals as goal
 pub bounds-grounds-net : goal.bounds-grounds-net
 bounds-grounds-net c =
     let d = c.args.design.now in
-    omega (arith, ap length c.list-nets.ensures.nets, AllZip-long (λ m found. IsGround d.grid m.terminals found) d.nets c.args.grounds.now c.requires.grounds)
+    omega (arith, ap length c.list-nets.ensures.items, AllZip-long (λ m found. IsGround d.grid m.terminals found) d.nets c.args.grounds.now c.requires.grounds)
 
 pub after_turn-requires-clause-ground : goal.after_turn-requires-clause-ground
 after_turn-requires-clause-ground c n at =

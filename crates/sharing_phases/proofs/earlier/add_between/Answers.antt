@@ -23,7 +23,7 @@ pub add_tree-requires-clause-width : goal.add_tree-requires-clause-width
 add_tree-requires-clause-width c =
     let d = c.args.design.now in
     (d.limits.net c.loop-k.k (slice_index_or c.list-nets.result.now c.loop-k.k c.index-nets-k.result)
-    (read_at d.nets c.list-nets.result.now c.loop-k.k c.index-nets-k.result c.list-nets.ensures.nets
+    (read_at d.nets c.list-nets.result.now c.loop-k.k c.index-nets-k.result c.list-nets.ensures.items
     (omega (arith, c.loop-k-test.true, c.loop-k.auto.k-end, c.requires.range)))).width
 
 pub add_tree-requires-clause-pieces : goal.add_tree-requires-clause-pieces
@@ -36,7 +36,7 @@ add_tree-requires-clause-pieces c =
     (arith, within, AllZip-long (IsRoute d.grid) d.nets c.args.trees.now c.requires.routing) in
     route_pieces d.grid net c.index-trees-k.result
     (AllZip-at (IsRoute d.grid) d.nets c.args.trees.now k net c.index-trees-k.result c.requires.routing
-    (read_at d.nets c.list-nets.result.now k c.index-nets-k.result c.list-nets.ensures.nets within)
+    (read_at d.nets c.list-nets.result.now k c.index-nets-k.result c.list-nets.ensures.items within)
     (At-read c.args.trees.now k c.index-trees-k.result c.index-trees-k.is among))
 
 pub loop-k-preserved : goal.loop-k-preserved
@@ -50,7 +50,7 @@ loop-k-preserved c =
     let more : (r : ℕ) → load_between d.grid d.nets c.args.trees.now c.args.from (k + 1) r
     ≡ load_between d.grid d.nets c.args.trees.now c.args.from k r + tree_load d.grid net.width c.index-trees-k.result r =
     λ r. load_between-more d c.args.trees.now c.args.from k net c.index-trees-k.result r
-    (read_at d.nets c.list-nets.result.now k c.index-nets-k.result c.list-nets.ensures.nets within)
+    (read_at d.nets c.list-nets.result.now k c.index-nets-k.result c.list-nets.ensures.items within)
     (At-read c.args.trees.now k c.index-trees-k.result c.index-trees-k.is among) c.loop-k.auto.k in
     record {
       loads = λ r. omega (arith, c.add_tree.ensures.loads r, c.loop-k.invariant.loads r, more r);

@@ -24,7 +24,7 @@ loop-position-init g c =
     let p = (phase_of c.args.design.now c.args.grounds.now c.args.table.now c.args.earlier.now c.args.workers c.args.budget) in
     let start = start_of_list p.workers c.args.worker (length p.design.nets)
     (length c.list-nets.result.now) c.part_start-from.result c.part_start-from.ensures.start
-    (ap length c.list-nets.ensures.nets) in
+    (ap length c.list-nets.ensures.items) in
     subst (λ (k : ℕ). IsWithinPart p.design p.workers p.budget p.earlier c.args.worker p.table c.args.share k k c.in-Ok.pricing)
     (sym start)
     (begins_part p.design p.workers p.budget p.earlier c.args.worker p.table c.args.share c.in-Ok.pricing
@@ -37,7 +37,7 @@ bounds-grounds-position g c =
     let n = length p.design.nets in
     let end = start_of_list p.workers (c.args.worker + 1) n
     (length c.list-nets.result.now) c.part_start-to.result c.part_start-to.ensures.start
-    (ap length c.list-nets.ensures.nets) in
+    (ap length c.list-nets.ensures.items) in
     omega (
       arith,
       AllZip-long (λ (m : NetSpec) (found : Ground). IsGround p.design.grid m.terminals found) p.design.nets p.grounds
@@ -52,7 +52,7 @@ price_net-requires-clause-net g c =
     let n = length p.design.nets in
     let end = start_of_list p.workers (c.args.worker + 1) n
     (length c.list-nets.result.now) c.part_start-to.result c.part_start-to.ensures.start
-    (ap length c.list-nets.ensures.nets) in
+    (ap length c.list-nets.ensures.items) in
     in_design p.workers n c.args.worker c.loop-position.position c.requires.phase.some c.requires.worker
     (omega (arith, c.loop-position-test.true, c.loop-position.auto.position-end, end))
 
@@ -62,10 +62,10 @@ price_net-requires-clause-may g c =
     let n = length p.design.nets in
     let start = start_of_list p.workers c.args.worker n
     (length c.list-nets.result.now) c.part_start-from.result c.part_start-from.ensures.start
-    (ap length c.list-nets.ensures.nets) in
+    (ap length c.list-nets.ensures.items) in
     let end = start_of_list p.workers (c.args.worker + 1) n
     (length c.list-nets.result.now) c.part_start-to.result c.part_start-to.ensures.start
-    (ap length c.list-nets.ensures.nets) in
+    (ap length c.list-nets.ensures.items) in
     let enough : 2 ^ 58 ≤ c.args.share.party.allot = omega (arith, c.requires.share.allot) in
     may_route p.design p.workers p.budget p.earlier c.args.worker p.table c.args.share c.loop-position.position
     c.read_if.new.worker c.requires.share.few enough
@@ -81,7 +81,7 @@ price_net-requires-clause-ground g c = λ m at.
     let n = length p.design.nets in
     let end = start_of_list p.workers (c.args.worker + 1) n
     (length c.list-nets.result.now) c.part_start-to.result c.part_start-to.ensures.start
-    (ap length c.list-nets.ensures.nets) in
+    (ap length c.list-nets.ensures.items) in
     AllZip-at (λ (k : NetSpec) (found : Ground). IsGround p.design.grid k.terminals found) p.design.nets p.grounds
     c.loop-position.position m
     (slice_index_or p.grounds c.loop-position.position Open) c.requires.phase.grounds at
@@ -100,10 +100,10 @@ loop-position-preserved g c =
     let n = length p.design.nets in
     let start = start_of_list p.workers c.args.worker n
     (length c.list-nets.result.now) c.part_start-from.result c.part_start-from.ensures.start
-    (ap length c.list-nets.ensures.nets) in
+    (ap length c.list-nets.ensures.items) in
     let end = start_of_list p.workers (c.args.worker + 1) n
     (length c.list-nets.result.now) c.part_start-to.result c.part_start-to.ensures.start
-    (ap length c.list-nets.ensures.nets) in
+    (ap length c.list-nets.ensures.items) in
     let before : c.loop-position.position < part_start p.workers n (c.args.worker + 1) =
     omega (arith, c.loop-position-test.true, c.loop-position.auto.position-end, end) in
     let net = stands p.design.nets c.loop-position.position
@@ -127,10 +127,10 @@ returns g c =
     let n = length p.design.nets in
     let start = start_of_list p.workers c.args.worker n
     (length c.list-nets.result.now) c.part_start-from.result c.part_start-from.ensures.start
-    (ap length c.list-nets.ensures.nets) in
+    (ap length c.list-nets.ensures.items) in
     let end = start_of_list p.workers (c.args.worker + 1) n
     (length c.list-nets.result.now) c.part_start-to.result c.part_start-to.ensures.start
-    (ap length c.list-nets.ensures.nets) in
+    (ap length c.list-nets.ensures.items) in
     let last : c.loop-position.position ≡ part_start p.workers n (c.args.worker + 1) =
     omega (
       arith,

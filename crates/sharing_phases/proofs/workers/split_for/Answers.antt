@@ -14,7 +14,7 @@ pub earlier_loads-requires-clause-range : goal.earlier_loads-requires-clause-ran
 earlier_loads-requires-clause-range c =
     let p = phase_of c.args.design.now c.args.grounds.now c.args.table.now c.args.earlier.now c.args.workers c.args.budget in
     let n = length p.design.nets in
-    rw (c.part_start-from.ensures.start, c.part_start-to.ensures.start, c.list-nets.ensures.nets) (
+    rw (c.part_start-from.ensures.start, c.part_start-to.ensures.start, c.list-nets.ensures.items) (
       part_start-le p.workers n c.args.middle c.args.last c.requires.phase.some (omega (arith, c.requires.range)),
       omega (
         arith,
@@ -38,7 +38,7 @@ split-requires-clause-part c =
     (is_given (entries p.design.grid) p.workers
     (length p.design.nets) middle last c.part_start-from.result c.part_start-to.result
     (length c.list-nets.result.now) (earlier_load p.design p.earlier) c.in_ok-given.given.items c.part_start-from.ensures.start
-    c.part_start-to.ensures.start (ap length c.list-nets.ensures.nets) c.in_ok-given.ensures.long c.in_ok-given.ensures.loads))
+    c.part_start-to.ensures.start (ap length c.list-nets.ensures.items) c.in_ok-given.ensures.long c.in_ok-given.ensures.loads))
 
 pub returns-clause-kept : goal.returns-clause-kept
 returns-clause-kept c =
@@ -50,7 +50,7 @@ returns-clause-kept c =
     (is_given (entries p.design.grid) p.workers (length p.design.nets) c.args.middle c.args.last c.part_start-from.result
     c.part_start-to.result (length c.list-nets.result.now) (earlier_load p.design p.earlier) c.in_ok-given.given.items
     c.part_start-from.ensures.start c.part_start-to.ensures.start
-    (ap length c.list-nets.ensures.nets) c.in_ok-given.ensures.long
+    (ap length c.list-nets.ensures.items) c.in_ok-given.ensures.long
     c.in_ok-given.ensures.loads))
 
 pub returns-clause-given : goal.returns-clause-given
@@ -63,7 +63,7 @@ returns-clause-given c =
     (is_given (entries p.design.grid) p.workers (length p.design.nets) c.args.middle c.args.last c.part_start-from.result
     c.part_start-to.result (length c.list-nets.result.now) (earlier_load p.design p.earlier) c.in_ok-given.given.items
     c.part_start-from.ensures.start c.part_start-to.ensures.start
-    (ap length c.list-nets.ensures.nets) c.in_ok-given.ensures.long
+    (ap length c.list-nets.ensures.items) c.in_ok-given.ensures.long
     c.in_ok-given.ensures.loads))
 
 pub returns-clause-split : goal.returns-clause-split
@@ -88,4 +88,4 @@ returns-clause-split c =
     (is_given (entries p.design.grid) p.workers
     (length p.design.nets) middle last c.part_start-from.result c.part_start-to.result
     (length c.list-nets.result.now) (earlier_load p.design p.earlier) given c.part_start-from.ensures.start
-    c.part_start-to.ensures.start (ap length c.list-nets.ensures.nets) c.in_ok-given.ensures.long c.in_ok-given.ensures.loads)))
+    c.part_start-to.ensures.start (ap length c.list-nets.ensures.items) c.in_ok-given.ensures.long c.in_ok-given.ensures.loads)))

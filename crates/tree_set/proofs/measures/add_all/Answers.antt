@@ -15,7 +15,7 @@ loop-k-preserved c =
     let tree = c.index-trees-k.result in
     let in_trees : c.loop-k.k < length c.args.trees.now = c.loop-k-test.true in
     let in_nets : c.loop-k.k < length d.nets = omega (arith, c.requires.one_each) in
-    let at : n ≡ get_or d.nets c.loop-k.k n = c.index-nets-k.is ∙ ap (λ (ns : List NetSpec). get_or ns c.loop-k.k n) c.list-nets.ensures.nets in
+    let at : n ≡ get_or d.nets c.loop-k.k n = c.index-nets-k.is ∙ ap (λ (ns : List NetSpec). get_or ns c.loop-k.k n) c.list-nets.ensures.items in
     record {
       value = λ e. load_more d.grid d.nets c.args.trees.now c.loop-k.k e n tree _ _ in_nets in_trees at c.index-trees-k.is (c.loop-k.invariant.value e) (rw c.index-nets-k.is (c.add_load.ensures.value e));
       limit = λ e. omega (arith, c.add_load.ensures.limit e, c.loop-k.invariant.limit e);

@@ -29,14 +29,14 @@ pub renew-requires-clause-width : goal.renew-requires-clause-width
 renew-requires-clause-width c =
     let d = c.args.self.now.design.now in
     let n = c.index-nets-place.result in
-    let at = net_stands d.nets c.list-nets.result.now c.args.place n c.list-nets.ensures.nets c.requires.place c.index-nets-place.is in
+    let at = net_stands d.nets c.list-nets.result.now c.args.place n c.list-nets.ensures.items c.requires.place c.index-nets-place.is in
     subst (λ (g : Grid). IsNetWidth g n.width) (sym c.requires.costs.grid) (net_width d c.args.place n at)
 
 pub net_bound-requires-clause-vertices : goal.net_bound-requires-clause-vertices
 net_bound-requires-clause-vertices c =
     let d = c.args.self.now.design.now in
     let n = c.index-nets-place.result in
-    let at = net_stands d.nets c.list-nets.result.now c.args.place n c.list-nets.ensures.nets c.requires.place c.index-nets-place.is in
+    let at = net_stands d.nets c.list-nets.result.now c.args.place n c.list-nets.ensures.items c.requires.place c.index-nets-place.is in
     subst (λ (g : Grid). All (λ v. IsVertex (size_of g) v.0) n.terminals) (sym (c.renew.ensures.grid ∙ c.requires.costs.grid)) (net_vertices d c.args.place n at)
 
 pub net_bound-requires-clause-ground : goal.net_bound-requires-clause-ground
@@ -45,7 +45,7 @@ net_bound-requires-clause-ground c =
     let d = p.design.now in
     let n = c.index-nets-place.result in
     let over = get_or p.grounds.now c.args.place Open in
-    let at = net_stands d.nets c.list-nets.result.now c.args.place n c.list-nets.ensures.nets c.requires.place c.index-nets-place.is in
+    let at = net_stands d.nets c.list-nets.result.now c.args.place n c.list-nets.ensures.items c.requires.place c.index-nets-place.is in
     subst (λ (g : Grid). JoinsTerminals g c.renew.new.self.ground n.terminals) (sym (c.renew.ensures.grid ∙ c.requires.costs.grid))
     (subst (λ (o : Ground). JoinsTerminals d.grid o n.terminals) (sym c.renew.ensures.ground)
     (ground_joins d.grid n over (net_ground d.grid d.nets p.grounds.now c.args.place n Open c.requires.grounds c.requires.place at)))
@@ -67,7 +67,7 @@ returns-clause-bound c =
     let over = get_or p.grounds.now c.args.place Open in
     let q = price_per_piece p.budget in
     let costs = c.renew.new.self in
-    let at = net_stands d.nets c.list-nets.result.now c.args.place m c.list-nets.ensures.nets c.requires.place c.index-nets-place.is in
+    let at = net_stands d.nets c.list-nets.result.now c.args.place m c.list-nets.ensures.items c.requires.place c.index-nets-place.is in
     let its : ℕ → Type 0 = IsNetBound (size_of costs.grid.now) (costed costs.grid.now costs.width costs.ground costs.prices.now 0) m.terminals in
     IfOk-weaker c.net_bound.result its (λ b. (n : NetSpec) → At d.nets c.args.place n → IsBoundOfNet d.grid p.prices.now p.budget n b)
     (λ b is n stands. subst (λ (k : NetSpec). IsBoundOfNet d.grid p.prices.now p.budget k b) (same_Some _ _ (sym at ∙ stands)) (record {
@@ -83,7 +83,7 @@ returns-clause-limit c =
     let p = c.args.self.now in
     let d = p.design.now in
     let m = c.index-nets-place.result in
-    let at = net_stands d.nets c.list-nets.result.now c.args.place m c.list-nets.ensures.nets c.requires.place c.index-nets-place.is in
+    let at = net_stands d.nets c.list-nets.result.now c.args.place m c.list-nets.ensures.items c.requires.place c.index-nets-place.is in
     IfOk-weaker c.net_bound.result (λ b. (n : NetSpec) → At d.nets c.args.place n → IsBoundOfNet d.grid p.prices.now p.budget n b) (λ b. b ≤ max_net_bound)
     (λ b is. net_bound-limit d.grid p.prices.now p.budget m b p.priced (net_width d c.args.place m at) (is m at))
     (returns-clause-bound c)

@@ -21,20 +21,20 @@ pub net_bound-requires-clause-width : goal.net_bound-requires-clause-width
 net_bound-requires-clause-width c =
     let d = c.args.self.now.design.now in
     let n = c.index-nets-place.result in
-    net_width d c.args.place n (net_stands d.nets c.list-nets.result.now c.args.place n c.list-nets.ensures.nets c.requires.place c.index-nets-place.is)
+    net_width d c.args.place n (net_stands d.nets c.list-nets.result.now c.args.place n c.list-nets.ensures.items c.requires.place c.index-nets-place.is)
 
 pub net_bound-requires-clause-vertices : goal.net_bound-requires-clause-vertices
 net_bound-requires-clause-vertices c =
     let d = c.args.self.now.design.now in
     let n = c.index-nets-place.result in
-    net_vertices d c.args.place n (net_stands d.nets c.list-nets.result.now c.args.place n c.list-nets.ensures.nets c.requires.place c.index-nets-place.is)
+    net_vertices d c.args.place n (net_stands d.nets c.list-nets.result.now c.args.place n c.list-nets.ensures.items c.requires.place c.index-nets-place.is)
 
 pub net_bound-requires-clause-ground : goal.net_bound-requires-clause-ground
 net_bound-requires-clause-ground c =
     let p = c.args.self.now in
     let d = p.design.now in
     let n = c.index-nets-place.result in
-    let at = net_stands d.nets c.list-nets.result.now c.args.place n c.list-nets.ensures.nets c.requires.place c.index-nets-place.is in
+    let at = net_stands d.nets c.list-nets.result.now c.args.place n c.list-nets.ensures.items c.requires.place c.index-nets-place.is in
     ground_joins d.grid n (get_or p.grounds.now c.args.place Open) (net_ground d.grid d.nets p.grounds.now c.args.place n Open c.requires.grounds c.requires.place at)
 
 pub returns-clause-bound : goal.returns-clause-bound
@@ -43,7 +43,7 @@ returns-clause-bound c n stands =
     let d = p.design.now in
     let m = c.index-nets-place.result in
     let over = get_or p.grounds.now c.args.place Open in
-    let at = net_stands d.nets c.list-nets.result.now c.args.place m c.list-nets.ensures.nets c.requires.place c.index-nets-place.is in
+    let at = net_stands d.nets c.list-nets.result.now c.args.place m c.list-nets.ensures.items c.requires.place c.index-nets-place.is in
     let is : IsBoundOfNet d.grid p.prices.now p.budget m c.net_bound.result = record {
       over = over;
       is_ground = net_ground d.grid d.nets p.grounds.now c.args.place m Open c.requires.grounds c.requires.place at;
@@ -56,5 +56,5 @@ returns-clause-limit c =
     let p = c.args.self.now in
     let d = p.design.now in
     let m = c.index-nets-place.result in
-    let at = net_stands d.nets c.list-nets.result.now c.args.place m c.list-nets.ensures.nets c.requires.place c.index-nets-place.is in
+    let at = net_stands d.nets c.list-nets.result.now c.args.place m c.list-nets.ensures.items c.requires.place c.index-nets-place.is in
     net_bound-limit d.grid p.prices.now p.budget m c.net_bound.result p.priced (net_width d c.args.place m at) (returns-clause-bound c m at)

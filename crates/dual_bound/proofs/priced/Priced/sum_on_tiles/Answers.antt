@@ -15,5 +15,5 @@ pub new-requires-clause-width : goal.new-requires-clause-width
 new-requires-clause-width c =
     let d = c.args.self.now.design.now in
     let n = c.index-nets-from.result in
-    let at = net_stands d.nets c.list-nets.result.now c.args.from n c.list-nets.ensures.nets (omega (arith, c.requires.some, c.requires.inside)) c.index-nets-from.is in
+    let at = net_stands d.nets c.list-nets.result.now c.args.from n c.list-nets.ensures.items (omega (arith, c.requires.some, c.requires.inside)) c.index-nets-from.is in
     subst (λ (m : NetSpec). IsNetWidth d.grid m.width) c.index-nets-from.is (net_width d c.args.from n at)

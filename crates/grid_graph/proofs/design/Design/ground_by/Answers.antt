@@ -13,15 +13,15 @@ pub first_apart-requires-2 : goal.first_apart-requires-2
 first_apart-requires-2 c i v at =
     let d = c.args.self.now in
     let spec = c.index-list-net.result in
-    let stands = net_stands d.nets c.list.result.now c.args.net spec c.list.ensures.nets c.requires.net c.index-list-net.is in
+    let stands = net_stands d.nets c.list.result.now c.args.net spec c.list.ensures.items c.requires.net c.index-list-net.is in
     rw c.requires.by_choked.long
-    ((d.limits.net c.args.net spec stands).vertices i v (subst (λ (ts : List Vertex). At ts i v) c.list-terminals.ensures.vertices at))
+    ((d.limits.net c.args.net spec stands).vertices i v (subst (λ (ts : List Vertex). At ts i v) c.list-terminals.ensures.items at))
 
 pub returns-in_default-clause-found : goal.returns-in_default-clause-found
 returns-in_default-clause-found c n at =
     let d = c.args.self.now in
-    let spec_is = net_read d.nets c.list.result.now c.args.net c.index-list-net.result n c.list.ensures.nets c.requires.net c.index-list-net.is at in
-    let same : c.list-terminals.result.now ≡ n.terminals = c.list-terminals.ensures.vertices ∙ ap (λ (m : NetSpec). m.terminals) spec_is in
+    let spec_is = net_read d.nets c.list.result.now c.args.net c.index-list-net.result n c.list.ensures.items c.requires.net c.index-list-net.is at in
+    let same : c.list-terminals.result.now ≡ n.terminals = c.list-terminals.ensures.items ∙ ap (λ (m : NetSpec). m.terminals) spec_is in
     joins_alike (size_of d.grid) (Allows d.grid Open) c.args.by_open.now n.terminals c.requires.by_open
     ((d.limits.net c.args.net n at).vertices)
     (subst (λ (ts : List Vertex). HaveOneLabel c.args.by_open.now ts (length ts)) same c.in_default.ensures.alike)
@@ -29,8 +29,8 @@ returns-in_default-clause-found c n at =
 pub returns-in-None-clause-found : goal.returns-in-None-clause-found
 returns-in-None-clause-found c n at =
     let d = c.args.self.now in
-    let spec_is = net_read d.nets c.list.result.now c.args.net c.index-list-net.result n c.list.ensures.nets c.requires.net c.index-list-net.is at in
-    let same : c.list-terminals.result.now ≡ n.terminals = c.list-terminals.ensures.vertices ∙ ap (λ (m : NetSpec). m.terminals) spec_is in (
+    let spec_is = net_read d.nets c.list.result.now c.args.net c.index-list-net.result n c.list.ensures.items c.requires.net c.index-list-net.is at in
+    let same : c.list-terminals.result.now ≡ n.terminals = c.list-terminals.ensures.items ∙ ap (λ (m : NetSpec). m.terminals) spec_is in (
       apart_not_joined (size_of d.grid) (Allows d.grid Open) c.args.by_open.now n.terminals c.in-Some.field-0 c.requires.by_open
           (subst (λ (ts : List Vertex). IsFirstApart c.args.by_open.now ts c.in-Some.field-0) same c.in-Some.ensures.apart),
       joins_alike (size_of d.grid) (Allows d.grid WithChoked) c.args.by_choked.now n.terminals c.requires.by_choked
@@ -42,9 +42,9 @@ pub returns-in-Some-first_apart-clause-cause : goal.returns-in-Some-first_apart-
 returns-in-Some-first_apart-clause-cause c n at =
     let d = c.args.self.now in
     let spec = c.index-list-net.result in
-    let spec_is = net_read d.nets c.list.result.now c.args.net spec n c.list.ensures.nets c.requires.net c.index-list-net.is at in
-    let stands = net_stands d.nets c.list.result.now c.args.net spec c.list.ensures.nets c.requires.net c.index-list-net.is in
+    let spec_is = net_read d.nets c.list.result.now c.args.net spec n c.list.ensures.items c.requires.net c.index-list-net.is at in
+    let stands = net_stands d.nets c.list.result.now c.args.net spec c.list.ensures.items c.requires.net c.index-list-net.is in
     subst (λ (m : NetSpec). IsCutOff d.grid m spec.id c.in-Some-first_apart.terminal) spec_is
     (cut_off_apart d.grid spec c.args.by_choked.now c.in-Some-first_apart.terminal c.requires.by_choked
     ((d.limits.net c.args.net spec stands).vertices)
-    (subst (λ (ts : List Vertex). IsFirstApart c.args.by_choked.now ts c.in-Some-first_apart.terminal) c.list-terminals.ensures.vertices c.in-Some-first_apart.ensures.apart))
+    (subst (λ (ts : List Vertex). IsFirstApart c.args.by_choked.now ts c.in-Some-first_apart.terminal) c.list-terminals.ensures.items c.in-Some-first_apart.ensures.apart))

@@ -16,7 +16,7 @@ pub returns-in_err-ground_by-clause-cause : goal.returns-in_err-ground_by-clause
 returns-in_err-ground_by-clause-cause c =
     let d = c.args.self.now in
     let exit = err_from_is_err_and c.from_residual-in_err-ground_by.result c.from_residual-in_err-ground_by.ensures.1 in
-    let within : c.loop-net.net < length d.nets = subst (λ (xs : List NetSpec). c.loop-net.net < length xs) c.list-net-end.ensures.nets c.loop-net-test.true in
+    let within : c.loop-net.net < length d.nets = subst (λ (xs : List NetSpec). c.loop-net.net < length xs) c.list-net-end.ensures.items c.loop-net-test.true in
     let found = at_place d.nets c.loop-net.net within in
     rw (exit.1, exit.2)
     (first_cause d.grid d.nets c.loop-net.net found.0 c.in_err-ground_by.field-0.0 found.1 (c.in_err-ground_by.ensures.cause found.0 found.1)
@@ -26,7 +26,7 @@ pub returns-clause-grounds : goal.returns-clause-grounds
 returns-clause-grounds c =
     let d = c.args.self.now in
     let whole : length c.loop-net.grounds.items ≡ length d.nets =
-    omega (arith, c.loop-net.invariant.long, c.loop-net-test.false, c.loop-net.auto.net-end, ap (length {A = NetSpec}) c.list-net-end.ensures.nets) in
+    omega (arith, c.loop-net.invariant.long, c.loop-net-test.false, c.loop-net.auto.net-end, ap (length {A = NetSpec}) c.list-net-end.ensures.items) in
     AreGrounds-from_so_far d.grid d.nets c.loop-net.grounds.items whole c.loop-net.invariant.right
 
 pub loop-net-preserved : goal.loop-net-preserved

@@ -25,16 +25,16 @@ pub route_net-requires-clause-ground : goal.route_net-requires-clause-ground
 route_net-requires-clause-ground c =
     let d = c.args.design.now in
     let spec = c.index-list-net.result in
-    let within : c.args.net < length c.list.result.now = omega (arith, c.requires.net, ap (λ (l : List NetSpec). length l) c.list.ensures.nets) in
-    let at : At d.nets c.args.net spec = subst (λ (n : NetSpec). At d.nets c.args.net n) (sym c.index-list-net.is) (read_at d.nets c.list.result.now c.args.net spec c.list.ensures.nets within) in
+    let within : c.args.net < length c.list.result.now = omega (arith, c.requires.net, ap (λ (l : List NetSpec). length l) c.list.ensures.items) in
+    let at : At d.nets c.args.net spec = subst (λ (n : NetSpec). At d.nets c.args.net n) (sym c.index-list-net.is) (read_at d.nets c.list.result.now c.args.net spec c.list.ensures.items within) in
     subst (λ (x : Grid). IsGround x spec.terminals c.args.over) (sym c.requires.works.on_grid) (c.requires.ground spec at)
 
 pub put_tree-requires-clause-width : goal.put_tree-requires-clause-width
 put_tree-requires-clause-width c =
     let d = c.args.design.now in
     let spec = c.index-list-net.result in
-    let within : c.args.net < length c.list.result.now = omega (arith, c.requires.net, ap (λ (l : List NetSpec). length l) c.list.ensures.nets) in
-    let at : At d.nets c.args.net spec = subst (λ (n : NetSpec). At d.nets c.args.net n) (sym c.index-list-net.is) (read_at d.nets c.list.result.now c.args.net spec c.list.ensures.nets within) in
+    let within : c.args.net < length c.list.result.now = omega (arith, c.requires.net, ap (λ (l : List NetSpec). length l) c.list.ensures.items) in
+    let at : At d.nets c.args.net spec = subst (λ (n : NetSpec). At d.nets c.args.net n) (sym c.index-list-net.is) (read_at d.nets c.list.result.now c.args.net spec c.list.ensures.items within) in
     (d.limits.net c.args.net spec at).width
 
 pub put_tree-requires-clause-pieces : goal.put_tree-requires-clause-pieces
@@ -68,8 +68,8 @@ returns-clause-priced c n at =
     let w = c.args.self.now in
     let tree : List Piece = c.in_ok-tree.tree in
     let spec = c.index-list-net.result in
-    let within : c.args.net < length c.list.result.now = omega (arith, c.requires.net, ap (λ (l : List NetSpec). length l) c.list.ensures.nets) in
-    let here : At d.nets c.args.net spec = subst (λ (m : NetSpec). At d.nets c.args.net m) (sym c.index-list-net.is) (read_at d.nets c.list.result.now c.args.net spec c.list.ensures.nets within) in
+    let within : c.args.net < length c.list.result.now = omega (arith, c.requires.net, ap (λ (l : List NetSpec). length l) c.list.ensures.items) in
+    let here : At d.nets c.args.net spec = subst (λ (m : NetSpec). At d.nets c.args.net m) (sym c.index-list-net.is) (read_at d.nets c.list.result.now c.args.net spec c.list.ensures.items within) in
     let same : n ≡ spec = same_Some n spec (sym at ∙ here) in
     let is : c.index.result.now ≡ tree = read_pushed w.trees.items c.push.new.self.items tree c.index.result.now c.in_ok-push.ensures.items
     (c.index.ensures ∙ ap (λ (k : ℕ). get_or c.push.new.self.items k c.index.result.now) (c.len-at.ensures ∙ c.args.self.now.trees.ok.0)) in

@@ -24,8 +24,8 @@ take_tree-requires-clause-had c =
     let d = c.args.design.now in
     let w = c.args.self.now in
     let spec = c.index-list-net.result in
-    let within : c.args.net < length c.list.result.now = omega (arith, c.requires.net, ap (λ (l : List NetSpec). length l) c.list.ensures.nets) in
-    let here : At d.nets c.args.net spec = subst (λ (m : NetSpec). At d.nets c.args.net m) (sym c.index-list-net.is) (read_at d.nets c.list.result.now c.args.net spec c.list.ensures.nets within) in
+    let within : c.args.net < length c.list.result.now = omega (arith, c.requires.net, ap (λ (l : List NetSpec). length l) c.list.ensures.items) in
+    let here : At d.nets c.args.net spec = subst (λ (m : NetSpec). At d.nets c.args.net m) (sym c.index-list-net.is) (read_at d.nets c.list.result.now c.args.net spec c.list.ensures.items within) in
     let old : List Piece = c.index.result.now in
     let stood : At w.trees.items c.args.at old = At-read w.trees.items c.args.at old c.index.ensures c.requires.at in
     let held : HoldsTree d.grid spec.width old w.share.party = c.requires.had spec old here stood in
@@ -36,8 +36,8 @@ route_net-requires-clause-width c =
     let d = c.args.design.now in
     let w = c.args.self.now in
     let spec = c.index-list-net.result in
-    let within : c.args.net < length c.list.result.now = omega (arith, c.requires.net, ap (λ (l : List NetSpec). length l) c.list.ensures.nets) in
-    let here : At d.nets c.args.net spec = subst (λ (m : NetSpec). At d.nets c.args.net m) (sym c.index-list-net.is) (read_at d.nets c.list.result.now c.args.net spec c.list.ensures.nets within) in
+    let within : c.args.net < length c.list.result.now = omega (arith, c.requires.net, ap (λ (l : List NetSpec). length l) c.list.ensures.items) in
+    let here : At d.nets c.args.net spec = subst (λ (m : NetSpec). At d.nets c.args.net m) (sym c.index-list-net.is) (read_at d.nets c.list.result.now c.args.net spec c.list.ensures.items within) in
     subst (λ (x : Grid). IsNetWidth x spec.width) (sym (c.take_tree.ensures.setting.grid ∙ c.requires.works.on_grid)) (d.limits.net c.args.net spec here).width
 
 pub route_net-requires-clause-ground : goal.route_net-requires-clause-ground
@@ -45,16 +45,16 @@ route_net-requires-clause-ground c =
     let d = c.args.design.now in
     let w = c.args.self.now in
     let spec = c.index-list-net.result in
-    let within : c.args.net < length c.list.result.now = omega (arith, c.requires.net, ap (λ (l : List NetSpec). length l) c.list.ensures.nets) in
-    let here : At d.nets c.args.net spec = subst (λ (m : NetSpec). At d.nets c.args.net m) (sym c.index-list-net.is) (read_at d.nets c.list.result.now c.args.net spec c.list.ensures.nets within) in
+    let within : c.args.net < length c.list.result.now = omega (arith, c.requires.net, ap (λ (l : List NetSpec). length l) c.list.ensures.items) in
+    let here : At d.nets c.args.net spec = subst (λ (m : NetSpec). At d.nets c.args.net m) (sym c.index-list-net.is) (read_at d.nets c.list.result.now c.args.net spec c.list.ensures.items within) in
     subst (λ (x : Grid). IsGround x spec.terminals c.args.over) (sym (c.take_tree.ensures.setting.grid ∙ c.requires.works.on_grid)) (c.requires.ground spec here)
 
 pub put_tree-requires-clause-width : goal.put_tree-requires-clause-width
 put_tree-requires-clause-width c =
     let d = c.args.design.now in
     let spec = c.index-list-net.result in
-    let within : c.args.net < length c.list.result.now = omega (arith, c.requires.net, ap (λ (l : List NetSpec). length l) c.list.ensures.nets) in
-    let here : At d.nets c.args.net spec = subst (λ (m : NetSpec). At d.nets c.args.net m) (sym c.index-list-net.is) (read_at d.nets c.list.result.now c.args.net spec c.list.ensures.nets within) in
+    let within : c.args.net < length c.list.result.now = omega (arith, c.requires.net, ap (λ (l : List NetSpec). length l) c.list.ensures.items) in
+    let here : At d.nets c.args.net spec = subst (λ (m : NetSpec). At d.nets c.args.net m) (sym c.index-list-net.is) (read_at d.nets c.list.result.now c.args.net spec c.list.ensures.items within) in
     (d.limits.net c.args.net spec here).width
 
 pub put_tree-requires-clause-pieces : goal.put_tree-requires-clause-pieces
@@ -73,8 +73,8 @@ put_tree-requires-clause-room c =
     let d = c.args.design.now in
     let w = c.args.self.now in
     let spec = c.index-list-net.result in
-    let within : c.args.net < length c.list.result.now = omega (arith, c.requires.net, ap (λ (l : List NetSpec). length l) c.list.ensures.nets) in
-    let here : At d.nets c.args.net spec = subst (λ (m : NetSpec). At d.nets c.args.net m) (sym c.index-list-net.is) (read_at d.nets c.list.result.now c.args.net spec c.list.ensures.nets within) in
+    let within : c.args.net < length c.list.result.now = omega (arith, c.requires.net, ap (λ (l : List NetSpec). length l) c.list.ensures.items) in
+    let here : At d.nets c.args.net spec = subst (λ (m : NetSpec). At d.nets c.args.net m) (sym c.index-list-net.is) (read_at d.nets c.list.result.now c.args.net spec c.list.ensures.items within) in
     let old : List Piece = c.index.result.now in
     room_taken d.grid spec.width old w.share.party c.take_tree.new.share.party c.requires.may.room c.take_tree.ensures.party c.take_tree.ensures.share
 
@@ -83,8 +83,8 @@ put_tree-requires-clause-close c =
     let d = c.args.design.now in
     let w = c.args.self.now in
     let spec = c.index-list-net.result in
-    let within : c.args.net < length c.list.result.now = omega (arith, c.requires.net, ap (λ (l : List NetSpec). length l) c.list.ensures.nets) in
-    let here : At d.nets c.args.net spec = subst (λ (m : NetSpec). At d.nets c.args.net m) (sym c.index-list-net.is) (read_at d.nets c.list.result.now c.args.net spec c.list.ensures.nets within) in
+    let within : c.args.net < length c.list.result.now = omega (arith, c.requires.net, ap (λ (l : List NetSpec). length l) c.list.ensures.items) in
+    let here : At d.nets c.args.net spec = subst (λ (m : NetSpec). At d.nets c.args.net m) (sym c.index-list-net.is) (read_at d.nets c.list.result.now c.args.net spec c.list.ensures.items within) in
     let old : List Piece = c.index.result.now in
     let stood : At w.trees.items c.args.at old = At-read w.trees.items c.args.at old c.index.ensures c.requires.at in
     let held : HoldsTree d.grid spec.width old w.share.party = c.requires.had spec old here stood in
@@ -100,8 +100,8 @@ invariant_of-self c =
     let d = c.args.design.now in
     let w = c.args.self.now in
     let spec = c.index-list-net.result in
-    let within : c.args.net < length c.list.result.now = omega (arith, c.requires.net, ap (λ (l : List NetSpec). length l) c.list.ensures.nets) in
-    let here : At d.nets c.args.net spec = subst (λ (m : NetSpec). At d.nets c.args.net m) (sym c.index-list-net.is) (read_at d.nets c.list.result.now c.args.net spec c.list.ensures.nets within) in
+    let within : c.args.net < length c.list.result.now = omega (arith, c.requires.net, ap (λ (l : List NetSpec). length l) c.list.ensures.items) in
+    let here : At d.nets c.args.net spec = subst (λ (m : NetSpec). At d.nets c.args.net m) (sym c.index-list-net.is) (read_at d.nets c.list.result.now c.args.net spec c.list.ensures.items within) in
     let old : List Piece = c.index.result.now in
     let stood : At w.trees.items c.args.at old = At-read w.trees.items c.args.at old c.index.ensures c.requires.at in
     let held : HoldsTree d.grid spec.width old w.share.party = c.requires.had spec old here stood in
@@ -123,8 +123,8 @@ pub put_tree-requires-in-Err-clause-width : goal.put_tree-requires-in-Err-clause
 put_tree-requires-in-Err-clause-width c =
     let d = c.args.design.now in
     let spec = c.index-list-net.result in
-    let within : c.args.net < length c.list.result.now = omega (arith, c.requires.net, ap (λ (l : List NetSpec). length l) c.list.ensures.nets) in
-    let here : At d.nets c.args.net spec = subst (λ (m : NetSpec). At d.nets c.args.net m) (sym c.index-list-net.is) (read_at d.nets c.list.result.now c.args.net spec c.list.ensures.nets within) in
+    let within : c.args.net < length c.list.result.now = omega (arith, c.requires.net, ap (λ (l : List NetSpec). length l) c.list.ensures.items) in
+    let here : At d.nets c.args.net spec = subst (λ (m : NetSpec). At d.nets c.args.net m) (sym c.index-list-net.is) (read_at d.nets c.list.result.now c.args.net spec c.list.ensures.items within) in
     (d.limits.net c.args.net spec here).width
 
 pub put_tree-requires-in-Err-clause-pieces : goal.put_tree-requires-in-Err-clause-pieces
@@ -132,8 +132,8 @@ put_tree-requires-in-Err-clause-pieces c =
     let d = c.args.design.now in
     let w = c.args.self.now in
     let spec = c.index-list-net.result in
-    let within : c.args.net < length c.list.result.now = omega (arith, c.requires.net, ap (λ (l : List NetSpec). length l) c.list.ensures.nets) in
-    let here : At d.nets c.args.net spec = subst (λ (m : NetSpec). At d.nets c.args.net m) (sym c.index-list-net.is) (read_at d.nets c.list.result.now c.args.net spec c.list.ensures.nets within) in
+    let within : c.args.net < length c.list.result.now = omega (arith, c.requires.net, ap (λ (l : List NetSpec). length l) c.list.ensures.items) in
+    let here : At d.nets c.args.net spec = subst (λ (m : NetSpec). At d.nets c.args.net m) (sym c.index-list-net.is) (read_at d.nets c.list.result.now c.args.net spec c.list.ensures.items within) in
     let old : List Piece = c.index.result.now in
     let stood : At w.trees.items c.args.at old = At-read w.trees.items c.args.at old c.index.ensures c.requires.at in
     let held : HoldsTree d.grid spec.width old w.share.party = c.requires.had spec old here stood in
@@ -146,8 +146,8 @@ put_tree-requires-in-Err-clause-room c =
     let d = c.args.design.now in
     let w = c.args.self.now in
     let spec = c.index-list-net.result in
-    let within : c.args.net < length c.list.result.now = omega (arith, c.requires.net, ap (λ (l : List NetSpec). length l) c.list.ensures.nets) in
-    let here : At d.nets c.args.net spec = subst (λ (m : NetSpec). At d.nets c.args.net m) (sym c.index-list-net.is) (read_at d.nets c.list.result.now c.args.net spec c.list.ensures.nets within) in
+    let within : c.args.net < length c.list.result.now = omega (arith, c.requires.net, ap (λ (l : List NetSpec). length l) c.list.ensures.items) in
+    let here : At d.nets c.args.net spec = subst (λ (m : NetSpec). At d.nets c.args.net m) (sym c.index-list-net.is) (read_at d.nets c.list.result.now c.args.net spec c.list.ensures.items within) in
     let old : List Piece = c.index.result.now in
     room_taken d.grid spec.width old w.share.party c.take_tree.new.share.party c.requires.may.room c.take_tree.ensures.party c.take_tree.ensures.share
 
@@ -156,8 +156,8 @@ put_tree-requires-in-Err-clause-close c =
     let d = c.args.design.now in
     let w = c.args.self.now in
     let spec = c.index-list-net.result in
-    let within : c.args.net < length c.list.result.now = omega (arith, c.requires.net, ap (λ (l : List NetSpec). length l) c.list.ensures.nets) in
-    let here : At d.nets c.args.net spec = subst (λ (m : NetSpec). At d.nets c.args.net m) (sym c.index-list-net.is) (read_at d.nets c.list.result.now c.args.net spec c.list.ensures.nets within) in
+    let within : c.args.net < length c.list.result.now = omega (arith, c.requires.net, ap (λ (l : List NetSpec). length l) c.list.ensures.items) in
+    let here : At d.nets c.args.net spec = subst (λ (m : NetSpec). At d.nets c.args.net m) (sym c.index-list-net.is) (read_at d.nets c.list.result.now c.args.net spec c.list.ensures.items within) in
     let old : List Piece = c.index.result.now in
     let stood : At w.trees.items c.args.at old = At-read w.trees.items c.args.at old c.index.ensures c.requires.at in
     let held : HoldsTree d.grid spec.width old w.share.party = c.requires.had spec old here stood in
@@ -173,8 +173,8 @@ invariant_of-self-in-Err c =
     let d = c.args.design.now in
     let w = c.args.self.now in
     let spec = c.index-list-net.result in
-    let within : c.args.net < length c.list.result.now = omega (arith, c.requires.net, ap (λ (l : List NetSpec). length l) c.list.ensures.nets) in
-    let here : At d.nets c.args.net spec = subst (λ (m : NetSpec). At d.nets c.args.net m) (sym c.index-list-net.is) (read_at d.nets c.list.result.now c.args.net spec c.list.ensures.nets within) in
+    let within : c.args.net < length c.list.result.now = omega (arith, c.requires.net, ap (λ (l : List NetSpec). length l) c.list.ensures.items) in
+    let here : At d.nets c.args.net spec = subst (λ (m : NetSpec). At d.nets c.args.net m) (sym c.index-list-net.is) (read_at d.nets c.list.result.now c.args.net spec c.list.ensures.items within) in
     let old : List Piece = c.index.result.now in
     let stood : At w.trees.items c.args.at old = At-read w.trees.items c.args.at old c.index.ensures c.requires.at in
     let held : HoldsTree d.grid spec.width old w.share.party = c.requires.had spec old here stood in
@@ -197,8 +197,8 @@ returns-in-Ok-clause-repriced c n before at_net at_tree =
     let d = c.args.design.now in
     let w = c.args.self.now in
     let spec = c.index-list-net.result in
-    let within : c.args.net < length c.list.result.now = omega (arith, c.requires.net, ap (λ (l : List NetSpec). length l) c.list.ensures.nets) in
-    let here : At d.nets c.args.net spec = subst (λ (m : NetSpec). At d.nets c.args.net m) (sym c.index-list-net.is) (read_at d.nets c.list.result.now c.args.net spec c.list.ensures.nets within) in
+    let within : c.args.net < length c.list.result.now = omega (arith, c.requires.net, ap (λ (l : List NetSpec). length l) c.list.ensures.items) in
+    let here : At d.nets c.args.net spec = subst (λ (m : NetSpec). At d.nets c.args.net m) (sym c.index-list-net.is) (read_at d.nets c.list.result.now c.args.net spec c.list.ensures.items within) in
     let old : List Piece = c.index.result.now in
     let stood : At w.trees.items c.args.at old = At-read w.trees.items c.args.at old c.index.ensures c.requires.at in
     let held : HoldsTree d.grid spec.width old w.share.party = c.requires.had spec old here stood in
@@ -230,8 +230,8 @@ returns-in-Ok-clause-close c =
     let d = c.args.design.now in
     let w = c.args.self.now in
     let spec = c.index-list-net.result in
-    let within : c.args.net < length c.list.result.now = omega (arith, c.requires.net, ap (λ (l : List NetSpec). length l) c.list.ensures.nets) in
-    let here : At d.nets c.args.net spec = subst (λ (m : NetSpec). At d.nets c.args.net m) (sym c.index-list-net.is) (read_at d.nets c.list.result.now c.args.net spec c.list.ensures.nets within) in
+    let within : c.args.net < length c.list.result.now = omega (arith, c.requires.net, ap (λ (l : List NetSpec). length l) c.list.ensures.items) in
+    let here : At d.nets c.args.net spec = subst (λ (m : NetSpec). At d.nets c.args.net m) (sym c.index-list-net.is) (read_at d.nets c.list.result.now c.args.net spec c.list.ensures.items within) in
     let old : List Piece = c.index.result.now in
     let stood : At w.trees.items c.args.at old = At-read w.trees.items c.args.at old c.index.ensures c.requires.at in
     let held : HoldsTree d.grid spec.width old w.share.party = c.requires.had spec old here stood in
@@ -248,8 +248,8 @@ returns-in-Err-clause-close c =
     let d = c.args.design.now in
     let w = c.args.self.now in
     let spec = c.index-list-net.result in
-    let within : c.args.net < length c.list.result.now = omega (arith, c.requires.net, ap (λ (l : List NetSpec). length l) c.list.ensures.nets) in
-    let here : At d.nets c.args.net spec = subst (λ (m : NetSpec). At d.nets c.args.net m) (sym c.index-list-net.is) (read_at d.nets c.list.result.now c.args.net spec c.list.ensures.nets within) in
+    let within : c.args.net < length c.list.result.now = omega (arith, c.requires.net, ap (λ (l : List NetSpec). length l) c.list.ensures.items) in
+    let here : At d.nets c.args.net spec = subst (λ (m : NetSpec). At d.nets c.args.net m) (sym c.index-list-net.is) (read_at d.nets c.list.result.now c.args.net spec c.list.ensures.items within) in
     let old : List Piece = c.index.result.now in
     let stood : At w.trees.items c.args.at old = At-read w.trees.items c.args.at old c.index.ensures c.requires.at in
     let held : HoldsTree d.grid spec.width old w.share.party = c.requires.had spec old here stood in
@@ -266,8 +266,8 @@ returns-in-Err-clause-no_memory c =
     let d = c.args.design.now in
     let w = c.args.self.now in
     let spec = c.index-list-net.result in
-    let within : c.args.net < length c.list.result.now = omega (arith, c.requires.net, ap (λ (l : List NetSpec). length l) c.list.ensures.nets) in
-    let here : At d.nets c.args.net spec = subst (λ (m : NetSpec). At d.nets c.args.net m) (sym c.index-list-net.is) (read_at d.nets c.list.result.now c.args.net spec c.list.ensures.nets within) in
+    let within : c.args.net < length c.list.result.now = omega (arith, c.requires.net, ap (λ (l : List NetSpec). length l) c.list.ensures.items) in
+    let here : At d.nets c.args.net spec = subst (λ (m : NetSpec). At d.nets c.args.net m) (sym c.index-list-net.is) (read_at d.nets c.list.result.now c.args.net spec c.list.ensures.items within) in
     let old : List Piece = c.index.result.now in
     let stood : At w.trees.items c.args.at old = At-read w.trees.items c.args.at old c.index.ensures c.requires.at in
     let held : HoldsTree d.grid spec.width old w.share.party = c.requires.had spec old here stood in
