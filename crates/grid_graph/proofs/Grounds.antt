@@ -1,4 +1,4 @@
--- Grounds by labels.
+-- Grounds by components.
 use Rattle.std.proofs.Common.{◌≡◌, ℕ, ◌<◌, List, [], ◌∷◌, ◌++◌, length, get_or, refl, sym, ◌∙◌, ap, subst, ⊎_elim, arith}
 use Rattle.std.proofs.lemmas.Option.{same_Some, slice_get_read, slice_get-get_or, slice_get_cases}
 use Rattle.grid_base.specs.declared.piece.Piece.{Piece}
@@ -14,16 +14,16 @@ use Rattle.grid_graph.specs.declared.ground.Ground.TheVariants.{Open, WithChoked
 use Rattle.grid_graph.specs.declared.ground_error.GroundError.{GroundError}
 use Rattle.grid_graph.specs.declared.ground_error.GroundError.TheVariants.{Unreachable, NoMemory}
 use Rattle.grid_graph.specs.declared.net_spec.NetSpec.{NetSpec}
-use Rattle.grid_graph.specs.Apart.{HaveOneLabel, IsFirstApart}
+use Rattle.grid_graph.specs.Apart.{AreInOneComponent, IsFirstApart}
 use Rattle.grid_graph.specs.Grids.{size_of, Allows}
 use Rattle.grid_graph.specs.Grounds.{JoinsTerminals, IsGround, IsCutOff, IsGroundError, AreGrounds, IsFirstGroundError}
-use Rattle.grid_graph.specs.Labels.{AreLabels}
+use Rattle.grid_graph.specs.Components.{AreComponents}
 use Rattle.grid_base.specs.Lists.{At}
 use Rattle.grid_base.proofs.Lists.{At-push_cases, AllZip-from_places, At-from_member, member_from_place}
 
--- terminals of one label are joined
-pub joins_alike : (s : Size) (F : Piece → Type 0) (labels : List ℕ) (terminals : List Vertex) → AreLabels s F labels → ((i : ℕ) (v : Vertex) → At terminals i v → IsVertex s v.0) → HaveOneLabel labels terminals (length terminals) → Joins s F (InVertices terminals)
-joins_alike s F labels terminals right vertex alike a b a_in b_in =
+-- terminals of one component are joined
+pub joins_alike : (s : Size) (F : Piece → Type 0) (components : List ℕ) (terminals : List Vertex) → AreComponents s F components → ((i : ℕ) (v : Vertex) → At terminals i v → IsVertex s v.0) → AreInOneComponent components terminals (length terminals) → Joins s F (InVertices terminals)
+joins_alike s F components terminals right vertex alike a b a_in b_in =
     let at_a = At-from_member terminals (record { 0 = a }) a_in in
     let at_b = At-from_member terminals (record { 0 = b }) b_in in
     let some : 0 < length terminals = omega (arith, at_a.1) in
@@ -32,9 +32,9 @@ joins_alike s F labels terminals right vertex alike a b a_in b_in =
     right.joined a b (vertex at_a.0 (record { 0 = a }) at_a.2) (vertex at_b.0 (record { 0 = b }) at_b.2)
     (alike at_a.0 first (record { 0 = a }) at_a.1 at_first at_a.2 ∙ sym (alike at_b.0 first (record { 0 = b }) at_b.1 at_first at_b.2))
 
--- terminals of two labels are not
-pub apart_not_joined : (s : Size) (F : Piece → Type 0) (labels : List ℕ) (terminals : List Vertex) (place : ℕ) → AreLabels s F labels → IsFirstApart labels terminals place → ¬ Joins s F (InVertices terminals)
-apart_not_joined s F labels terminals place right apart joins =
+-- terminals of two components are not
+pub apart_not_joined : (s : Size) (F : Piece → Type 0) (components : List ℕ) (terminals : List Vertex) (place : ℕ) → AreComponents s F components → IsFirstApart components terminals place → ¬ Joins s F (InVertices terminals)
+apart_not_joined s F components terminals place right apart joins =
     let any : Vertex = record { 0 = 0 } in
     let some : 0 < length terminals = omega (arith, apart.exists) in
     let first = get_or terminals 0 any in
@@ -44,10 +44,10 @@ apart_not_joined s F labels terminals place right apart joins =
     apart.differs first last at_first at_last
     (right.apart last.0 first.0 (joins last.0 first.0 (member_from_place terminals place last at_last) (member_from_place terminals 0 first at_first)))
 
-pub cut_off_apart : (g : Grid) (n : NetSpec) (labels : List ℕ) (place : ℕ) → AreLabels (size_of g) (Allows g WithChoked) labels → ((i : ℕ) (v : Vertex) → At n.terminals i v → IsVertex (size_of g) v.0) → IsFirstApart labels n.terminals place → IsCutOff g n n.id place
-cut_off_apart g n labels place right vertex apart = record {
+pub cut_off_apart : (g : Grid) (n : NetSpec) (components : List ℕ) (place : ℕ) → AreComponents (size_of g) (Allows g WithChoked) components → ((i : ℕ) (v : Vertex) → At n.terminals i v → IsVertex (size_of g) v.0) → IsFirstApart components n.terminals place → IsCutOff g n n.id place
+cut_off_apart g n components place right vertex apart = record {
   named = refl;
-  apart = apart_not_joined (size_of g) (Allows g WithChoked) labels n.terminals place right apart;
+  apart = apart_not_joined (size_of g) (Allows g WithChoked) components n.terminals place right apart;
   exists = apart.exists;
   unjoined = λ first v at_first at_v walk. apart.differs first v at_first at_v (sym (right.apart first.0 v.0 walk));
   joined = λ i first v below at_first at_v. right.joined first.0 v.0 (vertex 0 first at_first) (vertex i v at_v) (sym (apart.alike i first v below at_first at_v));

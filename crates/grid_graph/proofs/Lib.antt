@@ -6,7 +6,7 @@ pub mod Designs
 pub mod Grounds
 pub mod Members
 pub mod Positions
-pub mod SpreadLabels
+pub mod SpreadComponents
 pub mod TileLayers
 pub mod TileLists
 pub mod TileSteps

@@ -11,7 +11,7 @@ pub mod Floors
 pub mod Grids
 pub mod GroundErrors
 pub mod Grounds
-pub mod Labels
+pub mod Components
 pub mod Layouts
 pub mod Limits
 pub mod Nets

@@ -2,11 +2,11 @@
 
 ghost use Rattle.grid_graph.specs.Nets.{IsDesign};
 
+use crate::components_of::components_of;
 use crate::first_apart::first_apart;
 use crate::grid::Grid;
 use crate::ground::Ground;
 use crate::ground_error::GroundError;
-use crate::labels::labels_of;
 use crate::nets::Nets;
 use crate::unreachable_net::UnreachableNet;
 
@@ -25,7 +25,7 @@ impl Design {
     ghost use Rattle.grid_graph.specs.declared.net_spec.NetSpec.{NetSpec};
     ghost use Rattle.grid_graph.specs.Grids.{size_of, Allows};
     ghost use Rattle.grid_graph.specs.Grounds.{IsGround, IsGroundError, IsFirstGroundError, AreGrounds};
-    ghost use Rattle.grid_graph.specs.Labels.{AreLabels};
+    ghost use Rattle.grid_graph.specs.Components.{AreComponents};
     ghost use Rattle.grid_base.specs.Lists.{At};
 
     /// The ground of the net at this place of the list. `Unreachable` is a net that no ground joins.
@@ -34,20 +34,20 @@ impl Design {
         ensures found { (n : NetSpec) → At self.now.nets net n → IfOk result (λ found. IsGround self.now.grid n.terminals found) }
         ensures cause { (n : NetSpec) → At self.now.nets net n → IfErr result (λ e. IsGroundError self.now.grid n e) }
     {
-        let by_open = labels_of(self.grid.allocator(), &self.grid, Ground::Open)?;
-        let by_choked = labels_of(self.grid.allocator(), &self.grid, Ground::WithChoked)?;
+        let by_open = components_of(self.grid.allocator(), &self.grid, Ground::Open)?;
+        let by_choked = components_of(self.grid.allocator(), &self.grid, Ground::WithChoked)?;
         self.ground_by(by_open.as_slice(), by_choked.as_slice(), net)
     }
 
     /// The grounds of all nets, in file order. `Unreachable` is the first net that no ground joins.
     ///
-    /// Takes time linear in the vertices and the terminals: the vertices are labelled once for each ground.
+    /// Takes time linear in the vertices and the terminals: the components are found once for each ground.
     pub fn grounds(&self) -> Result<Vec<Ground>, GroundError>
         ensures grounds { IfOk result (λ grounds. AreGrounds self.now.grid self.now.nets grounds.items) }
         ensures cause { IfErr result (λ e. IsFirstGroundError self.now.grid self.now.nets e) }
     {
-        let by_open = labels_of(self.grid.allocator(), &self.grid, Ground::Open)?;
-        let by_choked = labels_of(self.grid.allocator(), &self.grid, Ground::WithChoked)?;
+        let by_open = components_of(self.grid.allocator(), &self.grid, Ground::Open)?;
+        let by_choked = components_of(self.grid.allocator(), &self.grid, Ground::WithChoked)?;
         let mut grounds = Vec::new(self.grid.allocator());
         for net in 0..self.nets.list().len() {
             grounds.push(self.ground_by(by_open.as_slice(), by_choked.as_slice(), net)?)?;
@@ -55,7 +55,7 @@ impl Design {
         Ok(grounds)
     }
 
-    /// The ground of a net, by the labels of the vertices.
+    /// The ground of a net, by the components of the vertices.
     fn ground_by(
         &self,
         by_open: &[u32],
@@ -63,8 +63,8 @@ impl Design {
         net: usize,
     ) -> Result<Ground, GroundError>
         requires net { net < length self.now.nets }
-        requires by_open { AreLabels (size_of self.now.grid) (Allows self.now.grid Ground.Open) by_open.now }
-        requires by_choked { AreLabels (size_of self.now.grid) (Allows self.now.grid Ground.WithChoked) by_choked.now }
+        requires by_open { AreComponents (size_of self.now.grid) (Allows self.now.grid Ground.Open) by_open.now }
+        requires by_choked { AreComponents (size_of self.now.grid) (Allows self.now.grid Ground.WithChoked) by_choked.now }
         ensures found { (n : NetSpec) → At self.now.nets net n → IfOk result (λ found. IsGround self.now.grid n.terminals found) }
         ensures cause { (n : NetSpec) → At self.now.nets net n → IfErr result (λ e. IsGroundError self.now.grid n e) }
     {

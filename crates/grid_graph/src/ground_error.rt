@@ -14,7 +14,7 @@ pub enum GroundError {
     /// Open and choked edges with vias don't join the net's terminals.
     #[error("{0}")]
     Unreachable(UnreachableNet),
-    /// There was no memory for the labels.
+    /// There was no memory for the components.
     #[error("want of memory")]
     NoMemory,
 }

@@ -12,6 +12,8 @@
 //! its definitions, and that one adjustment changes one edge alone.
 #![tactic(auto)]
 
+mod components;
+mod components_of;
 mod design;
 mod first_apart;
 mod first_capacity;
@@ -24,8 +26,6 @@ mod ground;
 mod ground_error;
 mod ground_pieces;
 mod kind;
-mod labelling;
-mod labels;
 mod laws;
 mod limits;
 mod name;

@@ -2,7 +2,7 @@ use Rattle.std.proofs.Common.{◌≡◌, List, length, ◌∙◌, ap, subst}
 use Rattle.grid_base.specs.declared.vertex.Vertex.{Vertex}
 use Rattle.grid_graph.specs.declared.ground.Ground.TheVariants.{Open, WithChoked}
 use Rattle.grid_graph.specs.declared.net_spec.NetSpec.{NetSpec}
-use Rattle.grid_graph.specs.Apart.{HaveOneLabel, IsFirstApart}
+use Rattle.grid_graph.specs.Apart.{AreInOneComponent, IsFirstApart}
 use Rattle.grid_graph.specs.Grids.{size_of, Allows}
 use Rattle.grid_graph.specs.Grounds.{IsCutOff}
 use Rattle.grid_base.specs.Lists.{At}
@@ -24,7 +24,7 @@ returns-in_default-clause-found c n at =
     let same : c.list-terminals.result.now ≡ n.terminals = c.list-terminals.ensures.items ∙ ap (λ (m : NetSpec). m.terminals) spec_is in
     joins_alike (size_of d.grid) (Allows d.grid Open) c.args.by_open.now n.terminals c.requires.by_open
     ((d.limits.net c.args.net n at).vertices)
-    (subst (λ (ts : List Vertex). HaveOneLabel c.args.by_open.now ts (length ts)) same c.in_default.ensures.alike)
+    (subst (λ (ts : List Vertex). AreInOneComponent c.args.by_open.now ts (length ts)) same c.in_default.ensures.alike)
 
 pub returns-in-None-clause-found : goal.returns-in-None-clause-found
 returns-in-None-clause-found c n at =
@@ -35,7 +35,7 @@ returns-in-None-clause-found c n at =
           (subst (λ (ts : List Vertex). IsFirstApart c.args.by_open.now ts c.in-Some.field-0) same c.in-Some.ensures.apart),
       joins_alike (size_of d.grid) (Allows d.grid WithChoked) c.args.by_choked.now n.terminals c.requires.by_choked
           ((d.limits.net c.args.net n at).vertices)
-          (subst (λ (ts : List Vertex). HaveOneLabel c.args.by_choked.now ts (length ts)) same c.in-None.ensures.alike),
+          (subst (λ (ts : List Vertex). AreInOneComponent c.args.by_choked.now ts (length ts)) same c.in-None.ensures.alike),
     )
 
 pub returns-in-Some-first_apart-clause-cause : goal.returns-in-Some-first_apart-clause-cause
