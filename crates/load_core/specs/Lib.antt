@@ -1,5 +1,4 @@
 pub mod Entries
-pub mod Lending
 pub mod Parties
 pub mod Soundness
 pub mod Events

@@ -52,7 +52,9 @@ impl Core {
     {
         let found = self.words.get(word as usize);
         self.words.set(word as usize, found + amount);
-        self.parties.at_mut(party).add(word as usize, amount);
+        self.parties
+            .at_mut(party as usize)
+            .add(word as usize, amount);
     }
 
     fn sub(&mut self, party: u32, word: u32, amount: u64)
@@ -62,7 +64,9 @@ impl Core {
     {
         let found = self.words.get(word as usize);
         self.words.set(word as usize, found - amount);
-        self.parties.at_mut(party).sub(word as usize, amount);
+        self.parties
+            .at_mut(party as usize)
+            .sub(word as usize, amount);
     }
 
     fn load(&mut self, party: u32, word: u32) -> Result<(), NoMemory>
@@ -72,7 +76,7 @@ impl Core {
         ensures no_memory { OnErr result (self.new ≡ self.old) }
     {
         let found = self.words.get(word as usize);
-        self.parties.at_mut(party).load(word, found)
+        self.parties.at_mut(party as usize).load(word, found)
     }
 
     fn split(&mut self, party: u32, allot: u64, given: &[u64]) -> Result<(), NoMemory>
@@ -83,7 +87,7 @@ impl Core {
     {
         let part = Party::split_off(self.words.allocator(), allot, given)?;
         self.parties.push(part)?;
-        self.parties.at_mut(party).give(allot, given);
+        self.parties.at_mut(party as usize).give(allot, given);
         Ok(())
     }
 
@@ -94,9 +98,9 @@ impl Core {
         ensures no_memory { OnErr result (self.new ≡ self.old) }
     {
         let nobody = Party::nobody(self.words.allocator());
-        let mut gone = replace(self.parties.at_mut(from), nobody);
-        let joined = self.parties.at_mut(into).join(&mut gone);
-        *self.parties.at_mut(from) = gone;
+        let mut gone = replace(self.parties.at_mut(from as usize), nobody);
+        let joined = self.parties.at_mut(into as usize).join(&mut gone);
+        *self.parties.at_mut(from as usize) = gone;
         joined
     }
 }

@@ -1,11 +1,13 @@
 //! Which events are lawful.
 
-ghost use Rattle.std.specs.Prelude.{IsTrue, ◌↔◌};
+ghost use Rattle.std.specs.Prelude.{◌≡◌, IsTrue, ◌↔◌, MatchOption, slice_index_or, true, false};
 ghost use Rattle.load_core.specs.declared.event.Event.TheVariants.{Add, Join, Load, Split, Sub};
 ghost use Rattle.load_core.specs.Events.{IsFit, IsLawful};
+ghost use Rattle.load_core.specs.Parties.{nobody};
 
 use crate::core_state::Core;
 use crate::event::Event;
+use crate::party::Party;
 
 // The most parties that a core has.
 const MOST_PARTIES: usize = u32::MAX as usize;
@@ -36,16 +38,24 @@ impl Core {
         }
     }
 
+    // The party with this number, if it is live.
+    fn live(&self, at: u32) -> Option<&Party>
+        ensures { MatchOption result ((slice_index_or self.now.parties at nobody).live ≡ false) (λ p. (p.now ≡ slice_index_or self.now.parties at nobody) × (p.now.live ≡ true)) }
+    {
+        let party = self.parties.list().get(at as usize)?;
+        if party.live { Some(party) } else { None }
+    }
+
     fn may_load(&self, party: u32, word: u32) -> bool
         ensures { IsTrue result ↔ IsLawful self.now (Load party word) }
     {
-        self.parties.live(party).is_some() && (word as usize) < self.words.list().len()
+        self.live(party).is_some() && (word as usize) < self.words.list().len()
     }
 
     fn may_add(&self, party: u32, word: u32, amount: u64) -> bool
         ensures { IsTrue result ↔ IsLawful self.now (Add party word amount) }
     {
-        let Some(party) = self.parties.live(party) else {
+        let Some(party) = self.live(party) else {
             return false;
         };
         let share = party.share(word as usize);
@@ -57,7 +67,7 @@ impl Core {
     fn may_sub(&self, party: u32, word: u32, amount: u64) -> bool
         ensures { IsTrue result ↔ IsLawful self.now (Sub party word amount) }
     {
-        let Some(party) = self.parties.live(party) else {
+        let Some(party) = self.live(party) else {
             return false;
         };
         (word as usize) < self.words.list().len() && amount <= party.share(word as usize)
@@ -67,7 +77,7 @@ impl Core {
         requires { IsFit self.now }
         ensures { IsTrue result ↔ IsLawful self.now (Split party allot given.now) }
     {
-        let Some(party) = self.parties.live(party) else {
+        let Some(party) = self.live(party) else {
             return false;
         };
         self.parties.list().len() < MOST_PARTIES
@@ -78,6 +88,6 @@ impl Core {
     fn may_join(&self, into: u32, from: u32) -> bool
         ensures { IsTrue result ↔ IsLawful self.now (Join into from) }
     {
-        into != from && self.parties.live(into).is_some() && self.parties.live(from).is_some()
+        into != from && self.live(into).is_some() && self.live(from).is_some()
     }
 }

@@ -33,7 +33,7 @@ impl Party {
             allot: 0,
             shares: Amounts::of(Vec::new(alloc)),
             last: Amounts::of(Vec::new(alloc)),
-            history: History::empty(alloc),
+            history: History::of(Vec::new(alloc)),
         }
     }
 
@@ -48,7 +48,7 @@ impl Party {
             allot,
             shares,
             last,
-            history: History::empty(alloc),
+            history: History::of(Vec::new(alloc)),
         })
     }
 
