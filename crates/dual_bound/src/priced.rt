@@ -31,7 +31,7 @@ impl Priced<'_> {
     ghost use Rattle.grid_graph.specs.Grids.{IsEdgeNumber};
     ghost use Rattle.edge_prices.specs.Limits.{max_price};
     ghost use Rattle.shortest_paths.specs.LabelWords.{labels_size, masks_of};
-    ghost use Rattle.shortest_paths.specs.Masks.{rooted_masks};
+    ghost use Rattle.steiner_tables.specs.Masks.{rooted_masks};
     ghost use Rattle.tree_set.specs.Budgets.{price_per_piece, most_of};
     ghost use Rattle.tree_set.specs.Limits.{max_denominator};
     ghost use Rattle.dual_bound.specs.DesignBounds.{IsBoundOfNet};

@@ -13,7 +13,7 @@ impl Priced<'_> {
     ghost use Rattle.grid_base.specs.Lists.{At};
     ghost use Rattle.grid_graph.specs.declared.net_spec.NetSpec.{NetSpec};
     ghost use Rattle.shortest_paths.specs.LabelWords.{labels_size, masks_of};
-    ghost use Rattle.shortest_paths.specs.Masks.{rooted_masks};
+    ghost use Rattle.steiner_tables.specs.Masks.{rooted_masks};
     ghost use Rattle.tree_set.specs.Budgets.{price_per_piece};
     ghost use Rattle.lower_bound.specs.ClassWords.{tiles_size};
     ghost use Rattle.dual_bound.specs.Classes.{IsClassOf};

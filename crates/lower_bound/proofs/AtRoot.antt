@@ -8,11 +8,11 @@ use Rattle.grid_base.specs.Lists.{At}
 use Rattle.grid_base.specs.Walks.{Joins, InVertices, WalkBetween}
 use Rattle.grid_base.proofs.Walks.{WalkBetween-refl, walk_vertices}
 use Rattle.grid_graph.specs.Weighed.{IsAllowed, NoPieceTwice}
-use Rattle.shortest_paths.specs.Masks.{all_but_root}
-use Rattle.shortest_paths.specs.Sets.{IsLeastWeight}
-use Rattle.shortest_paths.specs.Tables.{IsLabel}
-use Rattle.shortest_paths.proofs.Roots.{least_at_root, joins_at_root}
-use Rattle.shortest_paths.proofs.Sets.{no_pieces}
+use Rattle.steiner_tables.specs.Masks.{all_but_root}
+use Rattle.label_search.specs.Sets.{IsLeastWeight}
+use Rattle.steiner_tables.specs.Tables.{IsLabel}
+use Rattle.steiner_tables.proofs.Roots.{least_at_root, joins_at_root}
+use Rattle.label_search.proofs.Sets.{no_pieces}
 
 -- fewer than two terminals are joined without a piece
 pub few_least : (s : Size) (pieces : List (Piece × ℕ)) (terminals : List Vertex) → length terminals < 2 → Joins s (IsAllowed pieces) (InVertices terminals) → IsLeastWeight s pieces (InVertices terminals) 0

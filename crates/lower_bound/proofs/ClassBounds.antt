@@ -20,7 +20,7 @@ use Rattle.grid_graph.proofs.TileLists.{tiles_vertices, tiles_long}
 use Rattle.edge_prices.specs.PieceLists.{IsWeightList, pieces_with}
 use Rattle.edge_prices.specs.Weights.{AreEdgePrices, cost}
 use Rattle.edge_prices.proofs.GroundPieces.{pieces_with-Weighs}
-use Rattle.shortest_paths.specs.Sets.{IsLeastWeight}
+use Rattle.label_search.specs.Sets.{IsLeastWeight}
 use Rattle.shortest_paths.proofs.TileSets.{tiles_joined, tiles_of_vertices}
 use Rattle.lower_bound.specs.declared.class_costs.ClassCosts.{ClassCosts}
 use Rattle.lower_bound.specs.ClassWords.{AreClassCosts, KeepsClass, class_pieces}

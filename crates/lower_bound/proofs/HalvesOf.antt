@@ -13,8 +13,8 @@ use Rattle.grid_base.specs.Walks.{Joins, InVertices, WalkBetween}
 use Rattle.grid_base.proofs.Walks.{WalkBetween-refl}
 use Rattle.grid_graph.specs.Weighed.{IsAllowed, NoPieceTwice}
 use Rattle.shortest_paths.specs.Nearest.{IsGoal, IsNearestDistance}
-use Rattle.shortest_paths.specs.Sets.{IsEither, IsLeastWeight}
-use Rattle.shortest_paths.proofs.Sets.{no_pieces, joins_ends}
+use Rattle.label_search.specs.Sets.{IsEither, IsLeastWeight}
+use Rattle.label_search.proofs.Sets.{no_pieces, joins_ends}
 use Rattle.lower_bound.specs.NetBounds.{IsLeastToOther}
 use Rattle.lower_bound.specs.HalfWords.{all_ones, HasTwin, IsHalf, IsSumOfHalves}
 

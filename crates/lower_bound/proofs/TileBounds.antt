@@ -21,7 +21,7 @@ use Rattle.grid_graph.proofs.TileLists.{tiles_at, tiles_long, terminal_at}
 use Rattle.edge_prices.specs.PieceLists.{has_piece, all_pieces, pieces_with}
 use Rattle.edge_prices.specs.Weights.{cost}
 use Rattle.edge_prices.proofs.GroundPieces.{pieces_with-Weighs}
-use Rattle.shortest_paths.specs.Sets.{IsLeastWeight, IsEither}
+use Rattle.label_search.specs.Sets.{IsLeastWeight, IsEither}
 use Rattle.shortest_paths.proofs.TileSets.{within_by_tiles, least_by_tiles, tiles_of_two, tiles_of_vertices}
 use Rattle.lower_bound.specs.Costs.{costed}
 use Rattle.lower_bound.specs.HalfWords.{IsHalf, IsSumOfHalves}

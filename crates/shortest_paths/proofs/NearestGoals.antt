@@ -6,17 +6,17 @@ use Rattle.grid_base.specs.declared.size.Size.{Size}
 use Rattle.grid_base.specs.declared.vertex.Vertex.{Vertex}
 use Rattle.grid_base.proofs.Walks.{walk_vertices}
 use Rattle.grid_graph.specs.Weighed.{IsAllowed, AreWithinLimit}
-use Rattle.shortest_paths.specs.declared.row.Row.{Row}
-use Rattle.shortest_paths.specs.Founds.{index_in, FindsMore, AreFoundFirst}
+use Rattle.label_search.specs.declared.row.Row.{Row}
+use Rattle.label_search.specs.Founds.{index_in, FindsMore, AreFoundFirst}
 use Rattle.shortest_paths.specs.Nearest.{IsGoal, NoneIsNearer, IsLeastToGoal, IsFoundGoal, DoGoalsWait}
-use Rattle.shortest_paths.specs.Rows.{number_in, Waits, IsWaiting, IsLeastWaiting}
-use Rattle.shortest_paths.specs.Runs.{IsSearch, IsSettled, TakesOffer}
-use Rattle.shortest_paths.specs.Searches.{IsReached}
-use Rattle.shortest_paths.specs.Sets.{IsEither, AreApart}
-use Rattle.shortest_paths.specs.Stamped.{far}
-use Rattle.shortest_paths.proofs.Distances.{least_past}
-use Rattle.shortest_paths.proofs.Forests.{light_part}
-use Rattle.shortest_paths.proofs.Sets.{least_found, ends_joined}
+use Rattle.label_search.specs.Rows.{number_in, Waits, IsWaiting, IsLeastWaiting}
+use Rattle.label_search.specs.Runs.{IsSearch, IsSettled, TakesOffer}
+use Rattle.label_search.specs.Searches.{IsReached}
+use Rattle.label_search.specs.Sets.{IsEither, AreApart}
+use Rattle.label_search.specs.Stamped.{far}
+use Rattle.label_search.proofs.LeastNumbers.{least_past}
+use Rattle.label_search.proofs.Forests.{light_part}
+use Rattle.label_search.proofs.Sets.{least_found, ends_joined}
 
 -- what was found first was found before
 pub goal_before : (old new : Row) (count source v : ℕ) → FindsMore old.found new.found → count ≤ old.found.len

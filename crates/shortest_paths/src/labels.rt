@@ -2,18 +2,13 @@
 
 ghost use Rattle.shortest_paths.specs.LabelParts.{ArePartsOfLabels};
 
-use crate::bound::Bound;
-use crate::family::Family;
-use crate::kept_rows::KeptRows;
-use crate::no_bound::NoBound;
-use crate::no_family::NoFamily;
-use crate::rest_of::RestOf;
-use crate::row::{FAR, MOST, Row};
-use crate::search::{exhaust, offer, settle, settle_each, start_each};
-use crate::seeds::seed;
 use grid_base::{NoMemory, Piece, Size, Spot, Vertex, steps};
 use grid_graph::Weights;
+use label_search::{
+    Bound, FAR, MOST, NoBound, Row, exhaust, offer, settle, settle_each, start_each,
+};
 use std::alloc::Global;
+use steiner_tables::{Family, KeptRows, NoFamily, RestOf, seed};
 
 /// Above each number with what is still to go: no offer is refused for this limit.
 pub(crate) const NO_LIMIT: u64 = 1 << 62;
@@ -35,14 +30,14 @@ impl Labels {
     ghost use Rattle.grid_base.specs.declared.piece.Piece.{Piece};
     ghost use Rattle.grid_base.specs.Numbers.{IsVertex, Connects};
     ghost use Rattle.shortest_paths.specs.LabelWords.{labels_size, masks_of, source_of, labels_number, distance_of, label_of, HasDistance, LeadsBack};
-    ghost use Rattle.shortest_paths.specs.Masks.{proper_masks, few_terminals, all_of, all_but_root};
-    ghost use Rattle.shortest_paths.specs.Paths.{IsPath, IsStepBack, IsPieceBack, NoneWeighsNothing};
-    ghost use Rattle.shortest_paths.specs.Rows.{number_in, IsWaiting};
-    ghost use Rattle.shortest_paths.specs.Runs.{IsSearch};
-    ghost use Rattle.shortest_paths.specs.Searches.{IsLow};
+    ghost use Rattle.steiner_tables.specs.Masks.{proper_masks, few_terminals, all_of, all_but_root};
+    ghost use Rattle.label_search.specs.Paths.{IsPath, IsStepBack, IsPieceBack, NoneWeighsNothing};
+    ghost use Rattle.label_search.specs.Rows.{number_in, IsWaiting};
+    ghost use Rattle.label_search.specs.Runs.{IsSearch};
+    ghost use Rattle.label_search.specs.Searches.{IsLow};
     ghost use Rattle.shortest_paths.specs.Sources.{IsFromAny};
-    ghost use Rattle.shortest_paths.specs.Stamped.{most, far};
-    ghost use Rattle.shortest_paths.specs.Tables.{IsPrunedTable, IsLabel, IsReachedExactly, answer_at};
+    ghost use Rattle.label_search.specs.Stamped.{most, far};
+    ghost use Rattle.steiner_tables.specs.Tables.{IsPrunedTable, IsLabel, IsReachedExactly, answer_at};
 
     /// Labels of a grid of this size. Searches take no further memory. `masks` says for how many sets of terminals
     /// there shall be room.

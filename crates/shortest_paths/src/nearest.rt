@@ -3,16 +3,14 @@
 ghost use Rattle.std.specs.Prelude.{◌≡◌, ◌<◌, ◌≤◌, ◌↔◌, ℕ, None, IfSome, IsTrue};
 ghost use Rattle.grid_base.specs.Numbers.{IsVertex};
 ghost use Rattle.shortest_paths.specs.Nearest.{NoneIsNearer, IsFoundGoal, DoGoalsWait};
-ghost use Rattle.shortest_paths.specs.Rows.{size_in, number_in};
-ghost use Rattle.shortest_paths.specs.Runs.{IsSearch, IsSettled, FallsFrom};
-ghost use Rattle.shortest_paths.specs.Stamped.{far};
+ghost use Rattle.label_search.specs.Rows.{size_in, number_in};
+ghost use Rattle.label_search.specs.Runs.{IsSearch, IsSettled, FallsFrom};
+ghost use Rattle.label_search.specs.Stamped.{far};
 
 use crate::labels::{Labels, NO_LIMIT};
-use crate::no_bound::NoBound;
-use crate::row::Row;
-use crate::search::{offer, spread};
 use grid_base::{Spot, Vertex};
 use grid_graph::Weights;
+use label_search::{NoBound, Row, offer, spread};
 
 impl Labels {
     ghost use Rattle.std.specs.Prelude.{◌≡◌, All};

@@ -7,19 +7,19 @@ use Rattle.grid_base.specs.Numbers.{Connects}
 use Rattle.grid_graph.specs.Weighed.{Weighs, IsAllowed}
 use Rattle.shortest_paths.specs.declared.labels.Labels.{Labels}
 use Rattle.steiner_span.specs.Growths.{AreKeys, AfterOffer, AreBehind, IsGrowing, IsTaken, FallsTo, FallsOn, SpreadsOn}
-use Rattle.shortest_paths.specs.Paths.{NoneWeighsNothing}
+use Rattle.label_search.specs.Paths.{NoneWeighsNothing}
 use Rattle.shortest_paths.specs.LabelWords.{labels_number}
 use Rattle.shortest_paths.specs.LedSearches.{HasKey, IsOpen, GoOn, Lowers, IsTakenOut, work_of}
-use Rattle.shortest_paths.specs.Runs.{IsSpreadWithin}
+use Rattle.label_search.specs.Runs.{IsSpreadWithin}
 use Rattle.shortest_paths.proofs.LedSearches.{number_within}
-use Rattle.shortest_paths.specs.Searches.{IsBehind, IsRelaxed}
-use Rattle.shortest_paths.specs.Stamped.{far}
+use Rattle.label_search.specs.Searches.{IsBehind, IsRelaxed}
+use Rattle.label_search.specs.Stamped.{far}
 use Rattle.grid_base.specs.Walks.{Joins}
 use Rattle.grid_base.proofs.Walks.{walk_vertices}
 use Rattle.grid_base.specs.declared.vertex.Vertex.{Vertex}
 use Rattle.grid_graph.specs.Weighed.{NoPieceTwice, AreWithinLimit}
-use Rattle.shortest_paths.proofs.Forests.{light_part}
-use Rattle.shortest_paths.proofs.Law.{rises_by_weight}
+use Rattle.label_search.proofs.Forests.{light_part}
+use Rattle.label_search.proofs.Law.{rises_by_weight}
 
 pub go_on_itself : (l : Labels) → GoOn l l
 go_on_itself l = record { size = refl; masks = refl; first = λ vertices count first. first }

@@ -15,14 +15,14 @@ use Rattle.steiner_span.specs.declared.step_back.StepBack.{StepBack}
 use Rattle.steiner_span.specs.Growths.{AfterOffer, AreKeys, AreBehind, AreLight, IsGrowing, IsTaken, FallsTo, IsWayBack, IsGrown}
 use Rattle.shortest_paths.specs.LabelWords.{labels_number}
 use Rattle.shortest_paths.specs.LedSearches.{IsOpen}
-use Rattle.shortest_paths.specs.Sets.{IsSetOf, IsDistance, RisesSlowly, weight}
+use Rattle.label_search.specs.Sets.{IsSetOf, IsDistance, RisesSlowly, weight}
 use Rattle.shortest_paths.specs.Spanning.{Link, IsSpanningTree}
 use Rattle.steiner_span.specs.Exchanges.{IsExchanged}
-use Rattle.shortest_paths.specs.Stamped.{far}
-use Rattle.shortest_paths.proofs.Distances.{least_past}
+use Rattle.label_search.specs.Stamped.{far}
+use Rattle.label_search.proofs.LeastNumbers.{least_past}
 use Rattle.steiner_span.proofs.Exchange.{OrAlso, exchanged, exchanged_at_start, exchanged_more}
 use Rattle.steiner_span.proofs.Growing.{falls_itself, falls_to, still_behind}
-use Rattle.shortest_paths.proofs.Sets.{extended, ends_joined, no_pieces}
+use Rattle.label_search.proofs.Sets.{extended, ends_joined, no_pieces}
 
 -- no allowed set that joins the tree with a terminal outside it weighs less than the number of the one taken out
 pub nearest : (s : Size) (pieces : List (Piece × ℕ)) (T : ℕ → Type 0) (rest : ℕ → ℕ) (r : Labels) (at : ℕ) → IsTaken s pieces T rest r at → RisesSlowly s pieces rest → ((v : ℕ) → T v → 0 < labels_number r v → rest v ≡ 0) →

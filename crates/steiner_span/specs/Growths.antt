@@ -11,11 +11,11 @@ use Rattle.grid_graph.specs.Weighed.{Weighs, IsAllowed}
 use Rattle.shortest_paths.specs.declared.labels.Labels.{Labels}
 use Rattle.shortest_paths.specs.LabelWords.{labels_number}
 use Rattle.shortest_paths.specs.LedSearches.{HasKey, IsOpen, GoOn, work_of}
-use Rattle.shortest_paths.specs.Paths.{IsStepBack}
-use Rattle.shortest_paths.specs.Searches.{IsBehind, IsRelaxed}
-use Rattle.shortest_paths.specs.Sets.{IsSetOf, weight}
+use Rattle.label_search.specs.Paths.{IsStepBack}
+use Rattle.label_search.specs.Searches.{IsBehind, IsRelaxed}
+use Rattle.label_search.specs.Sets.{IsSetOf, weight}
 use Rattle.shortest_paths.specs.Spanning.{Link, IsSpanningTree}
-use Rattle.shortest_paths.specs.Stamped.{far}
+use Rattle.label_search.specs.Stamped.{far}
 use Rattle.steiner_span.specs.declared.step_back.StepBack.{StepBack}
 use Rattle.steiner_span.specs.Exchanges.{IsExchanged}
 

@@ -8,10 +8,10 @@ ghost use Rattle.grid_base.specs.Walks.{Joins, InVertices, InPieces, JoinsList};
 ghost use Rattle.grid_graph.specs.Weighed.{IsAllowed};
 ghost use Rattle.shortest_paths.specs.LabelWords.{labels_size, masks_of, labels_number};
 ghost use Rattle.shortest_paths.specs.LedSearches.{HasKey, AreFirst, IsFirst, found_of, work_of};
-ghost use Rattle.shortest_paths.specs.Paths.{NoneWeighsNothing};
-ghost use Rattle.shortest_paths.specs.Searches.{IsRelaxed};
+ghost use Rattle.label_search.specs.Paths.{NoneWeighsNothing};
+ghost use Rattle.label_search.specs.Searches.{IsRelaxed};
 ghost use Rattle.shortest_paths.specs.Spanning.{Link, IsSpanningTree, links_weight};
-ghost use Rattle.shortest_paths.specs.Stamped.{far};
+ghost use Rattle.label_search.specs.Stamped.{far};
 ghost use Rattle.steiner_span.specs.Growths.{AreKeys, AfterOffer, IsGrowing, IsTaken, FallsTo, FallsOn, SpreadsOn, IsGrown, AreLight};
 
 use crate::ahead::Ahead;

@@ -1,14 +1,14 @@
 use Rattle.std.proofs.Common.{◌≡◌, ◌≢◌, ◌<◌, ◌^◌, false, sym, ◌∙◌, subst, inl, inr, ⊎_elim, arith}
 use Rattle.std.specs.Bool.{IsTrue}
-use Rattle.shortest_paths.specs.declared.found.Found.{Found}
-use Rattle.shortest_paths.specs.declared.row.Row.{Row}
-use Rattle.shortest_paths.specs.Founds.{FindsMore, index_in}
+use Rattle.label_search.specs.declared.found.Found.{Found}
+use Rattle.label_search.specs.declared.row.Row.{Row}
+use Rattle.label_search.specs.Founds.{FindsMore, index_in}
 use Rattle.shortest_paths.specs.Nearest.{IsFoundGoal}
-use Rattle.shortest_paths.specs.Rows.{number_in, Waits}
-use Rattle.shortest_paths.specs.Runs.{FallsFrom}
-use Rattle.shortest_paths.proofs.Finding.{FindsMore-refl}
+use Rattle.label_search.specs.Rows.{number_in, Waits}
+use Rattle.label_search.specs.Runs.{FallsFrom}
+use Rattle.label_search.proofs.Finding.{FindsMore-refl}
 use Rattle.shortest_paths.proofs.NearestGoals.{goal_before, nearer_of, taken_nearest, idle_nearest}
-use Rattle.shortest_paths.proofs.Spreading.{settled_on, FallsFrom-same, FallsFrom-trans}
+use Rattle.label_search.proofs.Spreading.{settled_on, FallsFrom-same, FallsFrom-trans}
 use Rattle.shortest_paths.proofs.nearest.next_goal.Goals as goal
 
 -- a vertex was taken out and nothing else changed

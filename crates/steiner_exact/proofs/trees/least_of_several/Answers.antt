@@ -1,6 +1,6 @@
 use Rattle.std.proofs.Common.{sym, subst, arith}
 use Rattle.shortest_paths.specs.LabelWords.{label_of}
-use Rattle.shortest_paths.proofs.Roots.{root_mask}
+use Rattle.steiner_tables.proofs.Roots.{root_mask}
 use Rattle.steiner_exact.specs.Reading.{AreReached, IsTreeWithin}
 use Rattle.steiner_exact.specs.Roots.{root_of}
 use Rattle.steiner_exact.proofs.Attempts.{tree_is_found, few_masks}

@@ -6,8 +6,8 @@ use Rattle.grid_graph.specs.Weighed.{IsAllowed}
 use Rattle.shortest_paths.specs.LabelWords.{labels_number}
 use Rattle.steiner_span.specs.Growths.{AfterOffer}
 use Rattle.steiner_span.proofs.Growing.{spread_whole, offered_on, spreads_on, still_at}
-use Rattle.shortest_paths.specs.Stamped.{far}
-use Rattle.shortest_paths.proofs.Spreading.{OfferedBelow, spot_step, no_step, offered_more, offered_past, offered_all}
+use Rattle.label_search.specs.Stamped.{far}
+use Rattle.label_search.proofs.Spreading.{OfferedBelow, spot_step, no_step, offered_more, offered_past, offered_all}
 use Rattle.steiner_span.proofs.grow.spread.Goals as goal
 use Rattle.steiner_span.proofs.grow.spread.Goals.{in-Some+then-allows, in-Some+else-allows, in_default}
 

@@ -1,8 +1,8 @@
 use Rattle.std.proofs.Common.{◌≡◌}
 use Rattle.steiner_span.specs.Growths.{AreKeys, SpreadsOn}
 use Rattle.shortest_paths.specs.LabelWords.{labels_number}
-use Rattle.shortest_paths.proofs.Spreading.{OfferedBelow}
-use Rattle.shortest_paths.specs.Stamped.{far}
+use Rattle.label_search.proofs.Spreading.{OfferedBelow}
+use Rattle.label_search.specs.Stamped.{far}
 use Rattle.steiner_span.proofs.grow.spread.Given as goal
 
 abbrev pub invariant-loop-step : goal.invariant-loop-step

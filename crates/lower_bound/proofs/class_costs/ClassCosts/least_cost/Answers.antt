@@ -2,7 +2,7 @@ use Rattle.std.proofs.Common.{List, All, length, sym, ap, subst, refl, arith}
 use Rattle.grid_base.specs.declared.vertex.Vertex.{Vertex}
 use Rattle.grid_base.specs.Walks.{Joins, InVertices}
 use Rattle.grid_graph.specs.Grids.{size_of}
-use Rattle.shortest_paths.specs.Sets.{IsLeastWeight}
+use Rattle.label_search.specs.Sets.{IsLeastWeight}
 use Rattle.lower_bound.specs.TileCosts.{costs_between}
 use Rattle.grid_base.specs.Numbers.{IsVertex}
 use Rattle.grid_graph.specs.Weighed.{IsAllowed}

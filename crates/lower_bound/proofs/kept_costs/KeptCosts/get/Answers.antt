@@ -7,7 +7,7 @@ use Rattle.grid_base.specs.contracts.vertex.VertexPartialEq.TheImpl as equal
 use Rattle.grid_base.specs.declared.vertex.Vertex.{Vertex}
 use Rattle.grid_base.specs.Lists.{At}
 use Rattle.grid_base.specs.Walks.{InVertices}
-use Rattle.shortest_paths.specs.Sets.{IsLeastWeight}
+use Rattle.label_search.specs.Sets.{IsLeastWeight}
 use Rattle.lower_bound.specs.declared.kept_costs.KeptCost.{KeptCost}
 use Rattle.lower_bound.proofs.kept_costs.KeptCosts.get.Goals as goal
 

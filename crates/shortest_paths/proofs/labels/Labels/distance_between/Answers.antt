@@ -1,9 +1,9 @@
 use Rattle.std.proofs.Common.{◌^◌, sym, ◌∙◌, subst}
-use Rattle.shortest_paths.specs.Rows.{number_in}
-use Rattle.shortest_paths.specs.Searches.{IsReached}
-use Rattle.shortest_paths.specs.Sets.{IsDistance}
-use Rattle.shortest_paths.specs.Stamped.{far}
-use Rattle.shortest_paths.specs.Tables.{answer_at}
+use Rattle.label_search.specs.Rows.{number_in}
+use Rattle.label_search.specs.Searches.{IsReached}
+use Rattle.label_search.specs.Sets.{IsDistance}
+use Rattle.label_search.specs.Stamped.{far}
+use Rattle.steiner_tables.specs.Tables.{answer_at}
 use Rattle.shortest_paths.proofs.Distances.{started_settled, fallen_reached, distance_of_least}
 use Rattle.shortest_paths.proofs.labels.Labels.distance_between.Goals as goal
 

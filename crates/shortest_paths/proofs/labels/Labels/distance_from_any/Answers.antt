@@ -3,9 +3,10 @@ use Rattle.std.proofs.lemmas.List.Elements.{All-weaker}
 use Rattle.grid_base.specs.declared.size.Size.{Size}
 use Rattle.grid_base.specs.declared.vertex.Vertex.{Vertex}
 use Rattle.grid_base.specs.Numbers.{IsVertex}
-use Rattle.shortest_paths.specs.Rows.{number_in}
-use Rattle.shortest_paths.specs.Searches.{IsLow}
-use Rattle.shortest_paths.proofs.Sources.{sources_settled, fallen_from_any}
+use Rattle.label_search.specs.Rows.{number_in}
+use Rattle.label_search.specs.Searches.{IsLow}
+use Rattle.label_search.proofs.Starts.{sources_settled}
+use Rattle.shortest_paths.proofs.Sources.{fallen_from_any}
 use Rattle.shortest_paths.proofs.labels.Labels.distance_from_any.Goals as goal
 
 pub start_each-requires-clause-size : goal.start_each-requires-clause-size

@@ -1,17 +1,16 @@
-use Rattle.std.proofs.Common.{◌≡◌, ◌≢◌, ◌<◌, ◌^◌, ℕ, Option, None, Some, refl, sym, ◌∙◌, ap, subst, arith}
+use Rattle.std.proofs.Common.{◌≡◌, ◌^◌, sym, ◌∙◌, ap, subst, arith}
 use Rattle.grid_base.specs.declared.size.Size.{Size}
 use Rattle.grid_base.specs.declared.spot.Spot.{Spot}
-use Rattle.grid_base.specs.declared.vertex.Vertex.{Vertex}
 use Rattle.grid_base.specs.Numbers.{IsVertex}
 use Rattle.grid_base.specs.Spots.{IsSpot, spot_at}
 use Rattle.grid_base.proofs.Spots.{spot_at-is}
-use Rattle.shortest_paths.specs.Founds.{AreFoundFirst}
+use Rattle.label_search.specs.Founds.{AreFoundFirst}
 use Rattle.shortest_paths.specs.Nearest.{IsGoal, IsFoundGoal, NoneIsNearer, IsNearestDistance, IsLeastToGoal}
-use Rattle.shortest_paths.specs.Rows.{number_in, size_in}
-use Rattle.shortest_paths.specs.Searches.{IsReached}
-use Rattle.shortest_paths.specs.Stamped.{far}
+use Rattle.label_search.specs.Rows.{number_in, size_in}
+use Rattle.label_search.specs.Searches.{IsReached}
+use Rattle.label_search.specs.Stamped.{far}
 use Rattle.shortest_paths.proofs.Distances.{started_settled, fallen_reached}
-use Rattle.shortest_paths.proofs.Finding.{still_found}
+use Rattle.label_search.proofs.Finding.{still_found}
 use Rattle.shortest_paths.proofs.NearestGoals.{IsBegun, offered_begun, nearer_of, goal_found, found_goal, nearest_goal, none_joined}
 use Rattle.shortest_paths.proofs.labels.Labels.distance_to_nearest.Goals as goal
 

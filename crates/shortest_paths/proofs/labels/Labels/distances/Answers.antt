@@ -1,13 +1,14 @@
 use Rattle.std.proofs.Common.{◌^◌, sym, ◌∙◌, subst, arith}
 use Rattle.std.proofs.lemmas.List.Elements.{All-weaker}
 use Rattle.grid_base.specs.declared.vertex.Vertex.{Vertex}
-use Rattle.shortest_paths.specs.Founds.{index_in}
-use Rattle.shortest_paths.specs.Rows.{number_in}
-use Rattle.shortest_paths.specs.Searches.{IsReached, IsLow}
-use Rattle.shortest_paths.specs.Sets.{IsDistance}
-use Rattle.shortest_paths.specs.Stamped.{far}
-use Rattle.shortest_paths.specs.Tables.{answer_at}
-use Rattle.shortest_paths.proofs.Distances.{started_settled, fallen_reached, distance_of_least, least_of_all}
+use Rattle.label_search.specs.Founds.{index_in}
+use Rattle.label_search.specs.Rows.{number_in}
+use Rattle.label_search.specs.Searches.{IsReached, IsLow}
+use Rattle.label_search.specs.Sets.{IsDistance}
+use Rattle.label_search.specs.Stamped.{far}
+use Rattle.steiner_tables.specs.Tables.{answer_at}
+use Rattle.label_search.proofs.LeastNumbers.{least_of_all}
+use Rattle.shortest_paths.proofs.Distances.{started_settled, fallen_reached, distance_of_least}
 use Rattle.shortest_paths.proofs.labels.Labels.distances.Goals as goal
 
 pub exhaust-requires-clause-settled : goal.exhaust-requires-clause-settled

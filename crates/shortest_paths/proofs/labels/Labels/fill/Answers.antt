@@ -1,16 +1,16 @@
 use Rattle.std.proofs.Common.{◌≡◌, ◌-◌, ◌*◌, ◌^◌, ◌%◌, ℕ, List, length, get_or, sym, ◌∙◌, ap, subst, arith}
 use Rattle.std.proofs.lemmas.List.{length-take}
 use Rattle.grid_base.specs.Numbers.{vertices}
-use Rattle.shortest_paths.specs.declared.found.Found.{Found}
-use Rattle.shortest_paths.specs.Founds.{index_in, FindsMore}
-use Rattle.shortest_paths.specs.Kept.{kept_in}
-use Rattle.shortest_paths.specs.Masks.{all_of}
-use Rattle.shortest_paths.specs.Rows.{number_in}
-use Rattle.shortest_paths.specs.Stamped.{far}
-use Rattle.shortest_paths.specs.Tables.{rest_of}
-use Rattle.shortest_paths.proofs.Finding.{FindsMore-trans}
-use Rattle.shortest_paths.proofs.RowTables.{IsRowFor, row_for, table_more, taken_same, kept_limit, lens_within}
-use Rattle.shortest_paths.proofs.Seeding.{seeded_settled, kept_same, single_of}
+use Rattle.label_search.specs.declared.found.Found.{Found}
+use Rattle.label_search.specs.Founds.{index_in, FindsMore}
+use Rattle.steiner_tables.specs.Kept.{kept_in}
+use Rattle.steiner_tables.specs.Masks.{all_of}
+use Rattle.label_search.specs.Rows.{number_in}
+use Rattle.label_search.specs.Stamped.{far}
+use Rattle.steiner_tables.specs.Tables.{rest_of}
+use Rattle.label_search.proofs.Finding.{FindsMore-trans}
+use Rattle.steiner_tables.proofs.RowTables.{IsRowFor, row_for, table_more, taken_same, kept_limit, lens_within}
+use Rattle.steiner_tables.proofs.Seeding.{seeded_settled, kept_same, single_of}
 use Rattle.shortest_paths.proofs.labels.Labels.fill.Goals as goal
 
 pub seed-requires-clause-idle : goal.seed-requires-clause-idle

@@ -1,10 +1,10 @@
 use Rattle.std.proofs.Common.{◌≡◌, ◌-◌, refl, subst, arith}
-use Rattle.shortest_paths.specs.Founds.{index_in}
-use Rattle.shortest_paths.specs.Kept.{kept_in}
+use Rattle.label_search.specs.Founds.{index_in}
+use Rattle.steiner_tables.specs.Kept.{kept_in}
 use Rattle.shortest_paths.specs.LabelWords.{label_of}
-use Rattle.shortest_paths.specs.Stamped.{far}
-use Rattle.shortest_paths.specs.Tables.{IsPrunedTable}
-use Rattle.shortest_paths.proofs.RowTables.{kept_limit, table_none}
+use Rattle.label_search.specs.Stamped.{far}
+use Rattle.steiner_tables.specs.Tables.{IsPrunedTable}
+use Rattle.steiner_tables.proofs.RowTables.{kept_limit, table_none}
 use Rattle.shortest_paths.proofs.labels.Labels.pruned.Goals as goal
 
 pub returns-clause-table : goal.returns-clause-table

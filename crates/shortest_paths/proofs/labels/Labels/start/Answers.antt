@@ -4,8 +4,8 @@ use Rattle.grid_base.specs.declared.spot.Spot.{Spot}
 use Rattle.grid_base.specs.Numbers.{IsVertex}
 use Rattle.grid_base.specs.Spots.{IsSpot, spot_at}
 use Rattle.grid_base.proofs.Spots.{spot_at-is}
-use Rattle.shortest_paths.specs.Rows.{size_in, number_in}
-use Rattle.shortest_paths.specs.Stamped.{far}
+use Rattle.label_search.specs.Rows.{size_in, number_in}
+use Rattle.label_search.specs.Stamped.{far}
 use Rattle.shortest_paths.proofs.labels.Labels.start.Goals as goal
 
 pub offer-requires-clause-to : goal.offer-requires-clause-to
