@@ -1,9 +1,9 @@
 -- Where a vertex may enter a heap.
-use Rattle.std.proofs.Common.{◌≡◌, ◌≢◌, ℕ, ◌+◌, ◌-◌, ◌<◌, ◌⊎◌, List, length, get_or, refl, sym, ◌∙◌, ap, subst, inl, inr}
+use Rattle.std.proofs.Common.{◌≡◌, ◌≢◌, ℕ, ◌+◌, ◌-◌, ◌*◌, ◌<◌, ◌≤◌, ◌⊎◌, List, length, get_or, max, refl, sym, ◌∙◌, ap, subst, inl, inr}
 use Rattle.std.proofs.Common.{⊎_elim, arith}
-use Rattle.std.proofs.lemmas.Bool.{cases_eq}
+use Rattle.std.proofs.lemmas.Bool.{cases_eq, cases_lt}
 use Rattle.std.proofs.lemmas.Grind.{common_steps}
-use Rattle.label_search.specs.Heaps.{IsIndexed, HasGap, Holds, FillsGap}
+use Rattle.label_search.specs.Heaps.{IsIndexed, HasGap, Holds, FillsGap, AreOrdered, MayRise}
 use Rattle.label_search.specs.Held.{IsLeastHeld}
 use Rattle.label_search.specs.declared.heap.Heap.{Heap}
 use Rattle.label_search.proofs.Order.{root_least}
@@ -20,82 +20,62 @@ pub room_for : (ks vs ps : List ℕ) (len v : ℕ) → IsIndexed ks vs ps len �
 room_for ks vs ps len v is inside new = less_than (length ks) len (λ j. get_or vs j 0) v inside is.within
     (places_differ ks vs ps len is) new
 
-pub gap_at_end : (ks vs ps : List ℕ) (len v : ℕ) → IsIndexed ks vs ps len → v < length ks
-    → ((j : ℕ) → j < len → get_or vs j 0 ≢ v) → HasGap ks vs ps (len + 1) len v
-gap_at_end ks vs ps len v is inside new =
-    let room = room_for ks vs ps len v is inside new in
-    record {
-      lists = record {
-        vertices = is.lists.vertices;
-        places = is.lists.places;
-        small = is.lists.small;
-        room = omega (arith, room);
-      };
-      inside = omega arith;
-      vertex = inside;
-      within = λ j low other. is.within j (omega arith);
-      noted = λ j low other. is.noted j (omega arith);
-      other = λ j low other. new j (omega arith);
-    }
-
--- the gap at the place of a vertex whose key is lowered
-pub gap_inside : (ks vs ps : List ℕ) (len v place : ℕ) → IsIndexed ks vs ps len → place < len → get_or vs place 0 ≡ v
-    → HasGap ks vs ps len place v
-gap_inside ks vs ps len v place is inside here = record {
-  lists = is.lists;
-  inside = inside;
-  vertex = subst (λ x. x < length ks) here (is.within place inside);
-  within = λ j low other. is.within j low;
-  noted = λ j low other. is.noted j low;
-  other = λ j low other same. other (places_differ ks vs ps len is j place low inside (same ∙ sym here));
+-- the place of a vertex, or the one behind all others, waits for it
+pub gap_for : (ks vs ps : List ℕ) (len gap v : ℕ) → IsIndexed ks vs ps len → v < length ks → gap ≤ len
+    → ((j : ℕ) → j < len → j ≢ gap → get_or vs j 0 ≢ v) → HasGap ks vs ps (max len (gap + 1)) gap v
+gap_for ks vs ps len gap v is inside low others = record {
+  lists = record {
+    vertices = is.lists.vertices;
+    places = is.lists.places;
+    small = is.lists.small;
+    room = ⊎_elim
+        (λ within. omega (arith, within, is.lists.room))
+        (λ past. omega (arith, past, low, room_for ks vs ps len v is inside (λ j at. others j at (λ same. omega (arith, at, past, same)))))
+        (cases_lt gap len);
+  };
+  inside = omega arith;
+  vertex = inside;
+  within = λ j at other. is.within j (omega (arith, at, other, low));
+  noted = λ j at other. is.noted j (omega (arith, at, other, low));
+  other = λ j at other. others j (omega (arith, at, other, low)) other;
 }
 
-pub inserted_kept : (ks vs new_ks new_vs : List ℕ) (len v key : ℕ) → FillsGap ks vs new_ks new_vs (len + 1) len v key
-    → (u k : ℕ) → Holds ks vs len u k → Holds new_ks new_vs (len + 1) u k
-inserted_kept ks vs new_ks new_vs len v key is u k held =
+-- a key that is no greater than the one that stands there may rise
+pub may_rise : (ks : List ℕ) (len gap key : ℕ) → AreOrdered ks len → gap ≤ len → (gap < len → key ≤ get_or ks gap 0)
+    → MayRise ks (max len (gap + 1)) gap key
+may_rise ks len gap key order low lower = record {
+  beside = λ j some at other apart. order j some (omega (arith, at, other, low));
+  around = λ j past some at below.
+      let inside : j < len = omega (arith, at, low, ap (λ n. n * 4) below) in
+      omega (arith, order gap past (omega (arith, inside, below)), order j some inside, ap (λ n. get_or ks n 0) below);
+  below = λ j some at below.
+      let inside : j < len = omega (arith, at, low, ap (λ n. n * 4) below) in
+      omega (arith, lower (omega (arith, inside, below)), order j some inside, ap (λ n. get_or ks n 0) below);
+}
+
+-- the heap holds what it held, but for the vertex that got another key
+pub lowered_kept : (ks vs new_ks new_vs : List ℕ) (len gap v key : ℕ) → (gap < len → get_or vs gap 0 ≡ v)
+    → FillsGap ks vs new_ks new_vs (max len (gap + 1)) gap v key →
+    (u k : ℕ) → u ≢ v → Holds ks vs len u k → Holds new_ks new_vs (max len (gap + 1)) u k
+lowered_kept ks vs new_ks new_vs len gap v key here is u k other held =
     is.kept u k (record {
       place = held.place;
-      inside = omega arith;
-      elsewhere = λ same. omega (arith, held.inside);
+      inside = omega (arith, held.inside);
+      elsewhere = λ same. other (sym held.vertex ∙ ap (λ j. get_or vs j 0) same ∙ here (omega (arith, same, held.inside)));
       vertex = held.vertex;
       valued = held.valued;
     })
 
-pub inserted_only : (ks vs new_ks new_vs : List ℕ) (len v key : ℕ) → ((j : ℕ) → j < len → get_or vs j 0 ≢ v)
-    → FillsGap ks vs new_ks new_vs (len + 1) len v key →
-    (u k : ℕ) → Holds new_ks new_vs (len + 1) u k → ((u ≡ v) × (k ≡ key)) ⊎ ((u ≢ v) × Holds ks vs len u k)
-inserted_only ks vs new_ks new_vs len v key new is u k held = ⊎_elim
+pub lowered_only : (ks vs new_ks new_vs : List ℕ) (len gap v key : ℕ) → gap ≤ len
+    → ((j : ℕ) → j < len → j ≢ gap → get_or vs j 0 ≢ v) → FillsGap ks vs new_ks new_vs (max len (gap + 1)) gap v key →
+    (u k : ℕ) → Holds new_ks new_vs (max len (gap + 1)) u k → ((u ≡ v) × (k ≡ key)) ⊎ ((u ≢ v) × Holds ks vs len u k)
+lowered_only ks vs new_ks new_vs len gap v key low others is u k held = ⊎_elim
     (λ here. inl here)
     (λ old.
-    let inside : old.place < len = omega (arith, old.inside, old.elsewhere) in
+    let inside : old.place < len = omega (arith, old.inside, old.elsewhere, low) in
     inr (
-      λ same. new old.place inside (old.vertex ∙ same),
+      λ same. others old.place inside old.elsewhere (old.vertex ∙ same),
       record { place = old.place; inside = inside; vertex = old.vertex; valued = old.valued },
-    ))
-    (is.only u k held)
-
-pub raised_kept : (ks vs new_ks new_vs : List ℕ) (len v place key : ℕ) → get_or vs place 0 ≡ v
-    → FillsGap ks vs new_ks new_vs len place v key →
-    (u k : ℕ) → u ≢ v → Holds ks vs len u k → Holds new_ks new_vs len u k
-raised_kept ks vs new_ks new_vs len v place key here is u k other held =
-    is.kept u k (record {
-      place = held.place;
-      inside = held.inside;
-      elsewhere = λ same. other (sym held.vertex ∙ ap (λ j. get_or vs j 0) same ∙ here);
-      vertex = held.vertex;
-      valued =
-          held.valued;
-    })
-
-pub raised_only : (ks vs ps new_ks new_vs : List ℕ) (len v place key : ℕ) → IsIndexed ks vs ps len → place < len
-    → get_or vs place 0 ≡ v → FillsGap ks vs new_ks new_vs len place v key →
-    (u k : ℕ) → Holds new_ks new_vs len u k → ((u ≡ v) × (k ≡ key)) ⊎ ((u ≢ v) × Holds ks vs len u k)
-raised_only ks vs ps new_ks new_vs len v place key indexed inside here is u k held = ⊎_elim
-    (λ new. inl new)
-    (λ old. inr (
-      λ same. old.elsewhere (places_differ ks vs ps len indexed old.place place old.inside inside
-          (old.vertex ∙ same ∙ sym here)),
-      record { place = old.place; inside = old.inside; vertex = old.vertex; valued = old.valued },
     ))
     (is.only u k held)
 

@@ -23,6 +23,23 @@ pub record IsLowered (old new : Row) (to number key : ℕ) : Type 0 where
   pub kept : (u k : ℕ) → u ≢ to → IsWaiting old u k → IsWaiting new u k
   pub only : (u k : ℕ) → IsWaiting new u k → ((u ≡ to) × (k ≡ key)) ⊎ ((u ≢ to) × IsWaiting old u k)
 
+pub lowered : (old new : Row) (to number key : ℕ) → FindsMore old.found new.found → number < number_in old to
+    → number_in new to ≡ number → ((v : ℕ) → v ≢ to → number_in new v ≡ number_in old v)
+    → total new + number_in old to ≡ total old + number → new.heap.len ≤ old.heap.len + 1 → IsWaiting new to key
+    → ((u k : ℕ) → u ≢ to → IsWaiting old u k → IsWaiting new u k)
+    → ((u k : ℕ) → IsWaiting new u k → ((u ≡ to) × (k ≡ key)) ⊎ ((u ≢ to) × IsWaiting old u k)) → IsLowered old new to number key
+lowered old new to number key a b c d e f g h i = record {
+  found = a;
+  less = b;
+  there = c;
+  others = d;
+  total = e;
+  count = f;
+  placed = g;
+  kept = h;
+  only = i;
+}
+
 pub lowered_falls : (old new : Row) (to number key : ℕ) → IsLowered old new to number key → (v : ℕ)
     → number_in new v ≤ number_in old v
 lowered_falls old new to number key is v = ⊎_elim

@@ -62,10 +62,17 @@ impl Heap {
         ensures kept { (u k : ℕ) → u ≢ index → IsHeld self.old u k → IsHeld self.new u k }
         ensures only { (u k : ℕ) → IsHeld self.new u k → ((u ≡ index) × (k ≡ key)) ⊎ ((u ≢ index) × IsHeld self.old u k) }
     {
-        match self.place_of(index) {
-            Some(place) => self.raise(place, index, key),
-            None => self.insert(index, key),
-        }
+        let gap = self.place_for(index);
+        self.len = self.len.max(gap + 1);
+        sift_up(
+            self.keys.as_mut_slice(),
+            self.vertices.as_mut_slice(),
+            self.places.as_mut_slice(),
+            self.len,
+            gap,
+            index,
+            key,
+        );
     }
 
     /// Whether nothing is in the heap.
@@ -83,8 +90,12 @@ impl Heap {
         ensures only { IfSome result (λ key. (k : ℕ) → IsHeld self.now index k → key ≤ k) }
         ensures none { result ≡ None → (key : ℕ) → ¬ IsHeld self.now index key }
     {
-        let place = self.place_of(index)?;
-        Some(self.keys[place])
+        let place = self.place_for(index);
+        if place < self.len {
+            Some(self.keys[place])
+        } else {
+            None
+        }
     }
 
     /// The least key.
@@ -126,62 +137,18 @@ impl Heap {
         least
     }
 
-    /// The place of a vertex that is in the heap.
-    fn place_of(&self, index: u32) -> Option<usize>
+    /// The place of a vertex, or the one behind all others where it isn't in the heap.
+    fn place_for(&self, index: u32) -> usize
         requires { index < heap_room self.now }
-        ensures place { IfSome result (λ p. (p < self.now.len) × (slice_index self.now.vertices.items p ≡ index)) }
-        ensures none { result ≡ None → (j : ℕ) → j < self.now.len → slice_index self.now.vertices.items j ≢ index }
+        ensures within { result ≤ self.now.len }
+        ensures here { result < self.now.len → slice_index self.now.vertices.items result ≡ index }
+        ensures others { (j : ℕ) → j < self.now.len → j ≢ result → slice_index self.now.vertices.items j ≢ index }
     {
         let place = self.places[index as usize] as usize;
         if place < self.len && self.vertices[place] == index {
-            Some(place)
+            place
         } else {
-            None
+            self.len
         }
-    }
-
-    /// Lowers the key of the vertex at this place.
-    fn raise(&mut self, place: usize, index: u32, key: u64)
-        requires inside { place < self.old.len }
-        requires vertex { slice_index self.old.vertices.items place ≡ index }
-        requires lower { key ≤ slice_index self.old.keys.items place }
-        ensures room { heap_room self.new ≡ heap_room self.old }
-        ensures count { self.new.len ≡ self.old.len }
-        ensures placed { IsHeld self.new index key }
-        ensures kept { (u k : ℕ) → u ≢ index → IsHeld self.old u k → IsHeld self.new u k }
-        ensures only { (u k : ℕ) → IsHeld self.new u k → ((u ≡ index) × (k ≡ key)) ⊎ ((u ≢ index) × IsHeld self.old u k) }
-    {
-        sift_up(
-            self.keys.as_mut_slice(),
-            self.vertices.as_mut_slice(),
-            self.places.as_mut_slice(),
-            self.len,
-            place,
-            index,
-            key,
-        );
-    }
-
-    /// Puts in a vertex that isn't there.
-    fn insert(&mut self, index: u32, key: u64)
-        requires vertex { index < heap_room self.old }
-        requires other { (j : ℕ) → j < self.old.len → slice_index self.old.vertices.items j ≢ index }
-        ensures room { heap_room self.new ≡ heap_room self.old }
-        ensures count { self.new.len ≡ self.old.len + 1 }
-        ensures placed { IsHeld self.new index key }
-        ensures kept { (u k : ℕ) → IsHeld self.old u k → IsHeld self.new u k }
-        ensures only { (u k : ℕ) → IsHeld self.new u k → ((u ≡ index) × (k ≡ key)) ⊎ ((u ≢ index) × IsHeld self.old u k) }
-    {
-        let gap = self.len;
-        self.len += 1;
-        sift_up(
-            self.keys.as_mut_slice(),
-            self.vertices.as_mut_slice(),
-            self.places.as_mut_slice(),
-            gap + 1,
-            gap,
-            index,
-            key,
-        );
     }
 }

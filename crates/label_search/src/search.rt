@@ -3,6 +3,7 @@
 ghost use Rattle.std.specs.Prelude.{◌≡◌, ◌<◌, ◌≤◌, ◌+◌, ℕ, true, false, All};
 ghost use Rattle.grid_base.specs.Numbers.{IsVertex};
 ghost use Rattle.grid_base.specs.Spots.{IsSpot};
+ghost use Rattle.label_search.specs.Founds.{FindsMore};
 ghost use Rattle.label_search.specs.Rows.{size_in, number_in, IsWaiting, work_left};
 ghost use Rattle.label_search.specs.Runs.{IsSearch, IsSettled, IsSpreadWithin, IsAnswered, TakesOffer, FallsFrom, Advances};
 ghost use Rattle.label_search.specs.Searches.{IsLow};
@@ -42,6 +43,7 @@ pub fn start_each<B: Bound>(row: &mut Row, bound: &B, limit: u64, sources: &[Ver
     requires none { (v : ℕ) → number_in row.old v ≡ far }
     requires idle { (v key : ℕ) → ¬ IsWaiting row.old v key }
     ensures size { size_in row.new ≡ size_in row.old }
+    ensures found { FindsMore row.old.found row.new.found }
     ensures search { IsSearch (B.rest bound.now) limit row.new }
     ensures started { IsStarted sources.now row.new }
     ensures zero { All (λ v. number_in row.new v.0 ≡ 0) sources.now }

@@ -1,19 +1,22 @@
 -- When the number of a vertex is its distance from the source.
-use Rattle.std.proofs.Common.{◌≡◌, ◌≢◌, ℕ, ◌+◌, ◌<◌, ◌≤◌, List, Option, None, IsSome, sym, ◌∙◌, subst, inl, inr, ⊎_elim, arith}
-use Rattle.std.proofs.lemmas.Bool.{cases_eq, cases_lt}
+use Rattle.std.proofs.Common.{◌≡◌, ℕ, ◌+◌, ◌<◌, ◌≤◌, List, [], ◌∷◌, All, Option, None, IsSome, sym, ◌∙◌, ap, subst, inl, inr, ⊎_elim, arith}
+use Rattle.std.proofs.lemmas.Bool.{cases_lt}
 use Rattle.grid_base.specs.declared.piece.Piece.{Piece}
 use Rattle.grid_base.specs.declared.size.Size.{Size}
+use Rattle.grid_base.specs.declared.vertex.Vertex.{Vertex}
 use Rattle.grid_base.specs.Numbers.{IsVertex}
 use Rattle.grid_base.specs.Walks.{Joins}
+use Rattle.grid_base.proofs.Lists.{head_or_rest}
 use Rattle.grid_base.proofs.Walks.{walk_vertices}
 use Rattle.grid_graph.specs.Weighed.{IsAllowed, WeighsOnlyPieces, AreWithinLimit}
 use Rattle.label_search.specs.declared.row.Row.{Row}
 use Rattle.label_search.specs.Founds.{index_in}
 use Rattle.label_search.specs.Paths.{IsPath}
-use Rattle.label_search.specs.Rows.{size_in, number_in, Waits}
-use Rattle.label_search.specs.Runs.{IsSettled, FallsFrom}
+use Rattle.label_search.specs.Rows.{size_in, number_in}
+use Rattle.label_search.specs.Runs.{FallsFrom}
 use Rattle.label_search.specs.Searches.{IsReached, IsLow}
 use Rattle.label_search.specs.Sets.{IsSetOf, IsDistance, IsEither, weight}
+use Rattle.label_search.specs.Starts.{IsStarted}
 use Rattle.label_search.specs.Stamped.{most, far}
 use Rattle.label_search.proofs.Finding.{found_vertex}
 use Rattle.label_search.proofs.Forests.{light_part}
@@ -61,34 +64,28 @@ pub numbered_vertex : (r : Row) (v : ℕ) → number_in r v < far → IsVertex (
 numbered_vertex r v numbered = found_vertex r.found v (numbered_found r v numbered)
 
 -- numbers that fell from 0 at a source alone
-pub fallen_reached : (s : Size) (pieces : List (Piece × ℕ)) (source : ℕ) (old new : Row) → size_in old ≡ s → IsVertex s source
-    → number_in old source ≡ 0 → ((v : ℕ) → v ≢ source → number_in old v ≡ far) → FallsFrom s pieces old new
-    → IsReached s pieces source (number_in new)
-fallen_reached s pieces source old new size vertex start others fell =
-    let only : (v : ℕ) → number_in old v < far → v ≡ source =
-    λ v numbered. ⊎_elim (λ here. here) (λ other. absurd (omega (arith, numbered, others v other))) (cases_eq v source) in
+pub fallen_reached : (s : Size) (pieces : List (Piece × ℕ)) (source : Vertex) (old new : Row) → size_in old ≡ s
+    → IsVertex s source.0 → All (λ (v : Vertex). number_in old v.0 ≡ 0) (source ∷ []) → IsStarted (source ∷ []) old
+    → FallsFrom s pieces old new → IsReached s pieces source.0 (number_in new)
+fallen_reached s pieces source old new size vertex zero started fell =
+    let only : (v : ℕ) → number_in old v < far → v ≡ source.0 = λ v numbered. ⊎_elim
+    (λ is. ap (λ (x : Vertex). x.0) is)
+    (λ none. absurd (omega (arith, none.1)))
+    (head_or_rest source [] (record { 0 = v }) (started.members v numbered)) in
     record {
       vertex = vertex;
-      start = omega (arith, start, fell.falls source);
+      start = omega (arith, zero 0 source (omega arith), fell.falls source.0);
       limit = λ v. omega (arith, new.parts.limits (index_in new.found v));
       joined = λ v numbered.
           let from = fell.from v (omega (arith, numbered)) in
-          let path : IsPath s pieces source v from.length from.path =
+          let path : IsPath s pieces source.0 v from.length from.path =
           subst (λ u. IsPath s pieces u v from.length from.path) (only from.before from.numbered) from.is_path in
           let at : IsVertex s v = subst (λ (x : Size). IsVertex x v) (fell.found.size ∙ size)
           (numbered_vertex new v (omega (arith, numbered))) in
-          let has = path_set s pieces source v from.path from.length at path in
+          let has = path_set s pieces source.0 v from.path from.length at path in
           record { set = has.set; is_set = has.is_set; walk = has.walk; light = omega (arith, has.light, from.light) };
       behind = λ v numbered. ⊎_elim
           (λ same. inl (only v (omega (arith, same, numbered))))
           (λ behind. inr behind)
           (fell.behind v (omega (arith, numbered)));
     }
-
--- where the source alone has a number, all that doesn't wait is spread
-pub started_settled : (s : Size) (pieces : List (Piece × ℕ)) (rest : ℕ → ℕ) (limit source : ℕ) (r : Row) → Waits r source
-    → ((v : ℕ) → v ≢ source → number_in r v ≡ far) → IsSettled s pieces rest limit r
-started_settled s pieces rest limit source r waits others v still p k u weighs connects = ⊎_elim
-    (λ here. absurd (still (subst (Waits r) (sym here) waits)))
-    (λ other. inl (omega (arith, others v other, r.parts.limits (index_in r.found u))))
-    (cases_eq v source)

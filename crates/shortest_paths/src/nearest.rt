@@ -8,9 +8,9 @@ ghost use Rattle.label_search.specs.Runs.{IsSearch, IsSettled, FallsFrom};
 ghost use Rattle.label_search.specs.Stamped.{far};
 
 use crate::labels::{Labels, NO_LIMIT};
-use grid_base::{Spot, Vertex};
+use grid_base::Vertex;
 use grid_graph::Weights;
-use label_search::{NoBound, Row, offer, spread};
+use label_search::{NoBound, Row, spread, start_each};
 
 impl Labels {
     ghost use Rattle.std.specs.Prelude.{◌≡◌, All};
@@ -35,8 +35,7 @@ impl Labels {
     {
         let count = self.begin(goals);
         let bound = NoBound { weights };
-        let from = Spot::of(self.row.size(), source);
-        offer(&mut self.row, &bound, NO_LIMIT, from, 0);
+        start_each(&mut self.row, &bound, NO_LIMIT, &[source]);
         let goal = next_goal(&mut self.row, weights, count, source)?;
         Some(self.row.number(goal))
     }

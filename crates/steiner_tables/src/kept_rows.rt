@@ -63,7 +63,7 @@ impl KeptRows {
     }
 
     /// A number of indices below which stand all at which both masks have a number.
-    pub fn shared_len(&self, one: u32, other: u32) -> u32
+    pub(crate) fn shared_len(&self, one: u32, other: u32) -> u32
         requires one { 0 < one }
         requires one_room { one ≤ masks_in self.now }
         requires other { 0 < other }
@@ -84,7 +84,7 @@ impl KeptRows {
     }
 
     /// Stores the row of a mask.
-    pub fn store(&mut self, mask: u32, numbers: &[u64])
+    pub(crate) fn store(&mut self, mask: u32, numbers: &[u64])
         requires some { 0 < mask }
         requires masks { mask ≤ masks_in self.old }
         requires room { length numbers.now ≤ self.old.room }

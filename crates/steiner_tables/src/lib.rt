@@ -1,12 +1,12 @@
 //! Tables with a number for each set of a few terminals and each vertex (Dreyfus and Wagner 1971).
 //!
-//! The rows of a table are found one by one, those of smaller sets first. `seed` offers what the rows before make of a set's
-//! row, and the search goes on from there:
+//! The rows of a table are found one by one, those of smaller sets first: a search begins with what the rows before make of a
+//! set's row, and its numbers are kept.
 //!
 //! ```text
-//! seed(&mut row, &rows, &rest, terminals, mask, limit);
-//! exhaust(&mut row, &weights, &rest, limit);
-//! rows.store(mask, row.numbers());
+//! for mask in 1..last + 1 {
+//!     fill(&mut row, &mut rows, &weights, &family, terminals, mask, limit);
+//! }
 //! ```
 //!
 //! A `Family` of lower bounds says what the other terminals cost at least (Hougardy, Silvanus and Vygen 2017), and what
@@ -19,6 +19,7 @@
 #![tactic(auto)]
 
 mod family;
+mod filling;
 mod kept_row;
 mod kept_rows;
 mod laws;
@@ -27,8 +28,7 @@ mod rest_of;
 mod seeds;
 
 pub use family::Family;
+pub use filling::fill;
 pub use kept_rows::KeptRows;
 pub use laws::{holding_tables_bound_sets, pruned_tables_hold_completed};
 pub use no_family::NoFamily;
-pub use rest_of::RestOf;
-pub use seeds::seed;

@@ -9,9 +9,9 @@ use label_search::Bound;
 
 /// The bound of a family for the terminals of one mask.
 #[derive(Drop)]
-pub struct RestOf<'a, F: Family> {
-    pub family: &'a F,
-    pub mask: u32,
+pub(crate) struct RestOf<'a, F: Family> {
+    pub(crate) family: &'a F,
+    pub(crate) mask: u32,
     pub ghost some: { 0 < mask },
     pub ghost within: { mask < all_of (F.terminals family.now) },
 }

@@ -17,7 +17,7 @@ use grid_base::{Spot, Vertex};
 use label_search::{Bound, FAR, Row, offer};
 
 /// Offers a terminal 0 where the mask is its own, and each vertex what two parts of the mask weigh there together.
-pub fn seed<B: Bound>(
+pub(crate) fn seed<B: Bound>(
     row: &mut Row,
     rows: &KeptRows,
     bound: &B,

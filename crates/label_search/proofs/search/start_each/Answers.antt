@@ -5,6 +5,7 @@ use Rattle.grid_base.specs.declared.spot.Spot.{Spot}
 use Rattle.grid_base.specs.declared.vertex.Vertex.{Vertex}
 use Rattle.grid_base.specs.Walks.{InVertices}
 use Rattle.label_search.specs.Rows.{size_in, number_in}
+use Rattle.label_search.proofs.Finding.{FindsMore-refl, FindsMore-trans}
 use Rattle.label_search.proofs.Starts.{source_spot, none_started, started_more}
 use Rattle.label_search.proofs.search.start_each.Goals as goal
 
@@ -17,6 +18,7 @@ offer-requires-clause-to g c =
 pub loop-source-init : goal.loop-source-init
 loop-source-init g c = record {
   size = refl;
+  found = FindsMore-refl c.args.row.now.found;
   search = record {
     keys = λ v key waits. absurd (c.requires.idle v key waits);
     numbered = λ v key waits. absurd (c.requires.idle v key waits);
@@ -42,6 +44,7 @@ loop-source-preserved g c =
     let P : Vertex → Type 0 = λ w. number_in new w.0 ≡ 0 in
     record {
       size = after.taken.found.size ∙ before.size;
+      found = FindsMore-trans c.args.row.now.found old.found new.found before.found after.taken.found;
       search = after.search;
       started = started_more sources old new to member after.taken before.started;
       zero = All-more P sources i (record { 0 = 0 }) c.loop-source-test.true
