@@ -1,5 +1,5 @@
 -- The least weight of joining terminals by the label of all others at the root.
-use Rattle.std.proofs.Common.{◌≡◌, ℕ, ◌-◌, ◌<◌, List, [], Option, Some, None, length, unwrap_or, refl, sym, ◌∙◌, ap, subst, arith}
+use Rattle.std.proofs.Common.{◌≡◌, ℕ, ◌<◌, List, [], Some, length, refl, sym, ◌∙◌, ap, subst, arith}
 use Rattle.std.proofs.lemmas.Option.{same_Some, slice_get-get_or}
 use Rattle.grid_base.specs.declared.piece.Piece.{Piece}
 use Rattle.grid_base.specs.declared.size.Size.{Size}
@@ -7,11 +7,8 @@ use Rattle.grid_base.specs.declared.vertex.Vertex.{Vertex}
 use Rattle.grid_base.specs.Lists.{At}
 use Rattle.grid_base.specs.Walks.{Joins, InVertices, WalkBetween}
 use Rattle.grid_base.proofs.Walks.{WalkBetween-refl, walk_vertices}
-use Rattle.grid_graph.specs.Weighed.{IsAllowed, NoPieceTwice}
-use Rattle.steiner_tables.specs.Masks.{all_but_root}
+use Rattle.grid_graph.specs.Weighed.{IsAllowed}
 use Rattle.label_search.specs.Sets.{IsLeastWeight}
-use Rattle.steiner_tables.specs.Tables.{IsLabel}
-use Rattle.steiner_tables.proofs.Roots.{least_at_root, joins_at_root}
 use Rattle.label_search.proofs.Sets.{no_pieces}
 
 -- fewer than two terminals are joined without a piece
