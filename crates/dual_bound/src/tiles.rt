@@ -1,10 +1,11 @@
 //! Net bounds by tiles.
 
-use crate::priced::{MASKS, Priced};
+use crate::priced::Priced;
 use grid_base::NoMemory;
 use lower_bound::ClassCosts;
 use shortest_paths::Labels;
 use std::alloc::Global;
+use steiner_tables::ROOTED_MASKS;
 
 impl Priced<'_> {
     ghost use Rattle.std.specs.Prelude.{◌≡◌, ◌≤◌, ◌<◌, length, IfOk};
@@ -89,7 +90,7 @@ impl Priced<'_> {
             self.grounds[from],
             self.prices,
         )?;
-        let mut labels = Labels::new(alloc, costs.size(), MASKS)?;
+        let mut labels = Labels::new(alloc, costs.size(), ROOTED_MASKS)?;
         self.sum_by_tiles(alloc, from, to, &mut costs, &mut labels)
     }
 

@@ -6,7 +6,7 @@ use Rattle.grid_base.specs.declared.size.Size.{Size}
 use Rattle.grid_base.specs.Walks.{WalkBetween}
 use Rattle.grid_base.proofs.Pieces.{connects_back}
 use Rattle.grid_graph.specs.Weighed.{IsAllowed}
-use Rattle.label_search.specs.Runs.{IsSpreadWithin}
+use Rattle.label_search.specs.Runs.{IsRelaxedWithin}
 use Rattle.label_search.specs.Searches.{IsLow}
 use Rattle.label_search.specs.Sets.{IsSetOf, RisesSlowly, weight}
 use Rattle.label_search.proofs.Law.{rises_by_weight}
@@ -18,9 +18,9 @@ known num rest x v = min (num v) (x - rest v)
 refuted : (m n : ℕ) → ¬ (n < m) → m ≤ n
 refuted m n none = ⊎_elim (λ less. absurd (none less)) (λ le. le) (cases_lt n m)
 
--- it rises slowly where all that waits has a key of at least x and all else is spread within a limit that x is not past
+-- it rises slowly where all that waits has a key of at least x and all else is relaxed within a limit that x is not past
 known_slow : (s : Size) (pieces : List (Piece × ℕ)) (num rest : ℕ → ℕ) (limit : ℕ) (Waiting : ℕ → Type 0) (x : ℕ)
-    → RisesSlowly s pieces rest → ((v : ℕ) → ¬ Waiting v → IsSpreadWithin s pieces rest limit num v)
+    → RisesSlowly s pieces rest → ((v : ℕ) → ¬ Waiting v → IsRelaxedWithin s pieces rest limit num v)
     → ((v : ℕ) → Waiting v → x ≤ num v + rest v) → x ≤ limit + 1 →
     RisesSlowly s pieces (known num rest x)
 unfolding known
@@ -35,7 +35,7 @@ known_slow s pieces num rest limit Waiting x slow settled far inside p k a b wei
 
 -- where no key is below x, and neither is the number of the goal with what is still to go, a set that joins it weighs as much
 pub least_past : (s : Size) (pieces : List (Piece × ℕ)) (num rest : ℕ → ℕ) (limit : ℕ) (Waiting : ℕ → Type 0)
-    (source goal x : ℕ) → RisesSlowly s pieces rest → ((v : ℕ) → ¬ Waiting v → IsSpreadWithin s pieces rest limit num v) →
+    (source goal x : ℕ) → RisesSlowly s pieces rest → ((v : ℕ) → ¬ Waiting v → IsRelaxedWithin s pieces rest limit num v) →
     ((v : ℕ) → Waiting v → x ≤ num v + rest v) → x ≤ limit + 1 → num source ≡ 0 → x ≤ num goal + rest goal
     → (set : List (Piece × ℕ)) → IsSetOf pieces set → WalkBetween s (IsAllowed set) source goal → x ≤ weight set + rest goal
 unfolding known
@@ -50,7 +50,7 @@ least_past s pieces num rest limit Waiting source goal x slow settled far inside
 
 -- a number that no key is below is at most the weight of each set that joins its vertex
 pub least_of_all : (s : Size) (pieces : List (Piece × ℕ)) (num rest : ℕ → ℕ) (limit : ℕ) (Waiting : ℕ → Type 0)
-    (source goal : ℕ) → RisesSlowly s pieces rest → ((v : ℕ) → ¬ Waiting v → IsSpreadWithin s pieces rest limit num v) →
+    (source goal : ℕ) → RisesSlowly s pieces rest → ((v : ℕ) → ¬ Waiting v → IsRelaxedWithin s pieces rest limit num v) →
     ((v : ℕ) → Waiting v → num goal + rest goal ≤ num v + rest v) → num goal + rest goal ≤ limit + 1 → num source ≡ 0
     → IsLow s pieces source num goal
 least_of_all s pieces num rest limit Waiting source goal slow settled far inside start set is walk =

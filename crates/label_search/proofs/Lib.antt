@@ -5,7 +5,7 @@ pub mod Pigeons
 pub mod Law
 pub mod Sets
 pub mod Offers
-pub mod Spreading
+pub mod Relaxing
 pub mod FloorSteps
 pub mod Forests
 pub mod Finding

@@ -53,7 +53,7 @@ started_more sources old new to member taken started = record {
       (taken.changed v);
 }
 
--- where all that has a number waits, all that doesn't wait is spread
+-- where all that has a number waits, all that doesn't wait is relaxed
 pub sources_settled : (s : Size) (pieces : List (Piece × ℕ)) (rest : ℕ → ℕ) (limit : ℕ) (sources : List Vertex) (r : Row)
     → IsStarted sources r → IsSettled s pieces rest limit r
 sources_settled s pieces rest limit sources r started v still p k u weighs connects = ⊎_elim

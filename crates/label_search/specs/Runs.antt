@@ -23,13 +23,13 @@ abbrev pub IsAnswered : (ℕ → ℕ) → (ℕ → ℕ) → ℕ → ℕ → ℕ 
 IsAnswered num rest limit v offered = (num v ≤ offered) ⊎ (limit < offered + rest v)
 
 -- no neighbour of v by an allowed piece has a number that v could lower within the limit
-abbrev pub IsSpreadWithin : Size → List (Piece × ℕ) → (ℕ → ℕ) → ℕ → (ℕ → ℕ) → ℕ → Type 0
-IsSpreadWithin s pieces rest limit num v = (p : Piece) (k u : ℕ) → Weighs pieces p k → Connects s p v u
+abbrev pub IsRelaxedWithin : Size → List (Piece × ℕ) → (ℕ → ℕ) → ℕ → (ℕ → ℕ) → ℕ → Type 0
+IsRelaxedWithin s pieces rest limit num v = (p : Piece) (k u : ℕ) → Weighs pieces p k → Connects s p v u
     → IsAnswered num rest limit u (num v + k)
 
--- each vertex that doesn't wait is spread
+-- each vertex that doesn't wait is relaxed
 abbrev pub IsSettled : Size → List (Piece × ℕ) → (ℕ → ℕ) → ℕ → Row → Type 0
-IsSettled s pieces rest limit r = (v : ℕ) → ¬ Waits r v → IsSpreadWithin s pieces rest limit (number_in r) v
+IsSettled s pieces rest limit r = (v : ℕ) → ¬ Waits r v → IsRelaxedWithin s pieces rest limit (number_in r) v
 
 -- a vertex took an offer, or nothing changed
 pub record TakesOffer (old new : Row) (to offered : ℕ) : Type 0 where

@@ -5,7 +5,7 @@ ghost use Rattle.grid_base.specs.Numbers.{IsVertex};
 ghost use Rattle.grid_base.specs.Spots.{IsSpot};
 ghost use Rattle.label_search.specs.Founds.{FindsMore};
 ghost use Rattle.label_search.specs.Rows.{size_in, number_in, IsWaiting, work_left};
-ghost use Rattle.label_search.specs.Runs.{IsSearch, IsSettled, IsSpreadWithin, IsAnswered, TakesOffer, FallsFrom, Advances};
+ghost use Rattle.label_search.specs.Runs.{IsSearch, IsSettled, IsRelaxedWithin, IsAnswered, TakesOffer, FallsFrom, Advances};
 ghost use Rattle.label_search.specs.Searches.{IsLow};
 ghost use Rattle.label_search.specs.Starts.{IsStarted};
 ghost use Rattle.label_search.specs.Stamped.{far, max_key};
@@ -55,7 +55,7 @@ pub fn start_each<B: Bound>(row: &mut Row, bound: &B, limit: u64, sources: &[Ver
 }
 
 /// Offers each neighbour of a vertex the number that it gets from there.
-pub fn spread<W: Weights, B: Bound>(row: &mut Row, weights: &W, bound: &B, limit: u64, from: Spot)
+pub fn relax<W: Weights, B: Bound>(row: &mut Row, weights: &W, bound: &B, limit: u64, from: Spot)
     requires size { size_in row.old ≡ W.size weights.now }
     requires bound_size { B.size bound.now ≡ W.size weights.now }
     requires search { IsSearch (B.rest bound.now) limit row.old }
@@ -63,7 +63,7 @@ pub fn spread<W: Weights, B: Bound>(row: &mut Row, weights: &W, bound: &B, limit
     requires number { number_in row.old from.vertex.0 < far }
     ensures search { IsSearch (B.rest bound.now) limit row.new }
     ensures goes_on { Advances (W.size weights.now) (W.pieces weights.now) row.old row.new }
-    ensures spread { IsSpreadWithin (W.size weights.now) (W.pieces weights.now) (B.rest bound.now) limit (number_in row.new) from.vertex.0 }
+    ensures relaxed { IsRelaxedWithin (W.size weights.now) (W.pieces weights.now) (B.rest bound.now) limit (number_in row.new) from.vertex.0 }
 {
     let reached = row.number(from.vertex);
     for step in &spot_steps(row.size(), from) {
@@ -75,7 +75,7 @@ pub fn spread<W: Weights, B: Bound>(row: &mut Row, weights: &W, bound: &B, limit
     }
 }
 
-/// Takes out the vertex of least key, and spreads it.
+/// Takes out the vertex of least key, and relaxes its pieces.
 fn advance<W: Weights, B: Bound>(row: &mut Row, weights: &W, bound: &B, limit: u64)
     requires size { size_in row.old ≡ W.size weights.now }
     requires bound_size { B.size bound.now ≡ W.size weights.now }
@@ -88,7 +88,7 @@ fn advance<W: Weights, B: Bound>(row: &mut Row, weights: &W, bound: &B, limit: u
     ensures less { work_left row.new < work_left row.old }
 {
     let from = row.take();
-    spread(row, weights, bound, limit, from);
+    relax(row, weights, bound, limit, from);
 }
 
 /// Goes on with a search until no vertex waits.
@@ -100,7 +100,7 @@ pub fn exhaust<W: Weights, B: Bound>(row: &mut Row, weights: &W, bound: &B, limi
     ensures search { IsSearch (B.rest bound.now) limit row.new }
     ensures fell { FallsFrom (W.size weights.now) (W.pieces weights.now) row.old row.new }
     ensures idle { (v key : ℕ) → ¬ IsWaiting row.new v key }
-    ensures spread { (v : ℕ) → IsSpreadWithin (W.size weights.now) (W.pieces weights.now) (B.rest bound.now) limit (number_in row.new) v }
+    ensures relaxed { (v : ℕ) → IsRelaxedWithin (W.size weights.now) (W.pieces weights.now) (B.rest bound.now) limit (number_in row.new) v }
 {
     while row.is_waiting() {
         advance(row, weights, bound, limit);

@@ -19,12 +19,12 @@ ghost use Rattle.lower_bound.specs.NetBounds.{IsBoundOfMany, IsNetBound};
 use crate::extra::Extra;
 use crate::halves::sum_of_halves;
 use crate::least::least_weight;
-use crate::limits::FEW_TERMINALS;
 use crate::spread::choose;
 use edge_prices::Costing;
 use grid_base::Vertex;
 use grid_graph::{FlooredWeights, Grid, Ground, NetSpec};
 use shortest_paths::Labels;
+use steiner_tables::FEW_TERMINALS;
 
 /// The bound of more than five terminals: the greater of the least cost of five that are spread, and the sum of halves of
 /// what it costs to join each to another one.

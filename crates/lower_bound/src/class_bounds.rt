@@ -7,12 +7,12 @@ use crate::class_costs::ClassCosts;
 use crate::halves::sum_of_halves;
 use crate::kept_halves::sum_of_kept_halves;
 use crate::kept_least::kept_least;
-use crate::limits::FEW_TERMINALS;
 use crate::spread::choose;
 use grid_base::{NoMemory, Vertex};
 use grid_graph::NetSpec;
 use shortest_paths::Labels;
 use std::alloc::Global;
+use steiner_tables::FEW_TERMINALS;
 
 impl ClassCosts<'_> {
     ghost use Rattle.std.specs.Prelude.{◌≡◌, ◌<◌, ◌≤◌, All, IfOk, length};

@@ -10,7 +10,7 @@ ghost use Rattle.label_search.specs.Stamped.{far};
 use crate::labels::{Labels, NO_LIMIT};
 use grid_base::Vertex;
 use grid_graph::Weights;
-use label_search::{NoBound, Row, spread, start_each};
+use label_search::{NoBound, Row, relax, start_each};
 
 impl Labels {
     ghost use Rattle.std.specs.Prelude.{◌≡◌, All};
@@ -63,7 +63,7 @@ fn next_goal<W: Weights>(row: &mut Row, weights: &W, count: u32, source: Vertex)
         if is_goal(row, count, source, at.vertex) {
             return Some(at.vertex);
         }
-        spread(row, weights, &bound, NO_LIMIT, at);
+        relax(row, weights, &bound, NO_LIMIT, at);
     }
     None
 }

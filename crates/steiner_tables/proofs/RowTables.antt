@@ -18,13 +18,13 @@ use Rattle.steiner_tables.specs.Masks.{single, AreParts}
 use Rattle.label_search.specs.Paths.{IsPath}
 use Rattle.label_search.specs.Rows.{size_in, number_in}
 use Rattle.steiner_tables.specs.RowWork.{table_of, IsSum, IsSeeded, AreOffered, AreSplitsOffered}
-use Rattle.label_search.specs.Runs.{IsSearch, IsAnswered, IsSpreadWithin, FallsFrom}
+use Rattle.label_search.specs.Runs.{IsSearch, IsAnswered, IsRelaxedWithin, FallsFrom}
 use Rattle.label_search.specs.Searches.{IsBehind}
 use Rattle.label_search.specs.Stamped.{far}
 use Rattle.steiner_tables.specs.Tables.{IsPrunedTable, IsReachedBy, IsAlone, HasTree, rest_of}
 use Rattle.steiner_tables.proofs.Masks.{parts_sum, parts_turned}
 use Rattle.steiner_tables.proofs.Seeding.{sum_as}
-use Rattle.label_search.proofs.Spreading.{still_answered}
+use Rattle.label_search.proofs.Relaxing.{still_answered}
 use Rattle.steiner_tables.proofs.Trees.{has_alone, has_step, has_union, has_more}
 
 -- the numbers of one mask, where those of smaller masks are in a table
@@ -34,7 +34,7 @@ pub record IsRowFor (s : Size) (pieces : List (Piece × ℕ)) (terminals : List 
   pub trees : (v : ℕ) → num v < far → HasTree s pieces terminals mask v (num v)
   pub reached : (v : ℕ) → num v < far → IsAlone terminals mask v ⊎ (IsBehind s pieces num v ⊎ IsSum label mask v (num v))
   pub own : (place : ℕ) (v : Vertex) → At terminals place v → single place ≡ mask → IsAnswered num rest limit v.0 0
-  pub steps : (v : ℕ) → IsSpreadWithin s pieces rest limit num v
+  pub steps : (v : ℕ) → IsRelaxedWithin s pieces rest limit num v
   pub splits : (one other v : ℕ) → AreParts one other mask → label one v < far → label other v < far → IsAnswered num rest limit v (label one v + label other v)
 
 -- a tree is carried along a path
@@ -61,8 +61,8 @@ seed_tree s pieces terminals low label limit mask v number table vertex reason =
 -- the row that a search makes of its seeds
 pub row_for : (s : Size) (pieces : List (Piece × ℕ)) (terminals : List Vertex) (low label : ℕ → ℕ → ℕ) (rest : ℕ → ℕ) (limit mask : ℕ) (rows : KeptRows) (begun done : Row) → IsPrunedTable s pieces terminals (mask - 1) low limit far label → size_in begun ≡ s →
     ((m v : ℕ) → label m v ≡ table_of rows begun m v) → IsSeeded rows terminals mask rest limit begun → AreOffered terminals mask rest limit (number_in begun) (length terminals) → AreSplitsOffered (table_of rows begun) mask rest limit (number_in begun) mask →
-    FallsFrom s pieces begun done → IsSearch rest limit done → ((v : ℕ) → IsSpreadWithin s pieces rest limit (number_in done) v) → IsRowFor s pieces terminals rest limit label mask (number_in done)
-row_for s pieces terminals low label rest limit mask rows begun done table size same seeded alone splits fell search spread =
+    FallsFrom s pieces begun done → IsSearch rest limit done → ((v : ℕ) → IsRelaxedWithin s pieces rest limit (number_in done) v) → IsRowFor s pieces terminals rest limit label mask (number_in done)
+row_for s pieces terminals low label rest limit mask rows begun done table size same seeded alone splits fell search relaxed =
     let reason : (v : ℕ) → number_in begun v < far → IsAlone terminals mask v ⊎ IsSum label mask v (number_in begun v) = λ v has. ⊎_elim
     (λ is. inl is)
     (λ sum. inr (sum_as (table_of rows begun) label mask v (number_in begun v) same sum))
@@ -86,7 +86,7 @@ row_for s pieces terminals low label rest limit mask rows begun done table size 
           (λ behind. inr (inl behind))
           (fell.behind v has);
       own = λ place v at is. still_answered (number_in begun) (number_in done) rest limit v.0 0 fell.falls (alone place v (slice_get_within terminals place v at) at is);
-      steps = spread;
+      steps = relaxed;
       splits = λ one other v parts has_one has_other. ⊎_elim
           (λ more.
           let turned : label other v + label one v ≡ label one v + label other v = omega arith in

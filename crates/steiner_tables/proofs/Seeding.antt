@@ -20,7 +20,7 @@ use Rattle.steiner_tables.specs.RowWork.{table_of, IsSum, IsSeeded, IsSumOffered
 use Rattle.label_search.specs.Runs.{IsSettled, IsSearch, IsAnswered, TakesOffer}
 use Rattle.label_search.specs.Stamped.{far}
 use Rattle.steiner_tables.specs.Tables.{IsAlone}
-use Rattle.label_search.proofs.Spreading.{still_answered}
+use Rattle.label_search.proofs.Relaxing.{still_answered}
 
 -- a kept row has no number beyond its length
 kept_past : (rows : KeptRows) (mask i : ℕ) → kept_len rows mask ≤ i → kept_in rows mask i ≡ far
@@ -96,7 +96,7 @@ seeded_none rows terminals mask rest limit r kept none idle = record {
   reasons = λ v has. absurd (omega (arith, has, none v));
 }
 
--- what has a number waits, so all that doesn't is spread
+-- what has a number waits, so all that doesn't is relaxed
 pub seeded_settled : (s : Size) (pieces : List (Piece × ℕ)) (rows : KeptRows) (terminals : List Vertex) (mask : ℕ) (rest : ℕ → ℕ) (limit : ℕ) (r : Row) → IsSeeded rows terminals mask rest limit r → IsSettled s pieces rest limit r
 seeded_settled s pieces rows terminals mask rest limit r is v still p k u weighs connects = ⊎_elim
     (λ has. absurd (still (is.waits v has)))

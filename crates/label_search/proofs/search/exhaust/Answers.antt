@@ -1,4 +1,4 @@
-use Rattle.label_search.proofs.Spreading.{FallsFrom-trans}
+use Rattle.label_search.proofs.Relaxing.{FallsFrom-trans}
 use Rattle.label_search.proofs.search.exhaust.Goals as goal
 
 pub loop-row-preserved : goal.loop-row-preserved
@@ -15,6 +15,6 @@ loop-row-preserved g c =
 pub returns-clause-idle : goal.returns-clause-idle
 returns-clause-idle g c = c.is_waiting.ensures.none c.loop-row-test.false
 
-pub returns-clause-spread : goal.returns-clause-spread
-returns-clause-spread g c = λ v. c.loop-row.invariant.settled v
+pub returns-clause-relaxed : goal.returns-clause-relaxed
+returns-clause-relaxed g c = λ v. c.loop-row.invariant.settled v
     (λ waits. c.is_waiting.ensures.none c.loop-row-test.false v waits.0 waits.1)

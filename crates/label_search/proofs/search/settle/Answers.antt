@@ -2,7 +2,7 @@ use Rattle.std.proofs.Common.{arith}
 use Rattle.label_search.specs.Founds.{index_in}
 use Rattle.label_search.specs.Rows.{number_in, Waits}
 use Rattle.label_search.proofs.LeastNumbers.{RisesSlowly-as, least_of_all}
-use Rattle.label_search.proofs.Spreading.{FallsFrom-trans}
+use Rattle.label_search.proofs.Relaxing.{FallsFrom-trans}
 use Rattle.label_search.proofs.search.settle.Goals as goal
 
 pub loop-goal-preserved : goal.loop-goal-preserved

@@ -4,7 +4,7 @@ use Rattle.std.proofs.lemmas.List.Elements.{All-more, All-weaker}
 use Rattle.grid_base.specs.declared.vertex.Vertex.{Vertex}
 use Rattle.label_search.specs.Rows.{number_in}
 use Rattle.label_search.specs.Searches.{IsLow}
-use Rattle.label_search.proofs.Spreading.{FallsFrom-trans}
+use Rattle.label_search.proofs.Relaxing.{FallsFrom-trans}
 use Rattle.label_search.proofs.search.settle_each.Goals as goal
 
 pub loop-goal-preserved : goal.loop-goal-preserved

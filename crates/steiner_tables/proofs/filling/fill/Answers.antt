@@ -54,7 +54,7 @@ returns-clause-table g c =
     let row : IsRowFor s pieces terminals (rest_of terminals low mask) limit label mask (number_in done) =
     subst (λ m. IsRowFor s pieces terminals (low m) limit label mask (number_in done)) left
     (row_for s pieces terminals low label _ limit mask rows begun done c.requires.table (found.size ∙ c.requires.size) (λ m v. sym (kept_same rows old.found begun.found m v found (c.requires.kept m)))
-    c.seed.ensures.seeded c.seed.ensures.alone c.seed.ensures.splits c.exhaust.ensures.fell c.exhaust.ensures.search c.exhaust.ensures.spread) in
+    c.seed.ensures.seeded c.seed.ensures.alone c.seed.ensures.splits c.exhaust.ensures.fell c.exhaust.ensures.search c.exhaust.ensures.relaxed) in
     table_more s pieces terminals low label (table_of kept done) limit mask (number_in done) c.requires.some c.requires.table row
     (λ m v some apart. c.store.ensures.others m (index_in done.found v) some apart ∙ kept_same rows old.found done.found m v later (c.requires.kept m))
     (λ v. c.store.ensures.stored (index_in done.found v) ∙ ap (λ (xs : List ℕ). get_or xs (index_in done.found v) far) c.numbers.ensures ∙ taken_same done.numbers.items done.found.len (index_in done.found v) done.parts.beyond)

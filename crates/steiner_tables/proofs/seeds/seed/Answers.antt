@@ -7,7 +7,7 @@ use Rattle.steiner_tables.specs.RowWork.{table_of, IsSumOffered}
 use Rattle.label_search.proofs.Finding.{FindsMore-trans}
 use Rattle.steiner_tables.proofs.Masks.{parts_sum}
 use Rattle.steiner_tables.proofs.Seeding.{seeded_none, sum_offered_on}
-use Rattle.label_search.proofs.Spreading.{still_answered}
+use Rattle.label_search.proofs.Relaxing.{still_answered}
 use Rattle.steiner_tables.proofs.seeds.seed.Goals as goal
 use Rattle.steiner_tables.proofs.seeds.seed.Goals.{then-one-mask+then-is_part, else-one-mask}
 use Rattle.steiner_tables.proofs.seeds.seed.Goals.{else-one-mask-via-then-one-mask+else-is_part}

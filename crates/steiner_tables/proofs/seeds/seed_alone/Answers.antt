@@ -14,7 +14,7 @@ use Rattle.label_search.specs.Runs.{IsAnswered}
 use Rattle.steiner_tables.specs.Tables.{IsAlone}
 use Rattle.label_search.proofs.Finding.{FindsMore-trans}
 use Rattle.steiner_tables.proofs.Seeding.{seeded_offer, single_of}
-use Rattle.label_search.proofs.Spreading.{still_answered}
+use Rattle.label_search.proofs.Relaxing.{still_answered}
 use Rattle.steiner_tables.proofs.seeds.seed_alone.Goals as goal
 use Rattle.steiner_tables.proofs.seeds.seed_alone.Goals.{then-mask-place, else-mask-place}
 

@@ -34,7 +34,7 @@ returns-then-is_empty-clause-all g c = λ none v vertex.
     distance_of_least s pieces source.0 v (number_in new) (g.met.W.Weights.inside w) (g.met.W.Weights.small w)
     (fallen_reached s pieces source c.start.new.self.row new (begun.size ∙ c.requires.size) c.requires.source begun.zero begun.started fell)
     (least_of_all s pieces (number_in new) (λ _. 0) (2 ^ 62) (λ _. ⊥) source.0 v (λ p k a b weighs connects. omega arith)
-    (λ u waits. c.exhaust.ensures.spread u) (λ u waits. absurd waits) (omega (arith, new.parts.limits (index_in new.found v)))
+    (λ u waits. c.exhaust.ensures.relaxed u) (λ u waits. absurd waits) (omega (arith, new.parts.limits (index_in new.found v)))
     (omega (arith, begun.zero 0 source (omega arith), fell.falls source.0)))
 
 pub returns-then-is_empty-clause-back : goal.returns-then-is_empty-clause-back

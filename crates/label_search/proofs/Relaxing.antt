@@ -18,7 +18,7 @@ use Rattle.label_search.specs.declared.row.Row.{Row}
 use Rattle.label_search.specs.Founds.{FindsMore}
 use Rattle.label_search.specs.Paths.{IsPath}
 use Rattle.label_search.specs.Rows.{number_in}
-use Rattle.label_search.specs.Runs.{IsAnswered, IsSpreadWithin, FallsFrom, Advances}
+use Rattle.label_search.specs.Runs.{IsAnswered, IsRelaxedWithin, FallsFrom, Advances}
 use Rattle.label_search.proofs.Finding.{FindsMore-refl, FindsMore-trans}
 
 -- a step of the list of the six, with its place
@@ -108,7 +108,7 @@ offered_past s pieces rest limit num from reached n below none i k w p low is we
 
 -- all six were offered
 pub offered_all : (s : Size) (pieces : List (Piece × ℕ)) (rest : ℕ → ℕ) (limit : ℕ) (num : ℕ → ℕ) (from reached : ℕ)
-    → num from ≡ reached → OfferedBelow s pieces rest limit num from reached 6 → IsSpreadWithin s pieces rest limit num from
+    → num from ≡ reached → OfferedBelow s pieces rest limit num from reached 6 → IsRelaxedWithin s pieces rest limit num from
 offered_all s pieces rest limit num from reached is below p k u weighs connects =
     let found = connects_step s p from u connects in
     subst (λ n. IsAnswered num rest limit u (n + k)) (sym is)
@@ -193,13 +193,13 @@ Advances-trans s pieces a b d first second = record {
   less = omega (arith, first.less, second.less);
 }
 
--- after the spread of a vertex that was taken out, each vertex that doesn't wait is spread
+-- after a vertex that was taken out was relaxed, each vertex that doesn't wait is relaxed
 pub settled_on : (s : Size) (pieces : List (Piece × ℕ)) (rest : ℕ → ℕ) (limit : ℕ) (num new : ℕ → ℕ) (Old Mid New : ℕ → Type 0)
-    (from : ℕ) → ((v : ℕ) → ¬ Old v → IsSpreadWithin s pieces rest limit num v) → ((v : ℕ) → v ≢ from → Old v → Mid v) →
+    (from : ℕ) → ((v : ℕ) → ¬ Old v → IsRelaxedWithin s pieces rest limit num v) → ((v : ℕ) → v ≢ from → Old v → Mid v) →
     ((v : ℕ) → new v ≤ num v) → ((v : ℕ) → (new v ≡ num v) ⊎ New v) → ((v : ℕ) → Mid v → New v)
-    → IsSpreadWithin s pieces rest limit new from → (v : ℕ) → ¬ New v → IsSpreadWithin s pieces rest limit new v
-settled_on s pieces rest limit num new Old Mid New from settled taken falls changed kept spread v still = ⊎_elim
-    (λ here. subst (IsSpreadWithin s pieces rest limit new) (sym here) spread)
+    → IsRelaxedWithin s pieces rest limit new from → (v : ℕ) → ¬ New v → IsRelaxedWithin s pieces rest limit new v
+settled_on s pieces rest limit num new Old Mid New from settled taken falls changed kept relaxed v still = ⊎_elim
+    (λ here. subst (IsRelaxedWithin s pieces rest limit new) (sym here) relaxed)
     (λ other p k u weighs connects. ⊎_elim
     (λ same. still_answered num new rest limit u (new v + k) falls
     (subst (λ n. IsAnswered num rest limit u (n + k)) (sym same)

@@ -6,10 +6,10 @@ use Rattle.grid_graph.specs.Weighed.{IsAllowed}
 use Rattle.label_search.specs.Rows.{number_in, size_in}
 use Rattle.label_search.specs.Runs.{TakesOffer, IsAnswered}
 use Rattle.label_search.proofs.Offers.{offered_goes_on, offered_from}
-use Rattle.label_search.proofs.Spreading.{OfferedBelow, spot_step, no_step, Advances-refl, Advances-trans, offered_none}
-use Rattle.label_search.proofs.Spreading.{offered_more, offered_past, offered_all}
-use Rattle.label_search.proofs.search.spread.Goals as goal
-use Rattle.label_search.proofs.search.spread.Goals.{in-Some+then-allows, in-Some+else-allows, in_default}
+use Rattle.label_search.proofs.Relaxing.{OfferedBelow, spot_step, no_step, Advances-refl, Advances-trans, offered_none}
+use Rattle.label_search.proofs.Relaxing.{offered_more, offered_past, offered_all}
+use Rattle.label_search.proofs.search.relax.Goals as goal
+use Rattle.label_search.proofs.search.relax.Goals.{in-Some+then-allows, in-Some+else-allows, in_default}
 
 pub loop-step-init : goal.loop-step-init
 loop-step-init g c =
@@ -89,8 +89,8 @@ loop-step-preserved g c =
           })
     ]
 
-pub returns-clause-spread : goal.returns-clause-spread
-returns-clause-spread g c =
+pub returns-clause-relaxed : goal.returns-clause-relaxed
+returns-clause-relaxed g c =
     let s = g.W.Weights.size c.args.weights.now in
     let pieces = g.W.Weights.pieces c.args.weights.now in
     let rest = g.B.Bound.rest c.args.bound.now in

@@ -5,11 +5,11 @@ use Rattle.grid_base.specs.Spots.{IsSpot, spot_steps}
 use Rattle.grid_graph.specs.Weighed.{IsAllowed}
 use Rattle.shortest_paths.specs.LabelWords.{labels_number}
 use Rattle.steiner_span.specs.Growths.{AfterOffer}
-use Rattle.steiner_span.proofs.Growing.{spread_whole, offered_on, spreads_on, still_at}
+use Rattle.steiner_span.proofs.Growing.{relaxed_whole, offered_on, relaxes_on, still_at}
 use Rattle.label_search.specs.Stamped.{far}
-use Rattle.label_search.proofs.Spreading.{OfferedBelow, spot_step, no_step, offered_more, offered_past, offered_all}
-use Rattle.steiner_span.proofs.grow.spread.Goals as goal
-use Rattle.steiner_span.proofs.grow.spread.Goals.{in-Some+then-allows, in-Some+else-allows, in_default}
+use Rattle.label_search.proofs.Relaxing.{OfferedBelow, spot_step, no_step, offered_more, offered_past, offered_all}
+use Rattle.steiner_span.proofs.grow.relax.Goals as goal
+use Rattle.steiner_span.proofs.grow.relax.Goals.{in-Some+then-allows, in-Some+else-allows, in_default}
 
 pub offer-requires-clause-to : goal.offer-requires-clause-to
 offer-requires-clause-to g c =
@@ -38,7 +38,7 @@ loop-step-preserved g c =
           let taken = subst (AfterOffer c.loop-step.labels w.offer.new.labels w.in-Some.to.vertex.0) sum after.taken in
           rw w.labels-is (record {
             keys = after.keys;
-            on = spreads_on s pieces c.args.labels.now c.loop-step.labels w.offer.new.labels before.on
+            on = relaxes_on s pieces c.args.labels.now c.loop-step.labels w.offer.new.labels before.on
                 (offered_on s pieces c.loop-step.labels w.offer.new.labels from w.in-Some.to.vertex.0 allowed.0 w.in-Some.by c.requires.positive allowed.1 step.connects taken);
             from = still_at c.loop-step.labels w.offer.new.labels from w.in-Some.to.vertex.0 reached w.weight.result after.taken before.from;
             offered = offered_more s pieces (λ u. 0) far num (labels_number w.offer.new.labels) from reached here w.in-Some.to.vertex w.in-Some.by before.offered after.taken.falls step.step
@@ -62,12 +62,12 @@ loop-step-preserved g c =
           })
     ]
 
-pub returns-clause-spread : goal.returns-clause-spread
-returns-clause-spread g c =
+pub returns-clause-relaxed : goal.returns-clause-relaxed
+returns-clause-relaxed g c =
     let s = g.W.Weights.size c.args.weights.now in
     let pieces = g.W.Weights.pieces c.args.weights.now in
     let num = labels_number c.loop-step.labels in
     let all : c.loop-step.step-index ≡ 6 = omega arith in
-    spread_whole s pieces c.loop-step.labels c.args.from.vertex.0
+    relaxed_whole s pieces c.loop-step.labels c.args.from.vertex.0
     (offered_all s pieces (λ u. 0) far num c.args.from.vertex.0 c.number-reached.result c.loop-step.invariant.from
     (subst (OfferedBelow s pieces (λ u. 0) far num c.args.from.vertex.0 c.number-reached.result) all c.loop-step.invariant.offered))

@@ -1,8 +1,8 @@
 use Rattle.std.proofs.Common.{◌≡◌}
 use Rattle.label_search.specs.Rows.{number_in}
 use Rattle.label_search.specs.Runs.{IsSearch, Advances}
-use Rattle.label_search.proofs.Spreading.{OfferedBelow}
-use Rattle.label_search.proofs.search.spread.Given as goal
+use Rattle.label_search.proofs.Relaxing.{OfferedBelow}
+use Rattle.label_search.proofs.search.relax.Given as goal
 
 abbrev pub invariant-loop-step : goal.invariant-loop-step
 invariant-loop-step g l = record {
