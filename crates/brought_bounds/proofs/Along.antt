@@ -7,7 +7,7 @@ use Rattle.grid_base.specs.declared.piece.Piece.TheVariants.{Edge, Via}
 use Rattle.grid_base.specs.declared.size.Size.{Size}
 use Rattle.grid_base.specs.Numbers.{IsVertex, IsPiece, start_of, end_of, to_next_col, to_next_row, to_next_layer}
 use Rattle.grid_graph.specs.Weighed.{Weighs}
-use Rattle.shortest_paths.specs.Sets.{RisesSlowly}
+use Rattle.label_search.specs.Sets.{RisesSlowly}
 use Rattle.brought_bounds.specs.TableWords.{RisesAlong}
 
 pub rises_where : (s : Size) (pieces : List (Piece × ℕ)) (D : ℕ → ℕ) (p : Piece) (w : ℕ) → ((k : ℕ) → Weighs pieces p k → w ≡ k)

@@ -8,8 +8,8 @@ use Rattle.grid_base.specs.Lists.{At}
 use Rattle.grid_graph.specs.Weighed.{IsAllowed}
 use Rattle.shortest_paths.specs.declared.labels.Labels.{Labels}
 use Rattle.shortest_paths.specs.LabelWords.{source_of, distance_of, HasDistance}
-use Rattle.shortest_paths.specs.Sets.{IsDistance}
-use Rattle.shortest_paths.proofs.Sets.{joins_ends, ends_joined}
+use Rattle.label_search.specs.Sets.{IsDistance}
+use Rattle.label_search.proofs.Sets.{joins_ends, ends_joined}
 use Rattle.lower_bound.specs.Moats.{IsWithinDistance, AreMoats}
 use Rattle.brought_bounds.specs.MoatWords.{HasRoom, IsApart}
 

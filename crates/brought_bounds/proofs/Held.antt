@@ -5,9 +5,9 @@ use Rattle.grid_base.specs.declared.size.Size.{Size}
 use Rattle.grid_base.specs.declared.vertex.Vertex.{Vertex}
 use Rattle.grid_base.specs.Lists.{At}
 use Rattle.grid_base.specs.Numbers.{vertices}
-use Rattle.shortest_paths.specs.Masks.{single}
-use Rattle.shortest_paths.specs.Sets.{RisesSlowly}
-use Rattle.shortest_paths.proofs.Masks.{parts_sum}
+use Rattle.steiner_tables.specs.Masks.{single}
+use Rattle.label_search.specs.Sets.{RisesSlowly}
+use Rattle.steiner_tables.proofs.Masks.{parts_sum}
 use Rattle.brought_bounds.specs.TableWords.{table_number, IsTable, IsTableThatHolds, SplitHolds}
 
 pub power_small : (n : ℕ) → n ≤ 4 → 2 ^ n ≤ 16

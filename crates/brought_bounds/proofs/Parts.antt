@@ -4,8 +4,8 @@ use Rattle.std.specs.Int.Bits.{or_add_and}
 use Rattle.std.proofs.lemmas.Bool.{cases_eq}
 use Rattle.std.proofs.lemmas.Nat.{and_le_l}
 use Rattle.std.proofs.lemmas.Nat.Bits.{bit_at_and, bit_at_or}
-use Rattle.shortest_paths.specs.Masks.{bit, AreParts}
-use Rattle.shortest_paths.proofs.Masks.{bit-small, bit-none, some_bit}
+use Rattle.steiner_tables.specs.Masks.{bit, AreParts}
+use Rattle.steiner_tables.proofs.Masks.{bit-small, bit-none, some_bit}
 
 pub are_parts : (one other : ℕ) → 0 < one → 0 < other → bit_and one other ≡ 0 → AreParts one other (one + other)
 are_parts one other some others none = record {

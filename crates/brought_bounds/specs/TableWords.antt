@@ -5,9 +5,9 @@ use Rattle.grid_base.specs.declared.size.Size.{Size}
 use Rattle.grid_base.specs.declared.vertex.Vertex.{Vertex}
 use Rattle.grid_base.specs.Numbers.{vertices, Connects}
 use Rattle.grid_graph.specs.Weighed.{Weighs}
-use Rattle.shortest_paths.specs.Masks.{all_but_root, AreParts}
-use Rattle.shortest_paths.specs.Stamped.{far}
-use Rattle.shortest_paths.specs.Tables.{IsHoldingTable}
+use Rattle.steiner_tables.specs.Masks.{all_but_root, AreParts}
+use Rattle.label_search.specs.Stamped.{far}
+use Rattle.steiner_tables.specs.Tables.{IsHoldingTable}
 
 -- the greatest number of a table
 abbrev pub max_table_number : ℕ

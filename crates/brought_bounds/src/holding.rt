@@ -7,9 +7,9 @@ ghost use Rattle.grid_base.specs.Lists.{At};
 ghost use Rattle.grid_base.specs.Numbers.{IsVertex};
 ghost use Rattle.grid_base.specs.Walks.{Joins, InVertices};
 ghost use Rattle.grid_graph.specs.Weighed.{IsAllowed};
-ghost use Rattle.shortest_paths.specs.Masks as words;
-ghost use Rattle.shortest_paths.specs.Masks.{few_terminals};
-ghost use Rattle.shortest_paths.specs.Sets.{IsSetOf, weight};
+ghost use Rattle.steiner_tables.specs.Masks as words;
+ghost use Rattle.steiner_tables.specs.Masks.{few_terminals};
+ghost use Rattle.label_search.specs.Sets.{IsSetOf, weight};
 ghost use Rattle.brought_bounds.specs.TableWords.{table_number, IsTableThatHolds};
 
 use crate::own::are_own;

@@ -10,8 +10,8 @@
 //! }
 //! ```
 //!
-//! It stands on `lower_bound` for what moats are and the law of them, on `shortest_paths` for searches and the law of tables,
-//! and on `grid_graph` and `grid_base`.
+//! It stands on `lower_bound` for what moats are and the law of them, on `shortest_paths` for searches, on `steiner_tables` for
+//! the law of tables, and on `grid_graph` and `grid_base`.
 //!
 //! Promised: a table or moats are accepted exactly where they hold, whoever made them, and then no set that joins the
 //! terminals weighs less.

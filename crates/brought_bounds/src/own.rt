@@ -4,7 +4,7 @@ ghost use Rattle.std.specs.Prelude.{◌≡◌, ◌<◌, ◌≤◌, ◌↔◌, �
 ghost use Rattle.grid_base.specs.declared.vertex.Vertex.{Vertex};
 ghost use Rattle.grid_base.specs.Lists.{At};
 ghost use Rattle.grid_base.specs.Numbers.{IsVertex};
-ghost use Rattle.shortest_paths.specs.Masks.{few_terminals, single};
+ghost use Rattle.steiner_tables.specs.Masks.{few_terminals, single};
 ghost use Rattle.brought_bounds.specs.TableWords.{table_number, IsFilled};
 
 use crate::rows::Rows;

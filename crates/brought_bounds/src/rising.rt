@@ -4,7 +4,7 @@ ghost use Rattle.std.specs.Prelude.{◌≡◌, ◌<◌, ◌≤◌, ◌↔◌, �
 ghost use Rattle.grid_base.specs.Numbers.{IsVertex, start_of, vertices};
 ghost use Rattle.grid_base.specs.declared.piece.Piece.{Piece};
 ghost use Rattle.brought_bounds.specs.TableWords.{table_number, IsFilled, RisesAlong};
-ghost use Rattle.shortest_paths.specs.Sets.{RisesSlowly};
+ghost use Rattle.label_search.specs.Sets.{RisesSlowly};
 
 use crate::rows::Rows;
 use grid_base::{Axis, Edge, Piece, Size, Vertex, Via};

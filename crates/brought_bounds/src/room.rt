@@ -7,7 +7,7 @@ ghost use Rattle.grid_base.specs.Numbers.{IsVertex};
 ghost use Rattle.grid_base.specs.Walks.{Joins, InVertices};
 ghost use Rattle.grid_graph.specs.Weighed.{IsAllowed};
 ghost use Rattle.shortest_paths.specs.LabelWords.{labels_size, masks_of};
-ghost use Rattle.shortest_paths.specs.Sets.{IsSetOf, weight};
+ghost use Rattle.label_search.specs.Sets.{IsSetOf, weight};
 ghost use Rattle.lower_bound.specs.Moats.{AreMoats};
 ghost use Rattle.brought_bounds.specs.MoatWords.{HasRoom, IsApart};
 

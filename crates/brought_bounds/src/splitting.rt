@@ -2,7 +2,7 @@
 
 ghost use Rattle.std.specs.Prelude.{◌≡◌, ◌<◌, ◌≤◌, ◌+◌, ◌↔◌, ℕ, IsTrue, length};
 ghost use Rattle.grid_base.specs.Numbers.{vertices};
-ghost use Rattle.shortest_paths.specs.Masks.{AreParts};
+ghost use Rattle.steiner_tables.specs.Masks.{AreParts};
 ghost use Rattle.brought_bounds.specs.TableWords.{table_number, IsFilled, SplitHolds};
 
 use crate::rows::Rows;

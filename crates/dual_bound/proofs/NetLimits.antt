@@ -23,7 +23,7 @@ use Rattle.edge_prices.specs.Limits.{max_price}
 use Rattle.edge_prices.specs.Weights.{cost, is_open, edge_cost}
 use Rattle.edge_prices.proofs.GroundPieces.{allowed_number, pieces_with-Weighs, pieces_with-WeighsOnlyPieces}
 use Rattle.edge_prices.proofs.Layers.{layer-below}
-use Rattle.shortest_paths.proofs.Forests.{forest, one_mark}
+use Rattle.label_search.proofs.Forests.{forest, one_mark}
 use Rattle.edge_prices.specs.declared.budget.Budget.{Budget}
 use Rattle.edge_prices.specs.Budgets.{price_per_piece, IsWithinLimits}
 use Rattle.lower_bound.specs.Costs.{costed}

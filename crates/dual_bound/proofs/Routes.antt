@@ -18,7 +18,7 @@ use Rattle.grid_graph.specs.Grids.{size_of, Allows, demand_on, edge_numbers, ent
 use Rattle.grid_graph.specs.Grounds.{IsGround}
 use Rattle.edge_prices.specs.Weights.{cost, edge_cost, is_open}
 use Rattle.edge_prices.proofs.GroundPieces.{allowed_number, pieces_with-WeighsOnlyPieces}
-use Rattle.shortest_paths.proofs.Sets.{piece_cases}
+use Rattle.label_search.proofs.Sets.{piece_cases}
 use Rattle.edge_prices.specs.declared.budget.Budget.{Budget}
 use Rattle.edge_prices.specs.Budgets.{price_per_piece}
 use Rattle.tree_set.specs.Loads.{is_edge_of, holds, net_load, tree_load}

@@ -11,6 +11,7 @@ ghost use Rattle.dual_bound.specs.Parts.{priced_nets, HasGrounds, IsSumOver, IsS
 
 use crate::priced::Priced;
 use grid_base::NoMemory;
+use label_search::MAX_LABELLED;
 use rayon::prelude::*;
 use std::alloc::Global;
 use std::thread::Threads;
@@ -18,10 +19,7 @@ use std::thread::Threads;
 /// The nets are divided in at most so many parts.
 const MAX_PARTS: u32 = 8;
 
-/// The labels of all parts together are of at most so many vertices.
-const MAX_LABELLED: u32 = 1 << 24;
-
-/// In how many parts the nets are divided on a grid of so many vertices.
+/// In how many parts the nets are divided, each of which has labels for so many vertices.
 fn part_count(vertices: u32) -> usize
     requires some { 1 ≤ vertices }
     requires most { vertices ≤ max_vertices }

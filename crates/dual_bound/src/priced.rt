@@ -7,10 +7,8 @@ use grid_graph::{Design, Ground};
 use lower_bound::net_bound;
 use shortest_paths::Labels;
 use std::alloc::Global;
+use steiner_tables::ROOTED_MASKS;
 use tree_set::Budget;
-
-/// For so many sets of terminals there is room in the labels of a search: all nonempty ones of four.
-pub(crate) const MASKS: u32 = 15;
 
 /// A design with the grounds of its nets, at a price list.
 #[derive(Clone, Copy, Drop)]
@@ -31,7 +29,7 @@ impl Priced<'_> {
     ghost use Rattle.grid_graph.specs.Grids.{IsEdgeNumber};
     ghost use Rattle.edge_prices.specs.Limits.{max_price};
     ghost use Rattle.shortest_paths.specs.LabelWords.{labels_size, masks_of};
-    ghost use Rattle.shortest_paths.specs.Masks.{rooted_masks};
+    ghost use Rattle.steiner_tables.specs.Masks.{rooted_masks};
     ghost use Rattle.edge_prices.specs.Budgets.{price_per_piece, most_of};
     ghost use Rattle.fractions.specs.Limits.{max_denominator};
     ghost use Rattle.dual_bound.specs.DesignBounds.{IsBoundOfNet};
@@ -127,7 +125,7 @@ impl Priced<'_> {
         requires inside { to ≤ length (priced_nets self.now) }
         ensures { IfOk result (IsSumOver self.now (slice_range (priced_nets self.now) from to)) }
     {
-        let mut labels = Labels::new(alloc, self.design.grid.size(), MASKS)?;
+        let mut labels = Labels::new(alloc, self.design.grid.size(), ROOTED_MASKS)?;
         Ok(self.sum_between(from, to, &mut labels))
     }
 }

@@ -1,10 +1,11 @@
 //! Net bounds by tiles.
 
-use crate::priced::{MASKS, Priced};
+use crate::priced::Priced;
 use grid_base::NoMemory;
 use lower_bound::ClassCosts;
 use shortest_paths::Labels;
 use std::alloc::Global;
+use steiner_tables::ROOTED_MASKS;
 
 impl Priced<'_> {
     ghost use Rattle.std.specs.Prelude.{◌≡◌, ◌≤◌, ◌<◌, length, IfOk};
@@ -13,7 +14,7 @@ impl Priced<'_> {
     ghost use Rattle.grid_base.specs.Lists.{At};
     ghost use Rattle.grid_graph.specs.declared.net_spec.NetSpec.{NetSpec};
     ghost use Rattle.shortest_paths.specs.LabelWords.{labels_size, masks_of};
-    ghost use Rattle.shortest_paths.specs.Masks.{rooted_masks};
+    ghost use Rattle.steiner_tables.specs.Masks.{rooted_masks};
     ghost use Rattle.edge_prices.specs.Budgets.{price_per_piece};
     ghost use Rattle.lower_bound.specs.ClassWords.{tiles_size};
     ghost use Rattle.dual_bound.specs.Classes.{IsClassOf};
@@ -89,7 +90,7 @@ impl Priced<'_> {
             self.grounds[from],
             self.prices,
         )?;
-        let mut labels = Labels::new(alloc, costs.size(), MASKS)?;
+        let mut labels = Labels::new(alloc, costs.size(), ROOTED_MASKS)?;
         self.sum_by_tiles(alloc, from, to, &mut costs, &mut labels)
     }
 

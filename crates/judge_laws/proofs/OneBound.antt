@@ -18,8 +18,8 @@ use Rattle.grid_graph.specs.declared.net_spec.NetSpec.{NetSpec}
 use Rattle.grid_graph.specs.Grids.{size_of}
 use Rattle.grid_graph.specs.Grounds.{IsGround, AreGrounds}
 use Rattle.grid_graph.proofs.Grounds.{at_place}
-use Rattle.shortest_paths.specs.Masks.{few_terminals}
-use Rattle.shortest_paths.specs.Sets.{IsLeastWeight}
+use Rattle.steiner_tables.specs.Masks.{few_terminals}
+use Rattle.label_search.specs.Sets.{IsLeastWeight}
 use Rattle.lower_bound.specs.Costs.{costed}
 use Rattle.lower_bound.specs.NetBounds.{IsLeastToOther, AreHalves, IsBoundOfMany, IsNetBound}
 use Rattle.lower_bound.specs.Spread.{IsNext, IsSpread}

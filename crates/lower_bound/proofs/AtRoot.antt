@@ -1,5 +1,5 @@
 -- The least weight of joining terminals by the label of all others at the root.
-use Rattle.std.proofs.Common.{◌≡◌, ℕ, ◌-◌, ◌<◌, List, [], Option, Some, None, length, unwrap_or, refl, sym, ◌∙◌, ap, subst, arith}
+use Rattle.std.proofs.Common.{◌≡◌, ℕ, ◌<◌, List, [], Some, length, refl, sym, ◌∙◌, ap, subst, arith}
 use Rattle.std.proofs.lemmas.Option.{same_Some, slice_get-get_or}
 use Rattle.grid_base.specs.declared.piece.Piece.{Piece}
 use Rattle.grid_base.specs.declared.size.Size.{Size}
@@ -7,12 +7,9 @@ use Rattle.grid_base.specs.declared.vertex.Vertex.{Vertex}
 use Rattle.grid_base.specs.Lists.{At}
 use Rattle.grid_base.specs.Walks.{Joins, InVertices, WalkBetween}
 use Rattle.grid_base.proofs.Walks.{WalkBetween-refl, walk_vertices}
-use Rattle.grid_graph.specs.Weighed.{IsAllowed, NoPieceTwice}
-use Rattle.shortest_paths.specs.Masks.{all_but_root}
-use Rattle.shortest_paths.specs.Sets.{IsLeastWeight}
-use Rattle.shortest_paths.specs.Tables.{IsLabel}
-use Rattle.shortest_paths.proofs.Roots.{least_at_root, joins_at_root}
-use Rattle.shortest_paths.proofs.Sets.{no_pieces}
+use Rattle.grid_graph.specs.Weighed.{IsAllowed}
+use Rattle.label_search.specs.Sets.{IsLeastWeight}
+use Rattle.label_search.proofs.Sets.{no_pieces}
 
 -- fewer than two terminals are joined without a piece
 pub few_least : (s : Size) (pieces : List (Piece × ℕ)) (terminals : List Vertex) → length terminals < 2 → Joins s (IsAllowed pieces) (InVertices terminals) → IsLeastWeight s pieces (InVertices terminals) 0

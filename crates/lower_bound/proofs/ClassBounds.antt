@@ -1,5 +1,5 @@
 -- Bounds of nets by the costs between tiles of their class.
-use Rattle.std.proofs.Common.{◌≡◌, ◌↔◌, ℕ, ◌+◌, List, [], ◌∷◌, All, length, get_or, slice_index, refl, sym, ap, subst, ◌∙◌, add-zero}
+use Rattle.std.proofs.Common.{◌≡◌, ◌↔◌, ℕ, ◌+◌, ◌≤◌, List, [], ◌∷◌, All, length, get_or, slice_index, refl, sym, ap, subst, ◌∙◌, add-zero, arith}
 use Rattle.std.proofs.lemmas.List.{length-map}
 use Rattle.std.proofs.lemmas.List.Elements.{All-contains, Contains-get_or}
 use Rattle.grid_base.specs.declared.piece.Piece.{Piece}
@@ -12,22 +12,23 @@ use Rattle.grid_base.specs.Walks.{Joins, InVertices}
 use Rattle.grid_graph.specs.declared.grid.Grid.{Grid}
 use Rattle.grid_graph.specs.declared.ground.Ground.{Ground}
 use Rattle.grid_graph.specs.declared.ground.Ground.TheVariants.{Open, WithChoked}
-use Rattle.grid_graph.specs.Flat.{IsFlatOf, HaveSameTiles}
+use Rattle.grid_graph.specs.Flat.{IsFlatOf}
 use Rattle.grid_graph.specs.Grids.{size_of, IsNetWidth, Allows}
 use Rattle.grid_graph.specs.TilePieces.{tiles_of, HasFreeVias, AreLeastBetweenTiles}
-use Rattle.grid_graph.specs.Weighed.{Weighs, IsAllowed}
+use Rattle.grid_graph.specs.Weighed.{IsAllowed}
 use Rattle.grid_graph.proofs.TileLists.{tiles_vertices, tiles_long}
 use Rattle.edge_prices.specs.PieceLists.{IsWeightList, pieces_with}
 use Rattle.edge_prices.specs.Weights.{AreEdgePrices, cost}
 use Rattle.edge_prices.proofs.GroundPieces.{pieces_with-Weighs}
-use Rattle.shortest_paths.specs.Sets.{IsLeastWeight}
+use Rattle.label_search.specs.Sets.{IsLeastWeight}
 use Rattle.shortest_paths.proofs.TileSets.{tiles_joined, tiles_of_vertices}
 use Rattle.lower_bound.specs.declared.class_costs.ClassCosts.{ClassCosts}
-use Rattle.lower_bound.specs.ClassWords.{AreClassCosts, KeepsClass, class_pieces}
+use Rattle.lower_bound.specs.ClassWords.{AreClassCosts, IsCurrentClass, KeepsClass, class_pieces}
 use Rattle.lower_bound.specs.Costs.{costed}
 use Rattle.lower_bound.specs.HalfWords.{IsSumOfHalves}
 use Rattle.lower_bound.specs.Raised.{raised}
-use Rattle.lower_bound.specs.Representatives.{AreRepresentatives, represented, AreJoinedFreely}
+use Rattle.lower_bound.specs.Representatives.{represented, AreJoinedFreely}
+use Rattle.lower_bound.specs.TileCosts.{costs_between}
 use Rattle.lower_bound.proofs.CostLists.{same_tiles}
 use Rattle.lower_bound.proofs.Costed.{raised_costs}
 use Rattle.lower_bound.proofs.FreeJoins.{least_freely, least_alike, joined_freely, represented_freely, represented_vertices, sum_freely}
@@ -64,46 +65,102 @@ class_costs g width over prices flat s t pieces across is own wide priced size l
 
 -- ---- the tiles of a net, and those that stand for them
 
-module _ (g : Grid) (width : ℕ) (over : Ground) (prices : List ℕ) (flat : Size) (across : List (Piece × ℕ)) (of : List ℕ) (are : AreClassCosts g width over prices flat across) (stand : AreRepresentatives flat across of)
-    (terminals : List Vertex) (vertices : All (λ (v : Vertex). IsVertex (size_of g) v.0) terminals) where
-  pub their_tiles : All (λ (v : Vertex). IsVertex flat v.0) (tiles_of (size_of g) terminals)
-  their_tiles = tiles_vertices flat (size_of g) terminals (same_tiles flat (size_of g) are.flat_of)
+-- tiles that stand for those of terminals, one for each
+pub record StandFor (x : ClassCosts) (terminals tiles : List Vertex) : Type 0 where
+  pub vertices : All (λ (v : Vertex). IsVertex x.costs.size v.0) tiles
+  pub long : length tiles ≡ length terminals
+  pub joined : Joins (size_of x.grid.now) (IsAllowed (class_pieces x)) (InVertices terminals)
+      → Joins x.costs.size (IsAllowed (costs_between x.costs.costs.items)) (InVertices tiles)
+  pub sum : (total : ℕ) → IsSumOfHalves x.costs.size (costs_between x.costs.costs.items) tiles (length tiles) total
+      → IsSumOfHalves (size_of x.grid.now) (class_pieces x) terminals (length terminals) total
 
-  freely : AreJoinedFreely flat across (InVertices (tiles_of (size_of g) terminals)) (InVertices (represented of (tiles_of (size_of g) terminals)))
-  freely = represented_freely flat across of (tiles_of (size_of g) terminals) stand their_tiles
+-- the same tiles, each once
+pub record StandOnce (x : ClassCosts) (terminals tiles : List Vertex) : Type 0 where
+  pub vertices : All (λ (v : Vertex). IsVertex x.costs.size v.0) tiles
+  pub few : length tiles ≤ length terminals
+  pub joined : Joins (size_of x.grid.now) (IsAllowed (class_pieces x)) (InVertices terminals)
+      → Joins x.costs.size (IsAllowed (costs_between x.costs.costs.items)) (InVertices tiles)
+  pub least : (least : ℕ) → IsLeastWeight x.costs.size (costs_between x.costs.costs.items) (InVertices tiles) least
+      → IsLeastWeight (size_of x.grid.now) (class_pieces x) (InVertices terminals) least
 
-  pub stand_vertices : (read : List Vertex) → read ≡ represented of (tiles_of (size_of g) terminals) → All (λ (v : Vertex). IsVertex flat v.0) read
-  stand_vertices read is = subst (All (λ (v : Vertex). IsVertex flat v.0)) (sym is) (represented_vertices flat across of (tiles_of (size_of g) terminals) stand their_tiles)
+module _ (x : ClassCosts) (now : IsCurrentClass x) (terminals : List Vertex)
+    (vertices : All (λ (v : Vertex). IsVertex (size_of x.grid.now) v.0) terminals) where
+  their_tiles : All (λ (v : Vertex). IsVertex x.costs.size v.0) (tiles_of (size_of x.grid.now) terminals)
+  their_tiles = tiles_vertices x.costs.size (size_of x.grid.now) terminals (same_tiles x.costs.size (size_of x.grid.now) now.costs.flat_of)
 
-  pub stand_joined : (read : List Vertex) → read ≡ represented of (tiles_of (size_of g) terminals) → Joins (size_of g) (IsAllowed (costed g width over prices 0)) (InVertices terminals) → Joins flat (IsAllowed across) (InVertices read)
-  stand_joined read is joins =
-      let s = size_of g in
-      subst (λ (ts : List Vertex). Joins flat (IsAllowed across) (InVertices ts)) (sym is)
-      (joined_freely flat across (InVertices (tiles_of s terminals)) (InVertices (represented of (tiles_of s terminals))) freely
-      (tiles_joined flat s (costed g width over prices 0) across (InVertices terminals) (InVertices (tiles_of s terminals)) (same_tiles flat s are.flat_of) are.between (tiles_of_vertices s terminals vertices) joins))
+  freely : AreJoinedFreely x.costs.size (costs_between x.costs.costs.items) (InVertices (tiles_of (size_of x.grid.now) terminals))
+      (InVertices (represented x.representatives.of.items (tiles_of (size_of x.grid.now) terminals)))
+  freely = represented_freely x.costs.size (costs_between x.costs.costs.items) x.representatives.of.items
+      (tiles_of (size_of x.grid.now) terminals) now.representatives their_tiles
 
-  pub few_by_class : (read found : List Vertex) (least : ℕ) → read ≡ represented of (tiles_of (size_of g) terminals) → ((v : ℕ) → InVertices found v ↔ InVertices read v) → IsLeastWeight flat across (InVertices found) least
-      → IsLeastWeight (size_of g) (costed g width over prices 0) (InVertices terminals) least
-  few_by_class read found least is same lightest =
-      let s = size_of g in
-      let on_read = least_alike flat across (InVertices read) (InVertices found) least (λ v. ((same v).1, (same v).0)) lightest in
-      least_of_tiles flat s (costed g width over prices 0) across terminals least (same_tiles flat s are.flat_of) are.listed.inside (vias_free g width over prices) are.between vertices
-      (least_freely flat across (InVertices (tiles_of s terminals)) (InVertices (represented of (tiles_of s terminals))) least freely (subst (λ (ts : List Vertex). IsLeastWeight flat across (InVertices ts) least) is on_read))
+  stand_joined : Joins (size_of x.grid.now) (IsAllowed (class_pieces x)) (InVertices terminals)
+      → Joins x.costs.size (IsAllowed (costs_between x.costs.costs.items))
+      (InVertices (represented x.representatives.of.items (tiles_of (size_of x.grid.now) terminals)))
+  stand_joined joins =
+      let s = size_of x.grid.now in
+      let across = costs_between x.costs.costs.items in
+      let tiles = tiles_of s terminals in
+      joined_freely x.costs.size across (InVertices tiles) (InVertices (represented x.representatives.of.items tiles)) freely
+      (tiles_joined x.costs.size s (class_pieces x) across (InVertices terminals) (InVertices tiles)
+      (same_tiles x.costs.size s now.costs.flat_of) now.costs.between (tiles_of_vertices s terminals vertices) joins)
 
-  pub read_long : (read : List Vertex) → read ≡ represented of (tiles_of (size_of g) terminals) → length read ≡ length terminals
-  read_long read is = ap (λ (ts : List Vertex). length ts) is ∙ length-map (tiles_of (size_of g) terminals) (λ (v : Vertex). record { 0 = slice_index of v.0 }) ∙ tiles_long (size_of g) terminals
+  few_by_class : (found : List Vertex) (least : ℕ)
+      → ((v : ℕ) → InVertices found v ↔ InVertices (represented x.representatives.of.items (tiles_of (size_of x.grid.now) terminals)) v)
+      → IsLeastWeight x.costs.size (costs_between x.costs.costs.items) (InVertices found) least
+      → IsLeastWeight (size_of x.grid.now) (class_pieces x) (InVertices terminals) least
+  few_by_class found least same lightest =
+      let s = size_of x.grid.now in
+      let across = costs_between x.costs.costs.items in
+      let stand = InVertices (represented x.representatives.of.items (tiles_of s terminals)) in
+      let on_read = least_alike x.costs.size across stand (InVertices found) least (λ v. ((same v).1, (same v).0)) lightest in
+      least_of_tiles x.costs.size s (class_pieces x) across terminals least (same_tiles x.costs.size s now.costs.flat_of)
+      now.costs.listed.inside (vias_free x.grid.now x.width x.ground x.prices.now) now.costs.between vertices
+      (least_freely x.costs.size across (InVertices (tiles_of s terminals)) stand least freely on_read)
 
-  pub sum_by_class : (read : List Vertex) (total : ℕ) → read ≡ represented of (tiles_of (size_of g) terminals) → IsSumOfHalves flat across read (length read) total → IsSumOfHalves (size_of g) (costed g width over prices 0) terminals (length terminals) total
-  sum_by_class read total is sums =
-      let s = size_of g in
-      let on_tiles = sum_freely flat across of (tiles_of s terminals) (length terminals) total stand their_tiles
-      (subst (λ n. IsSumOfHalves flat across (represented of (tiles_of s terminals)) n total) (read_long read is) (subst (λ (ts : List Vertex). IsSumOfHalves flat across ts (length read) total) is sums)) in
-      sum_by_tiles flat s (costed g width over prices 0) across terminals (length terminals) total (same_tiles flat s are.flat_of) are.listed.inside (vias_free g width over prices) are.between vertices on_tiles
+  stand_long : length (represented x.representatives.of.items (tiles_of (size_of x.grid.now) terminals)) ≡ length terminals
+  stand_long =
+      length-map (tiles_of (size_of x.grid.now) terminals) (λ (v : Vertex). record { 0 = slice_index x.representatives.of.items v.0 })
+      ∙ tiles_long (size_of x.grid.now) terminals
 
--- the same tiles in another list
-pub alike_vertices : (flat : Size) (read found : List Vertex) → ((v : ℕ) → InVertices found v ↔ InVertices read v) → All (λ (v : Vertex). IsVertex flat v.0) read → All (λ (v : Vertex). IsVertex flat v.0) found
-alike_vertices flat read found same all k d low =
-    let t = get_or found k d in All-contains (λ (v : Vertex). IsVertex flat v.0) read t all ((same t.0).0 (Contains-get_or found k d low))
+  stand_sum : (total : ℕ)
+      → IsSumOfHalves x.costs.size (costs_between x.costs.costs.items)
+      (represented x.representatives.of.items (tiles_of (size_of x.grid.now) terminals))
+      (length (represented x.representatives.of.items (tiles_of (size_of x.grid.now) terminals))) total
+      → IsSumOfHalves (size_of x.grid.now) (class_pieces x) terminals (length terminals) total
+  stand_sum total sums =
+      let s = size_of x.grid.now in
+      let across = costs_between x.costs.costs.items in
+      let of = x.representatives.of.items in
+      let tiles = tiles_of s terminals in
+      sum_by_tiles x.costs.size s (class_pieces x) across terminals (length terminals) total (same_tiles x.costs.size s now.costs.flat_of)
+      now.costs.listed.inside (vias_free x.grid.now x.width x.ground x.prices.now) now.costs.between vertices
+      (sum_freely x.costs.size across of tiles (length terminals) total now.representatives their_tiles
+      (subst (λ n. IsSumOfHalves x.costs.size across (represented of tiles) n total) stand_long sums))
+
+  pub stand_for : (read tiles : List Vertex) → read ≡ represented x.representatives.of.items (tiles_of (size_of x.grid.now) terminals)
+      → tiles ≡ read → StandFor x terminals tiles
+  stand_for read tiles is same = subst (StandFor x terminals) (sym (same ∙ is)) (record {
+    vertices = represented_vertices x.costs.size (costs_between x.costs.costs.items) x.representatives.of.items
+        (tiles_of (size_of x.grid.now) terminals) now.representatives their_tiles;
+    long = stand_long;
+    joined = stand_joined;
+    sum = stand_sum;
+  })
+
+  pub stand_once : (read found tiles : List Vertex)
+      → read ≡ represented x.representatives.of.items (tiles_of (size_of x.grid.now) terminals)
+      → ((v : ℕ) → InVertices found v ↔ InVertices read v) → length found ≤ length read → tiles ≡ found → StandOnce x terminals tiles
+  stand_once read found tiles is alike fewer same =
+      let all = stand_for read read is refl in
+      subst (StandOnce x terminals) (sym same) (record {
+        vertices = λ k d low.
+            let t = get_or found k d in
+            All-contains (λ (v : Vertex). IsVertex x.costs.size v.0) read t all.vertices ((alike t.0).0 (Contains-get_or found k d low));
+        few = omega (arith, fewer, all.long);
+        joined = λ joins a b at_a at_b. all.joined joins a b ((alike a).0 at_a) ((alike b).0 at_b);
+        least = λ least. few_by_class found least
+            (subst (λ (ts : List Vertex). (v : ℕ) → InVertices found v ↔ InVertices ts v) is alike);
+      })
 
 -- ---- where nothing but what is kept changed
 

@@ -1,5 +1,5 @@
 -- Lists of costs between tiles.
-use Rattle.std.proofs.Common.{◌≡◌, ◌≢◌, Bool, ℕ, ◌+◌, ◌*◌, ◌/◌, ◌%◌, ◌<◌, ◌≤◌, List, [], ◌∷◌, length, map, min, ltb, get_or, set, slice_index, replicate, refl, sym, ap, subst, ◌∙◌, inl, inr, ⊎_elim, arith, get_or-set_same, get_or-set_other}
+use Rattle.std.proofs.Common.{◌≡◌, ◌≢◌, Bool, ℕ, ◌+◌, ◌*◌, ◌/◌, ◌<◌, ◌≤◌, List, [], ◌∷◌, length, map, min, ltb, slice_index, replicate, refl, sym, ap, subst, ◌∙◌, ⊎_elim, arith}
 use Rattle.std.specs.List.{filter, range_with_len}
 use Rattle.std.proofs.Math.Nat.{mod-lt, mod-eq_of_lt}
 use Rattle.std.proofs.lemmas.Bool.{cases_eq, ltb-true, lt-ltb}
@@ -12,13 +12,13 @@ use Rattle.grid_base.specs.declared.piece.Piece.{Piece}
 use Rattle.grid_base.specs.declared.piece.Piece.TheVariants.{Edge, Via}
 use Rattle.grid_base.specs.declared.size.Size.{Size}
 use Rattle.grid_base.specs.declared.via.Via.{Via as ViaNumber}
-use Rattle.grid_base.specs.Numbers.{layers, vertices, edge_axis, IsPiece}
+use Rattle.grid_base.specs.Numbers.{layers, edge_axis, IsPiece}
 use Rattle.grid_base.proofs.Pieces.{edge-tells}
 use Rattle.grid_graph.specs.declared.floors.Floors.{Floors}
 use Rattle.grid_graph.specs.Flat.{tiles, tile_edge_of, HaveSameTiles, IsFlatOf, AreLeastOver}
-use Rattle.grid_graph.specs.Floors.{floor_of, floor_along, AreFloors, AreTileFloors, AreWithin}
+use Rattle.grid_graph.specs.Floors.{floor_along, AreFloors, AreTileFloors, AreWithin}
 use Rattle.grid_graph.specs.Limits.{max_weight}
-use Rattle.grid_graph.specs.TilePieces.{tile_edge, AreLeastBetweenTiles}
+use Rattle.grid_graph.specs.TilePieces.{AreLeastBetweenTiles}
 use Rattle.grid_graph.specs.Weighed.{Weighs, IsAllowed, NoPieceTwice, WeighsOnlyPieces, AreWithinLimit}
 use Rattle.grid_graph.proofs.Members.{In, In-Contains, Contains-In, In-map, In-from_map, In-filter, In-from_filter, In-range, In-from_range, Differ, Differ-filter, Differ-map_range, Differ-HasNoRepeats}
 use Rattle.grid_graph.proofs.TileSteps.{some_tiles, tile_edge-number}

@@ -17,7 +17,7 @@ use Rattle.grid_graph.specs.Weighed.{IsAllowed}
 use Rattle.edge_prices.specs.PieceLists.{has_piece, all_pieces, pieces_with}
 use Rattle.edge_prices.specs.Weights.{cost}
 use Rattle.edge_prices.proofs.GroundPieces.{pieces_with-Weighs}
-use Rattle.shortest_paths.specs.Sets.{IsSetOf, weight}
+use Rattle.label_search.specs.Sets.{IsSetOf, weight}
 use Rattle.lower_bound.specs.Costs.{costed, set_cost}
 use Rattle.lower_bound.specs.Raised.{raised}
 

@@ -12,8 +12,8 @@ use Rattle.grid_base.specs.Numbers.{IsVertex, IsPiece, Connects, start_of, end_o
 use Rattle.grid_base.specs.Walks.{WalkBetween, Joins, InVertices}
 use Rattle.grid_base.proofs.Walks.{WalkBetween-superset, walk_vertices}
 use Rattle.grid_graph.specs.Weighed.{IsAllowed, WeighsOnlyPieces}
-use Rattle.shortest_paths.specs.Sets.{IsSetOf, RisesSlowly, weight}
-use Rattle.shortest_paths.proofs.Law.{rises_by_weight}
+use Rattle.label_search.specs.Sets.{IsSetOf, RisesSlowly, weight}
+use Rattle.label_search.proofs.Law.{rises_by_weight}
 use Rattle.lower_bound.specs.Moats.{AreMoats}
 use Rattle.lower_bound.proofs.Mapped.{from_map, into_map}
 use Rattle.lower_bound.proofs.Reach.{within, within-refl, within-sym, within-triangle, within-piece, within_is_set}

@@ -16,8 +16,8 @@ use Rattle.grid_base.proofs.Chosen.{Contains-map, made_by_map}
 use Rattle.grid_base.proofs.Walks.{walk_vertices, WalkBetween-sym, WalkBetween-trans, WalkBetween-superset}
 use Rattle.grid_graph.specs.Weighed.{IsAllowed}
 use Rattle.grid_graph.proofs.Members.{In-Contains, Contains-In, In-filter, In-from_filter}
-use Rattle.shortest_paths.specs.Sets.{IsSetOf, IsLeastWeight, IsEither, weight}
-use Rattle.shortest_paths.proofs.Trees.{IsUnion, united}
+use Rattle.label_search.specs.Sets.{IsSetOf, IsLeastWeight, IsEither, weight}
+use Rattle.steiner_tables.proofs.Trees.{IsUnion, united}
 use Rattle.lower_bound.specs.HalfWords.{IsSumOfHalves}
 use Rattle.lower_bound.specs.Moats.{IsWithinDistance}
 use Rattle.lower_bound.specs.NetBounds.{IsLeastToOther}

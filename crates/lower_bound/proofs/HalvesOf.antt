@@ -1,7 +1,6 @@
 -- Halves, one terminal after the other.
-use Rattle.std.proofs.Common.{◌≡◌, ◌≢◌, ℕ, zero, suc, ◌+◌, ◌<◌, ◌≤◌, ◌⊎◌, List, [], ◌∷◌, ◌++◌, Option, Some, None, length, min, get_or, unwrap_or, refl, sym, ◌∙◌, ap, subst, inl, inr, ⊎_elim, arith}
+use Rattle.std.proofs.Common.{◌≡◌, ◌≢◌, ℕ, zero, suc, ◌+◌, ◌≤◌, ◌⊎◌, List, [], ◌∷◌, ◌++◌, Option, Some, None, length, min, get_or, unwrap_or, refl, sym, ◌∙◌, ap, subst, inl, inr, ⊎_elim, arith}
 use Rattle.std.specs.List.{Contains}
-use Rattle.std.proofs.lemmas.Bool.{cases_eq}
 use Rattle.std.proofs.lemmas.List.Sums.{sum_by_push}
 use Rattle.std.proofs.lemmas.Option.{same_Some, slice_get-get_or, slice_get_within, get_or_from_slice_get}
 use Rattle.grid_base.specs.declared.piece.Piece.{Piece}
@@ -9,12 +8,11 @@ use Rattle.grid_base.specs.declared.size.Size.{Size}
 use Rattle.grid_base.specs.declared.vertex.Vertex.{Vertex}
 use Rattle.grid_base.specs.Lists.{At}
 use Rattle.grid_base.specs.Numbers.{IsVertex}
-use Rattle.grid_base.specs.Walks.{Joins, InVertices, WalkBetween}
+use Rattle.grid_base.specs.Walks.{Joins, InVertices}
 use Rattle.grid_base.proofs.Walks.{WalkBetween-refl}
 use Rattle.grid_graph.specs.Weighed.{IsAllowed, NoPieceTwice}
 use Rattle.shortest_paths.specs.Nearest.{IsGoal, IsNearestDistance}
-use Rattle.shortest_paths.specs.Sets.{IsEither, IsLeastWeight}
-use Rattle.shortest_paths.proofs.Sets.{no_pieces, joins_ends}
+use Rattle.label_search.proofs.Sets.{no_pieces, joins_ends}
 use Rattle.lower_bound.specs.NetBounds.{IsLeastToOther}
 use Rattle.lower_bound.specs.HalfWords.{all_ones, HasTwin, IsHalf, IsSumOfHalves}
 

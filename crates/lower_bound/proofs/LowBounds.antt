@@ -9,10 +9,10 @@ use Rattle.grid_base.specs.Lists.{At}
 use Rattle.grid_base.specs.Walks.{Joins, InVertices, WalkBetween}
 use Rattle.grid_base.proofs.Walks.{WalkBetween-sym}
 use Rattle.grid_graph.specs.Weighed.{IsAllowed, WeighsOnlyPieces}
-use Rattle.shortest_paths.specs.Sets.{IsSetOf, weight}
+use Rattle.label_search.specs.Sets.{IsSetOf, weight}
 use Rattle.lower_bound.specs.Moats.{AreMoats}
 use Rattle.lower_bound.specs.NetBounds.{AreHalves, IsNetBound}
-use Rattle.shortest_paths.specs.Masks.{few_terminals}
+use Rattle.steiner_tables.specs.Masks.{few_terminals}
 use Rattle.lower_bound.specs.Spread.{IsSpread}
 use Rattle.lower_bound.proofs.Crossing.{moats_within}
 

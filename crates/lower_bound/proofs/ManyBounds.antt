@@ -8,8 +8,8 @@ use Rattle.grid_base.specs.declared.vertex.Vertex.{Vertex}
 use Rattle.grid_base.specs.Numbers.{IsVertex}
 use Rattle.grid_base.specs.Walks.{Joins, InVertices}
 use Rattle.grid_graph.specs.Weighed.{IsAllowed, NoPieceTwice, WeighsOnlyPieces, AreWithinLimit}
-use Rattle.shortest_paths.specs.Sets.{IsLeastWeight}
-use Rattle.shortest_paths.proofs.Forests.{light_part}
+use Rattle.label_search.specs.Sets.{IsLeastWeight}
+use Rattle.label_search.proofs.Forests.{light_part}
 use Rattle.lower_bound.specs.HalfWords.{IsSumOfHalves}
 use Rattle.lower_bound.specs.NetBounds.{AreHalves, IsBoundOfMany}
 use Rattle.lower_bound.specs.Spread.{IsSpread}

@@ -10,8 +10,8 @@ use Rattle.grid_base.specs.Lists.{At}
 use Rattle.grid_base.specs.Walks.{Joins, InVertices}
 use Rattle.grid_base.proofs.Lists.{head_or_rest}
 use Rattle.grid_graph.specs.Weighed.{IsAllowed}
-use Rattle.shortest_paths.specs.Sets.{IsLeastWeight, IsEither}
-use Rattle.shortest_paths.proofs.Sets.{joins_ends}
+use Rattle.label_search.specs.Sets.{IsLeastWeight, IsEither}
+use Rattle.label_search.proofs.Sets.{joins_ends}
 use Rattle.lower_bound.specs.Moats.{IsWithinDistance}
 use Rattle.lower_bound.specs.NetBounds.{IsLeastToOther}
 

@@ -12,9 +12,9 @@ use Rattle.grid_base.proofs.Pieces.{end_of-vertex}
 use Rattle.grid_base.proofs.Walks.{WalkBetween-refl, WalkBetween-trans, WalkBetween-piece, WalkBetween-superset}
 use Rattle.grid_base.proofs.Lists.{head_or_rest}
 use Rattle.grid_graph.specs.Weighed.{IsAllowed, WeighsOnlyPieces}
-use Rattle.shortest_paths.specs.Searches.{HasSet}
-use Rattle.shortest_paths.proofs.Sets.{extended, no_pieces}
-use Rattle.shortest_paths.proofs.Trees.{united}
+use Rattle.label_search.specs.Searches.{HasSet}
+use Rattle.label_search.proofs.Sets.{extended, no_pieces}
+use Rattle.steiner_tables.proofs.Trees.{united}
 
 -- the least of three
 abbrev least : ℕ → ℕ → ℕ → ℕ

@@ -4,7 +4,7 @@ use Rattle.std.proofs.lemmas.Bool.{cases_eq}
 use Rattle.std.proofs.lemmas.Grind.{get_or-set_at}
 use Rattle.grid_base.specs.declared.piece.Piece.{Piece}
 use Rattle.grid_base.specs.declared.size.Size.{Size}
-use Rattle.grid_base.specs.Numbers.{vertices, IsVertex}
+use Rattle.grid_base.specs.Numbers.{vertices}
 use Rattle.grid_base.specs.Walks.{WalkBetween}
 use Rattle.grid_base.proofs.Walks.{WalkBetween-refl, WalkBetween-sym, WalkBetween-trans}
 use Rattle.lower_bound.specs.Representatives.{IsFree, AreNoGreater, AreRepresentatives}

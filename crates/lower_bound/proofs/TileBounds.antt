@@ -1,5 +1,5 @@
 -- Bounds by tiles: where vias cost nothing the least costs of a net are those of its tiles, at the least costs between tiles.
-use Rattle.std.proofs.Common.{◌≡◌, ℕ, ◌+◌, List, [], ◌∷◌, All, map, max, refl, sym, ◌∙◌, ap, subst, arith}
+use Rattle.std.proofs.Common.{◌≡◌, ℕ, ◌+◌, List, [], ◌∷◌, All, map, refl, sym, ◌∙◌, ap, subst, arith}
 use Rattle.std.specs.List.{sum, filter}
 use Rattle.std.proofs.lemmas.Option.{slice_get_within, get_or_from_slice_get}
 use Rattle.grid_base.specs.declared.piece.Piece.{Piece}
@@ -17,18 +17,16 @@ use Rattle.grid_graph.specs.Flat.{tile_of, HaveSameTiles}
 use Rattle.grid_graph.specs.Grids.{size_of, Allows}
 use Rattle.grid_graph.specs.TilePieces.{tiles_of, HasFreeVias, AreLeastBetweenTiles}
 use Rattle.grid_graph.specs.Weighed.{WeighsOnlyPieces}
-use Rattle.grid_graph.proofs.TileLists.{tiles_at, tiles_long, terminal_at}
+use Rattle.grid_graph.proofs.TileLists.{tiles_at, terminal_at}
 use Rattle.edge_prices.specs.PieceLists.{has_piece, all_pieces, pieces_with}
 use Rattle.edge_prices.specs.Weights.{cost}
 use Rattle.edge_prices.proofs.GroundPieces.{pieces_with-Weighs}
-use Rattle.shortest_paths.specs.Sets.{IsLeastWeight, IsEither}
+use Rattle.label_search.specs.Sets.{IsLeastWeight, IsEither}
 use Rattle.shortest_paths.proofs.TileSets.{within_by_tiles, least_by_tiles, tiles_of_two, tiles_of_vertices}
 use Rattle.lower_bound.specs.Costs.{costed}
 use Rattle.lower_bound.specs.HalfWords.{IsHalf, IsSumOfHalves}
 use Rattle.lower_bound.specs.Moats.{IsWithinDistance}
-use Rattle.lower_bound.specs.NetBounds.{IsLeastToOther, AreHalves, IsBoundOfMany}
-use Rattle.lower_bound.specs.Spread.{IsSpread}
-use Rattle.lower_bound.proofs.ManyBounds.{chosen_vertices}
+use Rattle.lower_bound.specs.NetBounds.{IsLeastToOther}
 
 -- ---- what a net's ground costs, where the wirelength has no price
 

@@ -10,7 +10,7 @@ use Rattle.grid_graph.specs.declared.ground.Ground.{Ground}
 use Rattle.grid_graph.specs.Grids.{size_of}
 use Rattle.edge_prices.specs.PieceLists.{pieces_with}
 use Rattle.edge_prices.specs.Weights.{cost}
-use Rattle.shortest_paths.specs.Sets.{IsLeastWeight}
+use Rattle.label_search.specs.Sets.{IsLeastWeight}
 
 -- the cost of a set for a net of this width: over its open edges the price and what the net uses, and for each piece the
 -- wirelength's price

@@ -4,7 +4,7 @@ use Rattle.grid_base.specs.declared.piece.Piece.{Piece}
 use Rattle.grid_base.specs.declared.size.Size.{Size}
 use Rattle.grid_base.specs.Lists.{At}
 use Rattle.grid_base.specs.Walks.{InVertices}
-use Rattle.shortest_paths.specs.Sets.{IsLeastWeight}
+use Rattle.label_search.specs.Sets.{IsLeastWeight}
 use Rattle.lower_bound.specs.declared.kept_costs.KeptCost.{KeptCost}
 
 -- each cost that is kept is the least of joining its tiles

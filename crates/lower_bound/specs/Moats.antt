@@ -7,7 +7,7 @@ use Rattle.grid_base.specs.declared.vertex.Vertex.{Vertex}
 use Rattle.grid_base.specs.Lists.{At}
 use Rattle.grid_base.specs.Walks.{WalkBetween}
 use Rattle.grid_graph.specs.Weighed.{IsAllowed}
-use Rattle.shortest_paths.specs.Sets.{IsSetOf, weight}
+use Rattle.label_search.specs.Sets.{IsSetOf, weight}
 
 -- a number is at most the distance of two vertices: no set of allowed pieces that joins them weighs less
 abbrev pub IsWithinDistance : Size → List (Piece × ℕ) → ℕ → ℕ → ℕ → Type 0

@@ -6,10 +6,10 @@ use Rattle.grid_base.specs.declared.size.Size.{Size}
 use Rattle.grid_base.specs.declared.vertex.Vertex.{Vertex}
 use Rattle.grid_base.specs.Lists.{At}
 use Rattle.grid_base.specs.Walks.{InVertices}
-use Rattle.shortest_paths.specs.Sets.{IsLeastWeight, IsEither}
+use Rattle.label_search.specs.Sets.{IsLeastWeight, IsEither}
 use Rattle.lower_bound.specs.Moats.{IsWithinDistance}
 use Rattle.lower_bound.specs.Spread.{IsSpread}
-use Rattle.shortest_paths.specs.Masks.{few_terminals}
+use Rattle.steiner_tables.specs.Masks.{few_terminals}
 
 -- the least cost of joining the terminal at a place to one other terminal
 pub record IsLeastToOther (s : Size) (pieces : List (Piece × ℕ)) (terminals : List Vertex) (place least : ℕ) : Type 0 where

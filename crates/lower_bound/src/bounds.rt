@@ -12,19 +12,19 @@ ghost use Rattle.grid_graph.specs.Weighed.{IsAllowed};
 ghost use Rattle.edge_prices.specs.Limits.{max_price};
 ghost use Rattle.edge_prices.specs.Weights.{AreEdgePrices};
 ghost use Rattle.shortest_paths.specs.LabelWords.{labels_size, masks_of};
-ghost use Rattle.shortest_paths.specs.Masks.{rooted_masks, few_terminals};
+ghost use Rattle.steiner_tables.specs.Masks.{rooted_masks, few_terminals};
 ghost use Rattle.lower_bound.specs.Costs.{costed, set_cost};
 ghost use Rattle.lower_bound.specs.NetBounds.{IsBoundOfMany, IsNetBound};
 
 use crate::extra::Extra;
 use crate::halves::sum_of_halves;
 use crate::least::least_weight;
-use crate::limits::FEW_TERMINALS;
 use crate::spread::choose;
 use edge_prices::Costing;
 use grid_base::Vertex;
 use grid_graph::{FlooredWeights, Grid, Ground, NetSpec};
 use shortest_paths::Labels;
+use steiner_tables::FEW_TERMINALS;
 
 /// The bound of more than five terminals: the greater of the least cost of five that are spread, and the sum of halves of
 /// what it costs to join each to another one.

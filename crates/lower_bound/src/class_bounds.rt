@@ -7,12 +7,12 @@ use crate::class_costs::ClassCosts;
 use crate::halves::sum_of_halves;
 use crate::kept_halves::sum_of_kept_halves;
 use crate::kept_least::kept_least;
-use crate::limits::FEW_TERMINALS;
 use crate::spread::choose;
 use grid_base::{NoMemory, Vertex};
 use grid_graph::NetSpec;
 use shortest_paths::Labels;
 use std::alloc::Global;
+use steiner_tables::FEW_TERMINALS;
 
 impl ClassCosts<'_> {
     ghost use Rattle.std.specs.Prelude.{◌≡◌, ◌<◌, ◌≤◌, All, IfOk, length};
@@ -23,8 +23,8 @@ impl ClassCosts<'_> {
     ghost use Rattle.grid_graph.specs.TilePieces as tile_pieces;
     ghost use Rattle.grid_graph.specs.Weighed.{IsAllowed};
     ghost use Rattle.shortest_paths.specs.LabelWords.{labels_size, masks_of};
-    ghost use Rattle.shortest_paths.specs.Masks.{rooted_masks, few_terminals};
-    ghost use Rattle.shortest_paths.specs.Sets.{IsLeastWeight};
+    ghost use Rattle.steiner_tables.specs.Masks.{rooted_masks, few_terminals};
+    ghost use Rattle.label_search.specs.Sets.{IsLeastWeight};
     ghost use Rattle.lower_bound.specs.ClassWords.{tiles_size, class_pieces, IsCurrentClass, KeepsClass};
     ghost use Rattle.lower_bound.specs.HalfWords.{IsSumOfHalves};
     ghost use Rattle.lower_bound.specs.NetBounds.{IsBoundOfMany, IsNetBound};

@@ -34,7 +34,7 @@ impl KeptCosts {
     ghost use Rattle.grid_base.specs.declared.piece.Piece.{Piece};
     ghost use Rattle.grid_base.specs.declared.size.Size.{Size};
     ghost use Rattle.grid_base.specs.Walks.{InVertices};
-    ghost use Rattle.shortest_paths.specs.Sets.{IsLeastWeight};
+    ghost use Rattle.label_search.specs.Sets.{IsLeastWeight};
     ghost use Rattle.lower_bound.specs.KeptCosts.{AreKeptCosts};
 
     /// Nothing is kept yet.

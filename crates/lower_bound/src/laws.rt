@@ -4,7 +4,7 @@ ghost use Rattle.std.specs.Prelude.{ℕ, ◌≤◌, List, sum, length};
 ghost use Rattle.grid_base.specs.declared.piece.Piece.{Piece};
 ghost use Rattle.grid_base.specs.Walks.{Joins, InVertices};
 ghost use Rattle.grid_graph.specs.Weighed.{IsAllowed, WeighsOnlyPieces};
-ghost use Rattle.shortest_paths.specs.Sets.{IsSetOf, weight};
+ghost use Rattle.label_search.specs.Sets.{IsSetOf, weight};
 ghost use Rattle.lower_bound.specs.Moats.{AreMoats};
 ghost use Rattle.lower_bound.specs.NetBounds.{IsNetBound};
 

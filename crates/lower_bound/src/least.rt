@@ -5,8 +5,8 @@ ghost use Rattle.grid_base.specs.Numbers.{IsVertex};
 ghost use Rattle.grid_base.specs.Walks.{Joins, InVertices};
 ghost use Rattle.grid_graph.specs.Weighed.{IsAllowed};
 ghost use Rattle.shortest_paths.specs.LabelWords.{labels_size, masks_of};
-ghost use Rattle.shortest_paths.specs.Masks.{rooted_masks, few_terminals};
-ghost use Rattle.shortest_paths.specs.Sets.{IsLeastWeight};
+ghost use Rattle.steiner_tables.specs.Masks.{rooted_masks, few_terminals};
+ghost use Rattle.label_search.specs.Sets.{IsLeastWeight};
 
 use grid_base::Vertex;
 use grid_graph::FlooredWeights;

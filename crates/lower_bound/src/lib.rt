@@ -35,7 +35,6 @@ mod kept_halves;
 mod kept_least;
 mod laws;
 mod least;
-mod limits;
 mod representatives;
 mod spread;
 mod tile_costs;

@@ -21,12 +21,12 @@ use Rattle.edge_prices.specs.PieceLists.{AreGroundPieces}
 use Rattle.edge_prices.specs.Vectors.{price_vector}
 use Rattle.edge_prices.specs.Weights.{piece_weight, is_open, edge_cost, wirelength_price}
 use Rattle.edge_prices.proofs.GroundPieces.{pieces_with-Weighs}
-use Rattle.shortest_paths.specs.Paths.{NoneWeighsNothing}
-use Rattle.shortest_paths.specs.Sets as sets
+use Rattle.label_search.specs.Paths.{NoneWeighsNothing}
+use Rattle.label_search.specs.Sets as sets
 use Rattle.tree_set.specs.Order.{IsRising}
 use Rattle.tree_set.specs.Routings.{KeepsTo}
 use Rattle.sharing_runs.specs.NetSteps.{IsStep, IsStepAt, IsLightest, weighed, set_weight}
-use Rattle.shortest_paths.specs.Masks.{few_terminals}
+use Rattle.steiner_tables.specs.Masks.{few_terminals}
 use Rattle.shortest_paths.specs.Spanning.{Link, IsSpanningTree}
 use Rattle.steiner_exact.specs.LeastSets.{IsLeastSet}
 use Rattle.steiner_span.specs.LightTrees.{IsLightTree}

@@ -14,10 +14,8 @@ use grid_graph::{Grid, Ground, NetSpec};
 use std::alloc::Global;
 use steiner_exact::{TreeLabels, least_tree};
 use steiner_span::spanning_tree;
+use steiner_tables::FEW_TERMINALS;
 use tree_set::Tree;
-
-/// Up to so many terminals a net gets a tree of least weight.
-const FEW_TERMINALS: usize = 5;
 
 /// The prices of a grid that nothing is routed on: one for each edge number, and behind these that of the wirelength. They
 /// count loads by `scale`; `budget` is the wirelength that is to be kept. Want of memory is the only error.

@@ -11,8 +11,8 @@ use Rattle.grid_base.specs.Walks.{Joins, InPieces}
 use Rattle.grid_base.proofs.Joined.{Joins-superset}
 use Rattle.grid_base.proofs.Lists.{head_or_rest, Contains-rest}
 use Rattle.grid_graph.specs.Weighed.{IsAllowed, WeighsOnlyPieces, AreWithinLimit}
-use Rattle.shortest_paths.specs.Sets.{IsLeastWeight, AreApart, weight}
-use Rattle.shortest_paths.proofs.Sets.{piece_cases, no_pieces, extended, weight-most}
+use Rattle.label_search.specs.Sets.{IsLeastWeight, AreApart, weight}
+use Rattle.label_search.proofs.Sets.{piece_cases, no_pieces, extended, weight-most}
 use Rattle.reference_programs.specs.LeastSets.{apart, IsChosen, JoinsBeside, IsLeastBeside}
 use Rattle.reference_programs.proofs.Marks.{in_pushed}
 

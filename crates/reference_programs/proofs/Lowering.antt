@@ -13,10 +13,10 @@ use Rattle.grid_base.proofs.Pieces.{connects_back, end_vertex}
 use Rattle.grid_base.proofs.Walks.{WalkBetween-refl, WalkBetween-superset, WalkBetween-trans, WalkBetween-piece}
 use Rattle.grid_graph.specs.Weighed.{Weighs, IsAllowed, WeighsOnlyPieces, AreWithinLimit}
 use Rattle.reference_programs.specs.LowerNumbers.{unreached, listed_number, distance_by, IsLowerNumber, IsSlack}
-use Rattle.shortest_paths.specs.Searches.{HasSet}
-use Rattle.shortest_paths.specs.Sets.{IsSetOf, IsDistance, RisesSlowly, weight}
-use Rattle.shortest_paths.proofs.Law.{rises_by_weight}
-use Rattle.shortest_paths.proofs.Sets.{extended, no_pieces, ends_joined, least_found, weight-most}
+use Rattle.label_search.specs.Searches.{HasSet}
+use Rattle.label_search.specs.Sets.{IsSetOf, IsDistance, RisesSlowly, weight}
+use Rattle.label_search.proofs.Law.{rises_by_weight}
+use Rattle.label_search.proofs.Sets.{extended, no_pieces, ends_joined, least_found, weight-most}
 
 -- the source has 0, and each vertex with a number is joined to the source by a set of that weight
 pub record AreReached (s : Size) (pieces : List (Piece × ℕ)) (source : ℕ) (num : ℕ → ℕ) : Type 0 where

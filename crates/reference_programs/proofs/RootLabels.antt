@@ -7,9 +7,9 @@ use Rattle.grid_base.specs.Lists.{At}
 use Rattle.grid_base.specs.Walks.{Joins, InVertices}
 use Rattle.grid_base.proofs.Joined.{Joins-superset}
 use Rattle.grid_graph.specs.Weighed.{IsAllowed}
-use Rattle.shortest_paths.specs.Masks.{all_but_root, WithVertex}
-use Rattle.shortest_paths.specs.Tables.{IsLabel}
-use Rattle.shortest_paths.proofs.Roots.{joins_terminals}
+use Rattle.steiner_tables.specs.Masks.{all_but_root, WithVertex}
+use Rattle.steiner_tables.specs.Tables.{IsLabel}
+use Rattle.steiner_tables.proofs.Roots.{joins_terminals}
 
 pub joined_by_label : (s : Size) (pieces : List (Piece × ℕ)) (terminals : List Vertex) (root : Vertex) (o : Option ℕ)
     → At terminals (length terminals - 1) root → IsLabel s pieces terminals (all_but_root terminals) root.0 o → IsSome o

@@ -5,7 +5,7 @@ use Rattle.grid_base.specs.declared.piece.Piece.{Piece}
 use Rattle.grid_base.specs.declared.size.Size.{Size}
 use Rattle.grid_base.specs.Walks.{Joins, InPieces}
 use Rattle.grid_graph.specs.Weighed.{IsAllowed}
-use Rattle.shortest_paths.specs.Sets.{IsSetOf, weight}
+use Rattle.label_search.specs.Sets.{IsSetOf, weight}
 
 -- above what all pieces of a grid weigh together: 3 * 2^23 of them, each of at most 2^38
 abbrev pub apart : ℕ

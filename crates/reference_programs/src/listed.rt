@@ -23,7 +23,7 @@ pub(crate) struct Listed {
 impl Listed {
     ghost use Rattle.std.specs.Prelude.{◌≡◌, IfSome, IsTrue};
     ghost use Rattle.grid_graph.specs.Weighed.{WeighsOnlyPieces, AreWithinLimit};
-    ghost use Rattle.shortest_paths.specs.Paths.{NoneWeighsNothing};
+    ghost use Rattle.label_search.specs.Paths.{NoneWeighsNothing};
 
     /// These pieces, if they are different pieces of that size and none is too heavy.
     pub(crate) fn of(size: Size, pieces: Vec<(Piece, u64)>) -> Option<Listed>

@@ -3,7 +3,7 @@
 ghost use Rattle.std.specs.Prelude.{◌≡◌, ◌≤◌, ℕ, None, IfSome, IsTrue};
 ghost use Rattle.grid_graph.specs.Limits.{max_weight};
 ghost use Rattle.grid_graph.specs.Weighed.{Weighs, IsAllowed, NoPieceTwice, WeighsOnlyPieces, AreWithinLimit};
-ghost use Rattle.shortest_paths.specs.Paths.{NoneWeighsNothing};
+ghost use Rattle.label_search.specs.Paths.{NoneWeighsNothing};
 
 use grid_base::{Piece, Size};
 use grid_graph::MAX_WEIGHT;

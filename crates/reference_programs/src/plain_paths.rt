@@ -6,7 +6,7 @@ ghost use Rattle.grid_base.specs.Numbers.{IsVertex, IsPiece, vertices};
 ghost use Rattle.grid_graph.specs.Limits.{max_weight};
 ghost use Rattle.grid_graph.specs.Weighed.{Weighs, WeighsOnlyPieces, AreWithinLimit};
 ghost use Rattle.reference_programs.specs.LowerNumbers.{unreached, listed_number, distance_by, IsLowerNumber, IsSlack};
-ghost use Rattle.shortest_paths.specs.Sets.{IsDistance, RisesSlowly};
+ghost use Rattle.label_search.specs.Sets.{IsDistance, RisesSlowly};
 
 use grid_base::{NoMemory, Piece, Size, Vertex};
 use std::alloc::{AllocError, Global};

@@ -4,7 +4,7 @@ ghost use Rattle.std.specs.Prelude.{All, IfOk, MatchOption};
 ghost use Rattle.grid_base.specs.Numbers.{IsVertex, IsPiece};
 ghost use Rattle.grid_base.specs.Walks.{InVertices};
 ghost use Rattle.grid_graph.specs.Weighed.{WeighsOnlyPieces, AreWithinLimit};
-ghost use Rattle.shortest_paths.specs.Sets.{IsLeastWeight, AreApart};
+ghost use Rattle.label_search.specs.Sets.{IsLeastWeight, AreApart};
 ghost use Rattle.reference_programs.specs.LeastSets.{IsLeastBeside};
 
 use crate::plain_joins::joins_by_merging;

@@ -4,7 +4,7 @@ ghost use Rattle.std.specs.Prelude.{◌≡◌, ◌≤◌, All, IfOk, IsSome, len
 ghost use Rattle.grid_base.specs.Numbers.{IsVertex};
 ghost use Rattle.grid_base.specs.Walks.{Joins, InVertices};
 ghost use Rattle.grid_graph.specs.Weighed.{IsAllowed};
-ghost use Rattle.shortest_paths.specs.Masks.{few_terminals};
+ghost use Rattle.steiner_tables.specs.Masks.{few_terminals};
 ghost use Rattle.steiner_exact.specs.TreeLabelWords.{AreTreeLabels};
 
 use crate::distance_tests::{drawn, mixed};

@@ -11,11 +11,11 @@ use Rattle.grid_graph.specs.Grids.{size_of}
 use Rattle.edge_prices.specs.Vectors.{price_vector}
 use Rattle.edge_prices.specs.Weights.{piece_weight}
 use Rattle.edge_prices.specs.PieceLists.{pieces_with}
-use Rattle.shortest_paths.specs.Sets.{IsLeastWeight}
+use Rattle.label_search.specs.Sets.{IsLeastWeight}
 use Rattle.tree_set.specs.Order.{IsRising}
 use Rattle.tree_set.specs.Routings.{IsRoute}
 use Rattle.shortest_paths.specs.Spanning.{Link, IsSpanningTree, links_weight}
-use Rattle.shortest_paths.specs.Masks.{few_terminals}
+use Rattle.steiner_tables.specs.Masks.{few_terminals}
 
 -- the pieces of a ground with their weights for a net of this width at these prices
 abbrev pub weighed : Grid → ℕ → Ground → List ℕ → List (Piece × ℕ)

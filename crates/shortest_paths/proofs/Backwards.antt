@@ -14,9 +14,9 @@ use Rattle.grid_graph.specs.Weighed.{IsAllowed}
 use Rattle.grid_base.specs.Neighbours.{steps}
 use Rattle.grid_base.proofs.Neighbours.{connects_step}
 use Rattle.grid_base.proofs.Pieces.{connects_back}
-use Rattle.shortest_paths.specs.Paths.{IsArc, IsPath, IsPieceBack}
-use Rattle.shortest_paths.specs.Searches.{HasSet, IsBehind}
-use Rattle.shortest_paths.proofs.Sets.{extended, no_pieces}
+use Rattle.label_search.specs.Paths.{IsArc, IsPath, IsPieceBack}
+use Rattle.label_search.specs.Searches.{HasSet, IsBehind}
+use Rattle.label_search.proofs.Sets.{extended, no_pieces}
 
 -- a step that was read from a table of the steps
 pub read_step : (s : Size) (from k : ℕ) (table : List (Option (Vertex × Piece))) (x : Option (Vertex × Piece))

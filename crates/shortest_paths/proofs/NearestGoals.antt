@@ -1,22 +1,22 @@
 -- Goals of a search, and what the first of them that is taken out says of all.
-use Rattle.std.proofs.Common.{◌≡◌, ◌≢◌, ℕ, ◌+◌, ◌<◌, ◌≤◌, List, ◌∙◌, subst, ⊎_elim, arith}
+use Rattle.std.proofs.Common.{◌≡◌, ℕ, ◌+◌, ◌<◌, ◌≤◌, List, ⊎_elim, arith}
 use Rattle.std.proofs.lemmas.Bool.{cases_lt}
 use Rattle.grid_base.specs.declared.piece.Piece.{Piece}
 use Rattle.grid_base.specs.declared.size.Size.{Size}
 use Rattle.grid_base.specs.declared.vertex.Vertex.{Vertex}
 use Rattle.grid_base.proofs.Walks.{walk_vertices}
 use Rattle.grid_graph.specs.Weighed.{IsAllowed, AreWithinLimit}
-use Rattle.shortest_paths.specs.declared.row.Row.{Row}
-use Rattle.shortest_paths.specs.Founds.{index_in, FindsMore, AreFoundFirst}
+use Rattle.label_search.specs.declared.row.Row.{Row}
+use Rattle.label_search.specs.Founds.{index_in, FindsMore, AreFoundFirst}
 use Rattle.shortest_paths.specs.Nearest.{IsGoal, NoneIsNearer, IsLeastToGoal, IsFoundGoal, DoGoalsWait}
-use Rattle.shortest_paths.specs.Rows.{number_in, Waits, IsWaiting, IsLeastWaiting}
-use Rattle.shortest_paths.specs.Runs.{IsSearch, IsSettled, TakesOffer}
-use Rattle.shortest_paths.specs.Searches.{IsReached}
-use Rattle.shortest_paths.specs.Sets.{IsEither, AreApart}
-use Rattle.shortest_paths.specs.Stamped.{far}
-use Rattle.shortest_paths.proofs.Distances.{least_past}
-use Rattle.shortest_paths.proofs.Forests.{light_part}
-use Rattle.shortest_paths.proofs.Sets.{least_found, ends_joined}
+use Rattle.label_search.specs.Rows.{number_in, Waits, IsWaiting, IsLeastWaiting}
+use Rattle.label_search.specs.Runs.{IsSearch, IsSettled}
+use Rattle.label_search.specs.Searches.{IsReached}
+use Rattle.label_search.specs.Sets.{IsEither, AreApart}
+use Rattle.label_search.specs.Stamped.{far}
+use Rattle.label_search.proofs.LeastNumbers.{least_past}
+use Rattle.label_search.proofs.Forests.{light_part}
+use Rattle.label_search.proofs.Sets.{least_found, ends_joined}
 
 -- what was found first was found before
 pub goal_before : (old new : Row) (count source v : ℕ) → FindsMore old.found new.found → count ≤ old.found.len
@@ -94,19 +94,3 @@ none_joined s pieces goals source small nearest v goal set is joins =
     let walk = ends_joined s (IsAllowed set) source v joins in
     let light = light_part s pieces set source small is (walk_vertices s (IsAllowed set) source v walk).0 in
     omega (arith, light.light, nearest v goal light.part light.is_set (light.joins source v walk))
-
--- the source alone took an offer of 0, where nothing had a number
-pub record IsBegun (source : ℕ) (r : Row) : Type 0 where
-  pub zero : number_in r source ≡ 0
-  pub waits : Waits r source
-  pub others : (v : ℕ) → v ≢ source → number_in r v ≡ far
-
-pub offered_begun : (old new : Row) (source to : ℕ) → TakesOffer old new to 0 → ((v : ℕ) → number_in old v ≡ far) → to ≡ source
-    → number_in new to ≤ 0 → IsBegun source new
-offered_begun old new source to taken none here low =
-    let zero : number_in new source ≡ 0 = subst (λ u. number_in new u ≡ 0) here (omega (arith, low)) in
-    record {
-      zero = zero;
-      waits = ⊎_elim (λ same. absurd (omega (arith, same, zero, none source))) (λ is. is.2) (taken.changed source);
-      others = λ v other. ⊎_elim (λ same. same ∙ none v) (λ is. absurd (other (is.0 ∙ here))) (taken.changed v);
-    }

@@ -23,8 +23,8 @@ use Rattle.grid_graph.specs.TilePieces.{tiles_of, tile_edge, HasFreeVias, AreLea
 use Rattle.grid_graph.specs.Weighed.{IsAllowed, WeighsOnlyPieces, AreWithinLimit}
 use Rattle.grid_graph.proofs.TileSteps.{edge_goes}
 use Rattle.grid_graph.proofs.TileWalks.{walk_below, walk_above}
-use Rattle.shortest_paths.specs.Sets.{IsSetOf, IsLeastWeight, IsEither, weight}
-use Rattle.shortest_paths.proofs.Sets.{extended, no_pieces}
+use Rattle.label_search.specs.Sets.{IsSetOf, IsLeastWeight, IsEither, weight}
+use Rattle.label_search.proofs.Sets.{extended, no_pieces}
 
 -- ---- the pieces between tiles
 

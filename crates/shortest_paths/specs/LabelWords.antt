@@ -3,13 +3,13 @@ use Rattle.std.specs.Prelude.{ℕ, ◌≡◌, ◌≤◌, ◌⊎◌, List, Option
 use Rattle.grid_base.specs.declared.piece.Piece.{Piece}
 use Rattle.grid_base.specs.declared.size.Size.{Size}
 use Rattle.shortest_paths.specs.declared.labels.Labels.{Labels}
-use Rattle.shortest_paths.specs.Founds.{index_in}
-use Rattle.shortest_paths.specs.Kept.{masks_in, kept_in}
-use Rattle.shortest_paths.specs.Rows.{size_in, number_in}
-use Rattle.shortest_paths.specs.Searches.{IsBehind}
-use Rattle.shortest_paths.specs.Sets.{IsDistance}
-use Rattle.shortest_paths.specs.Stamped.{most, far}
-use Rattle.shortest_paths.specs.Tables.{answer_at}
+use Rattle.label_search.specs.Founds.{index_in}
+use Rattle.steiner_tables.specs.Kept.{masks_in, kept_in}
+use Rattle.label_search.specs.Rows.{size_in, number_in}
+use Rattle.label_search.specs.Searches.{IsBehind}
+use Rattle.label_search.specs.Sets.{IsDistance}
+use Rattle.label_search.specs.Stamped.{most, far}
+use Rattle.steiner_tables.specs.Tables.{answer_at}
 
 -- the size of the grid that they are of
 abbrev pub labels_size : Labels → Size

@@ -2,9 +2,9 @@
 use Rattle.std.specs.Prelude.{ℕ, ◌≡◌, ◌≢◌, ◌<◌, ◌≤◌, ◌⊎◌, List}
 use Rattle.grid_base.specs.declared.vertex.Vertex.{Vertex}
 use Rattle.shortest_paths.specs.declared.labels.Labels.{Labels}
-use Rattle.shortest_paths.specs.Founds.{index_in, AreFoundFirst}
+use Rattle.label_search.specs.Founds.{index_in, AreFoundFirst}
 use Rattle.shortest_paths.specs.LabelWords.{labels_size, masks_of, labels_number}
-use Rattle.shortest_paths.specs.Rows.{IsWaiting, work_left}
+use Rattle.label_search.specs.Rows.{IsWaiting, work_left}
 
 -- the vertex waits under this key
 abbrev pub HasKey : Labels → ℕ → ℕ → Type 0

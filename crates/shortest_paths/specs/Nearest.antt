@@ -5,11 +5,11 @@ use Rattle.grid_base.specs.declared.size.Size.{Size}
 use Rattle.grid_base.specs.declared.vertex.Vertex.{Vertex}
 use Rattle.grid_base.specs.Walks.{InVertices, WalkBetween}
 use Rattle.grid_graph.specs.Weighed.{IsAllowed}
-use Rattle.shortest_paths.specs.declared.row.Row.{Row}
-use Rattle.shortest_paths.specs.Founds.{index_in}
-use Rattle.shortest_paths.specs.Rows.{number_in, Waits}
-use Rattle.shortest_paths.specs.Sets.{IsSetOf, IsLeastWeight, IsEither, AreApart, weight}
-use Rattle.shortest_paths.specs.Stamped.{far}
+use Rattle.label_search.specs.declared.row.Row.{Row}
+use Rattle.label_search.specs.Founds.{index_in}
+use Rattle.label_search.specs.Rows.{number_in, Waits}
+use Rattle.label_search.specs.Sets.{IsSetOf, IsLeastWeight, IsEither, AreApart, weight}
+use Rattle.label_search.specs.Stamped.{far}
 
 -- one of the listed vertices, and not the source
 abbrev pub IsGoal : List Vertex → ℕ → ℕ → Type 0

@@ -4,7 +4,7 @@ use Rattle.grid_base.specs.declared.piece.Piece.{Piece}
 use Rattle.grid_base.specs.declared.size.Size.{Size}
 use Rattle.grid_base.specs.declared.vertex.Vertex.{Vertex}
 use Rattle.grid_base.specs.Walks.{InVertices}
-use Rattle.shortest_paths.specs.Paths.{IsPath}
+use Rattle.label_search.specs.Paths.{IsPath}
 
 -- a path of at most this weight leads to v from one of the sources
 pub record IsFromAny (s : Size) (pieces : List (Piece × ℕ)) (sources : List Vertex) (v number : ℕ) : Type 0 where

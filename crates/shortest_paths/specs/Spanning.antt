@@ -5,7 +5,7 @@ use Rattle.grid_base.specs.declared.piece.Piece.{Piece}
 use Rattle.grid_base.specs.declared.size.Size.{Size}
 use Rattle.grid_base.specs.declared.vertex.Vertex.{Vertex}
 use Rattle.grid_base.specs.Walks.{InVertices}
-use Rattle.shortest_paths.specs.Sets.{IsEither, IsLeastWeight}
+use Rattle.label_search.specs.Sets.{IsEither, IsLeastWeight}
 
 -- a pair of terminals with their distance
 pub record Link : Type 0 where

@@ -2,18 +2,11 @@
 
 ghost use Rattle.shortest_paths.specs.LabelParts.{ArePartsOfLabels};
 
-use crate::bound::Bound;
-use crate::family::Family;
-use crate::kept_rows::KeptRows;
-use crate::no_bound::NoBound;
-use crate::no_family::NoFamily;
-use crate::rest_of::RestOf;
-use crate::row::{FAR, MOST, Row};
-use crate::search::{exhaust, offer, settle, settle_each, start_each};
-use crate::seeds::seed;
-use grid_base::{NoMemory, Piece, Size, Spot, Vertex, steps};
+use grid_base::{NoMemory, Piece, Size, Vertex, steps};
 use grid_graph::Weights;
+use label_search::{Bound, FAR, MOST, NoBound, Row, exhaust, settle, settle_each, start_each};
 use std::alloc::Global;
+use steiner_tables::{Family, KeptRows, NoFamily, fill};
 
 /// Above each number with what is still to go: no offer is refused for this limit.
 pub(crate) const NO_LIMIT: u64 = 1 << 62;
@@ -35,14 +28,15 @@ impl Labels {
     ghost use Rattle.grid_base.specs.declared.piece.Piece.{Piece};
     ghost use Rattle.grid_base.specs.Numbers.{IsVertex, Connects};
     ghost use Rattle.shortest_paths.specs.LabelWords.{labels_size, masks_of, source_of, labels_number, distance_of, label_of, HasDistance, LeadsBack};
-    ghost use Rattle.shortest_paths.specs.Masks.{proper_masks, few_terminals, all_of, all_but_root};
-    ghost use Rattle.shortest_paths.specs.Paths.{IsPath, IsStepBack, IsPieceBack, NoneWeighsNothing};
-    ghost use Rattle.shortest_paths.specs.Rows.{number_in, IsWaiting};
-    ghost use Rattle.shortest_paths.specs.Runs.{IsSearch};
-    ghost use Rattle.shortest_paths.specs.Searches.{IsLow};
+    ghost use Rattle.steiner_tables.specs.Masks.{proper_masks, few_terminals, all_of, all_but_root};
+    ghost use Rattle.label_search.specs.Paths.{IsPath, IsStepBack, IsPieceBack, NoneWeighsNothing};
+    ghost use Rattle.label_search.specs.Rows.{number_in, IsWaiting};
+    ghost use Rattle.label_search.specs.Runs.{IsSearch};
+    ghost use Rattle.label_search.specs.Searches.{IsLow};
+    ghost use Rattle.label_search.specs.Starts.{IsStarted};
     ghost use Rattle.shortest_paths.specs.Sources.{IsFromAny};
-    ghost use Rattle.shortest_paths.specs.Stamped.{most, far};
-    ghost use Rattle.shortest_paths.specs.Tables.{IsPrunedTable, IsLabel, IsReachedExactly, answer_at};
+    ghost use Rattle.label_search.specs.Stamped.{most, far};
+    ghost use Rattle.steiner_tables.specs.Tables.{IsPrunedTable, IsLabel, IsReachedExactly, answer_at};
 
     /// Labels of a grid of this size. Searches take no further memory. `masks` says for how many sets of terminals
     /// there shall be room.
@@ -89,7 +83,8 @@ impl Labels {
         ensures back { LeadsBack (W.size weights.now) (W.pieces weights.now) self.new }
     {
         let bound = NoBound { weights };
-        self.start(&bound, source);
+        self.start(&bound, &[source]);
+        self.source = source;
         if stop.is_empty() {
             exhaust(&mut self.row, weights, &bound, NO_LIMIT);
         } else {
@@ -116,7 +111,8 @@ impl Labels {
         ensures goal { HasDistance (W.size weights.now) (W.pieces weights.now) self.new goal.0 }
         ensures back { LeadsBack (W.size weights.now) (W.pieces weights.now) self.new }
     {
-        self.start(bound, source);
+        self.start(bound, &[source]);
+        self.source = source;
         settle(&mut self.row, weights, bound, NO_LIMIT, goal);
     }
 
@@ -139,9 +135,7 @@ impl Labels {
         ensures low { All (λ source. IsLow (W.size weights.now) (W.pieces weights.now) source.0 (labels_number self.new) goal.0) sources.now }
         ensures from { (v : ℕ) → labels_number self.new v < far → IsFromAny (W.size weights.now) (W.pieces weights.now) sources.now v (labels_number self.new v) }
     {
-        self.rows.forget();
-        self.row.forget();
-        start_each(&mut self.row, bound, NO_LIMIT, sources);
+        self.start(bound, sources);
         settle(&mut self.row, weights, bound, NO_LIMIT, goal);
     }
 
@@ -243,42 +237,16 @@ impl Labels {
         self.rows.forget();
         self.row.forget();
         for mask in 1..last + 1 {
-            self.fill(weights, family, terminals, mask, limit);
+            fill(
+                &mut self.row,
+                &mut self.rows,
+                weights,
+                family,
+                terminals,
+                mask,
+                limit,
+            );
         }
-    }
-
-    /// Finds the labels of one mask, where those of all smaller ones are found.
-    fn fill<W: Weights, F: Family>(
-        &mut self,
-        weights: &W,
-        family: &F,
-        terminals: &[Vertex],
-        mask: u32,
-        limit: u64,
-    )
-        requires size { labels_size self.old ≡ W.size weights.now }
-        requires family_size { F.size family.now ≡ W.size weights.now }
-        requires family_terminals { F.terminals family.now ≡ terminals.now }
-        requires terminals { All (λ v. IsVertex (W.size weights.now) v.0) terminals.now }
-        requires few { length terminals.now ≤ few_terminals }
-        requires some { 0 < mask }
-        requires room { mask ≤ masks_of self.old }
-        requires last { mask < all_of terminals.now }
-        requires limit { limit ≤ most }
-        requires table { IsPrunedTable (W.size weights.now) (W.pieces weights.now) terminals.now (mask - 1) (F.low family.now) limit far (label_of self.old) }
-        ensures size { labels_size self.new ≡ labels_size self.old }
-        ensures masks { masks_of self.new ≡ masks_of self.old }
-        ensures table { IsPrunedTable (W.size weights.now) (W.pieces weights.now) terminals.now mask (F.low family.now) limit far (label_of self.new) }
-    {
-        let all = (1 << terminals.len() as u32) - 1;
-        let rest = RestOf {
-            family,
-            mask: all - mask,
-        };
-        self.row.clear();
-        seed(&mut self.row, &self.rows, &rest, terminals, mask, limit);
-        exhaust(&mut self.row, weights, &rest, limit);
-        self.rows.store(mask, self.row.numbers());
     }
 
     /// Finds the labels of all sets of the terminals without the last one, which is the root, at all vertices.
@@ -299,22 +267,18 @@ impl Labels {
         self.pruned(weights, &family, terminals, last, MOST);
     }
 
-    /// Begins a search: the source has the number 0 and waits, and no other vertex has a number.
-    fn start<B: Bound>(&mut self, bound: &B, source: Vertex)
+    /// Begins a search: each source has the number 0 and waits, and no other vertex has a number.
+    fn start<B: Bound>(&mut self, bound: &B, sources: &[Vertex])
         requires size { B.size bound.now ≡ labels_size self.old }
-        requires source { IsVertex (labels_size self.old) source.0 }
+        requires sources { All (λ v. IsVertex (labels_size self.old) v.0) sources.now }
         ensures size { labels_size self.new ≡ labels_size self.old }
         ensures masks { masks_of self.new ≡ masks_of self.old }
-        ensures source { source_of self.new ≡ source.0 }
         ensures search { IsSearch (B.rest bound.now) NO_LIMIT self.new.row }
-        ensures begins { labels_number self.new source.0 ≡ 0 }
-        ensures others { (v : ℕ) → v ≢ source.0 → labels_number self.new v ≡ far }
-        ensures waits { (key : ℕ) × IsWaiting self.new.row source.0 key }
+        ensures started { IsStarted sources.now self.new.row }
+        ensures zero { All (λ v. labels_number self.new v.0 ≡ 0) sources.now }
     {
-        self.source = source;
         self.rows.forget();
         self.row.forget();
-        let from = Spot::of(self.row.size(), source);
-        offer(&mut self.row, bound, NO_LIMIT, from, 0);
+        start_each(&mut self.row, bound, NO_LIMIT, sources);
     }
 }

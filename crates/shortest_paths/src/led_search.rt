@@ -2,12 +2,12 @@
 
 ghost use Rattle.std.specs.Prelude.{◌≡◌, ◌≤◌, ℕ, All};
 ghost use Rattle.grid_base.specs.Numbers.{IsVertex};
-ghost use Rattle.shortest_paths.specs.Founds.{AreFoundFirst};
-ghost use Rattle.shortest_paths.specs.Rows.{size_in, number_in, IsWaiting};
+ghost use Rattle.label_search.specs.Founds.{AreFoundFirst};
+ghost use Rattle.label_search.specs.Rows.{size_in, number_in, IsWaiting};
 
 use crate::labels::Labels;
-use crate::row::Row;
 use grid_base::{Spot, Vertex};
+use label_search::Row;
 use std::alloc::Global;
 
 impl Labels {
@@ -16,7 +16,7 @@ impl Labels {
     ghost use Rattle.grid_base.specs.Spots.{IsSpot};
     ghost use Rattle.shortest_paths.specs.LabelWords.{labels_size, masks_of, labels_number};
     ghost use Rattle.shortest_paths.specs.LedSearches.{HasKey, AreFirst, IsFirst, Lowers, IsTakenOut, found_of};
-    ghost use Rattle.shortest_paths.specs.Stamped.{far};
+    ghost use Rattle.label_search.specs.Stamped.{far};
 
     /// Begins a search that the caller leads, in which no vertex has a number. These vertices are found first; how many
     /// they are is the answer, by which `is_first` knows them.

@@ -39,43 +39,24 @@
 //! while let Some(at) = labels.next() { .. }
 //! ```
 //!
-//! It stands on `grid_base` for vertices and pieces and on `grid_graph` for `Weights`. A search takes no memory and
-//! clears nothing: its lists are reserved with the labels, and what was found counts only under the stamp of its search.
+//! It stands on `label_search` for the search, on `steiner_tables` for rows of numbers, on `grid_graph` for `Weights`, and on
+//! `grid_base` for vertices and pieces; what a caller needs of the two searches is named here once more. A search takes
+//! no memory and clears nothing: its lists are reserved with the labels.
 //!
 //! Promised: the distance of two vertices is the least weight over all sets of allowed pieces that join them, and `None`
 //! exactly where no set does; a path is a walk of allowed pieces whose weights sum to the distance. A label is the least
 //! weight over all sets that join a vertex and some terminals, and `None` exactly where each such set is too heavy or there
-//! is none. Of any table over sets of terminals, whoever made it, it is a law that where the table holds none of its numbers
-//! is above a joining set's weight; and of least weights, that where vias weigh nothing they are those between tiles.
+//! is none. Of least weights it is a law that where vias weigh nothing they are those between tiles.
 #![tactic(auto)]
 
-mod bound;
-mod family;
-mod floor_bound;
-mod found;
-mod grid_distances;
-mod heap;
-mod kept_row;
-mod kept_rows;
 mod labels;
 mod laws;
 mod led_search;
 mod nearest;
-mod no_bound;
-mod no_family;
-mod rest_of;
-mod row;
-mod search;
-mod seeds;
-mod sift;
 
-pub use bound::Bound;
-pub use family::Family;
-pub use floor_bound::FloorBound;
-pub use grid_distances::apart;
+pub use label_search::{Bound, FloorBound, NoBound, apart};
 pub use labels::Labels;
-pub use laws::{
-    holding_tables_bound_sets, least_weights_are_those_of_tiles, pruned_tables_hold_completed,
+pub use laws::least_weights_are_those_of_tiles;
+pub use steiner_tables::{
+    Family, NoFamily, holding_tables_bound_sets, pruned_tables_hold_completed,
 };
-pub use no_bound::NoBound;
-pub use no_family::NoFamily;

@@ -3,16 +3,14 @@
 ghost use Rattle.std.specs.Prelude.{◌≡◌, ◌<◌, ◌≤◌, ◌↔◌, ℕ, None, IfSome, IsTrue};
 ghost use Rattle.grid_base.specs.Numbers.{IsVertex};
 ghost use Rattle.shortest_paths.specs.Nearest.{NoneIsNearer, IsFoundGoal, DoGoalsWait};
-ghost use Rattle.shortest_paths.specs.Rows.{size_in, number_in};
-ghost use Rattle.shortest_paths.specs.Runs.{IsSearch, IsSettled, FallsFrom};
-ghost use Rattle.shortest_paths.specs.Stamped.{far};
+ghost use Rattle.label_search.specs.Rows.{size_in, number_in};
+ghost use Rattle.label_search.specs.Runs.{IsSearch, IsSettled, FallsFrom};
+ghost use Rattle.label_search.specs.Stamped.{far};
 
 use crate::labels::{Labels, NO_LIMIT};
-use crate::no_bound::NoBound;
-use crate::row::Row;
-use crate::search::{offer, spread};
-use grid_base::{Spot, Vertex};
+use grid_base::Vertex;
 use grid_graph::Weights;
+use label_search::{NoBound, Row, relax, start_each};
 
 impl Labels {
     ghost use Rattle.std.specs.Prelude.{◌≡◌, All};
@@ -37,8 +35,7 @@ impl Labels {
     {
         let count = self.begin(goals);
         let bound = NoBound { weights };
-        let from = Spot::of(self.row.size(), source);
-        offer(&mut self.row, &bound, NO_LIMIT, from, 0);
+        start_each(&mut self.row, &bound, NO_LIMIT, &[source]);
         let goal = next_goal(&mut self.row, weights, count, source)?;
         Some(self.row.number(goal))
     }
@@ -66,7 +63,7 @@ fn next_goal<W: Weights>(row: &mut Row, weights: &W, count: u32, source: Vertex)
         if is_goal(row, count, source, at.vertex) {
             return Some(at.vertex);
         }
-        spread(row, weights, &bound, NO_LIMIT, at);
+        relax(row, weights, &bound, NO_LIMIT, at);
     }
     None
 }

@@ -10,13 +10,13 @@ use Rattle.grid_base.specs.Lists.{At}
 use Rattle.grid_base.specs.Walks.{Joins, JoinsList, InPieces, InVertices}
 use Rattle.grid_base.proofs.Joined.{Joins-superset}
 use Rattle.grid_graph.specs.Weighed.{IsAllowed, NoPieceTwice, AreWithinLimit}
-use Rattle.shortest_paths.specs.Stamped.{most, far}
-use Rattle.shortest_paths.specs.Masks.{all_but_root}
-use Rattle.shortest_paths.specs.Sets.{IsLeastWeight}
-use Rattle.shortest_paths.specs.Tables.{IsFamily, IsPrunedTable, IsPrunedLabel, answer_at}
+use Rattle.label_search.specs.Stamped.{most, far}
+use Rattle.steiner_tables.specs.Masks.{all_but_root}
+use Rattle.label_search.specs.Sets.{IsLeastWeight}
+use Rattle.steiner_tables.specs.Tables.{IsFamily, IsPrunedTable, IsPrunedLabel, answer_at}
 use Rattle.tree_set.specs.Order.{IsRising}
-use Rattle.shortest_paths.proofs.Pruned.{pruned_label}
-use Rattle.shortest_paths.proofs.Roots.{root_mask, root_found, root_apart, joins_terminals}
+use Rattle.steiner_tables.proofs.Pruned.{pruned_label}
+use Rattle.steiner_tables.proofs.Roots.{root_mask, root_found, root_apart, joins_terminals}
 use Rattle.steiner_exact.specs.Boxes.{none}
 use Rattle.steiner_exact.specs.LeastSets.{IsLeastSet, IsLeastTree}
 use Rattle.steiner_exact.specs.Reading.{AreReached, IsTreeWithin}

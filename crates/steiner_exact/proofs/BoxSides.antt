@@ -5,8 +5,8 @@ use Rattle.std.proofs.lemmas.Bool.Decides.{nat_tests}
 use Rattle.std.proofs.Math.Nat.{div_self}
 use Rattle.std.proofs.lemmas.Nat.{pow_pos}
 use Rattle.grid_base.specs.declared.vertex.Vertex.{Vertex}
-use Rattle.shortest_paths.specs.Masks.{bit, single}
-use Rattle.shortest_paths.proofs.Masks.{bit-small, bit-single}
+use Rattle.steiner_tables.specs.Masks.{bit, single}
+use Rattle.steiner_tables.proofs.Masks.{bit-small, bit-single}
 use Rattle.steiner_exact.specs.declared.extent.Extent.{Extent}
 use Rattle.steiner_exact.specs.Boxes.{none, lowest, highest, extent_of, with_number, width_with}
 

@@ -18,10 +18,10 @@ use Rattle.grid_base.proofs.Places.{place_at-inside}
 use Rattle.grid_graph.specs.declared.floors.Floors.{Floors}
 use Rattle.grid_graph.specs.Floors.{floor_along, floor_of, AreFloors, AreWithin}
 use Rattle.grid_graph.specs.Limits.{max_weight}
-use Rattle.shortest_paths.specs.Masks.{bit, single, AreParts}
-use Rattle.shortest_paths.specs.Sets.{RisesSlowly}
-use Rattle.shortest_paths.specs.Tables.{IsFamily}
-use Rattle.shortest_paths.proofs.FloorSteps.{AreApartBy, scaled, sides_within, sum_within}
+use Rattle.steiner_tables.specs.Masks.{bit, single, AreParts}
+use Rattle.label_search.specs.Sets.{RisesSlowly}
+use Rattle.steiner_tables.specs.Tables.{IsFamily}
+use Rattle.label_search.proofs.FloorSteps.{AreApartBy, scaled, sides_within, sum_within}
 use Rattle.steiner_exact.specs.declared.extent.Extent.{Extent}
 use Rattle.steiner_exact.specs.declared.terminal_box.TerminalBox.{TerminalBox}
 use Rattle.steiner_exact.specs.Boxes.{none, extent_of, width_with, with_place, box_distance, IsBoxIn, no_box, box_of, first_box, box_low}

@@ -1,8 +1,8 @@
 -- Numbers as answers.
 use Rattle.std.proofs.Common.{ℕ, ◌≡◌, ◌<◌, ◌≤◌, Some, None, arith}
 use Rattle.std.proofs.lemmas.Bool.Decides.{nat_tests}
-use Rattle.shortest_paths.specs.Stamped.{most, far}
-use Rattle.shortest_paths.specs.Tables.{answer_at}
+use Rattle.label_search.specs.Stamped.{most, far}
+use Rattle.steiner_tables.specs.Tables.{answer_at}
 
 -- an answer is the number
 pub found_number : (number x : ℕ) → Some x ≡ answer_at far number → x ≡ number

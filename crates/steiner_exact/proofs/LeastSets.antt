@@ -16,9 +16,9 @@ use Rattle.grid_graph.specs.Weighed.{IsAllowed, NoPieceTwice}
 use Rattle.tree_set.specs.Order.{IsRising}
 use Rattle.shortest_paths.specs.declared.labels.Labels.{Labels}
 use Rattle.shortest_paths.specs.LabelWords.{source_of, distance_of, HasDistance}
-use Rattle.shortest_paths.specs.Paths.{IsPath}
-use Rattle.shortest_paths.specs.Sets.{IsLeastWeight, AreApart, IsEither, IsDistance, weight}
-use Rattle.shortest_paths.proofs.Sets.{no_pieces}
+use Rattle.label_search.specs.Paths.{IsPath}
+use Rattle.label_search.specs.Sets.{IsLeastWeight, AreApart, IsEither, IsDistance, weight}
+use Rattle.label_search.proofs.Sets.{no_pieces}
 use Rattle.steiner_exact.specs.LeastSets.{IsLeastSet, IsLeastTree}
 use Rattle.steiner_exact.proofs.TwoTerminals.{JoinsList-both, joined_vertices}
 use Rattle.steiner_exact.proofs.WeighedLists.{path_set}

@@ -11,10 +11,10 @@ use Rattle.grid_graph.specs.declared.floors.Floors.{Floors}
 use Rattle.grid_graph.specs.Flat.{tile_of, tile_edge_of, IsFlatOf, AreLeastOver}
 use Rattle.grid_graph.specs.Floors.{AreFloors}
 use Rattle.grid_graph.specs.Weighed.{Weighs}
-use Rattle.shortest_paths.specs.Stamped.{most, far}
-use Rattle.shortest_paths.specs.Masks.{single, all_of}
-use Rattle.shortest_paths.specs.Tables.{IsHoldingTable, IsFamily, IsPrunedTable, completed}
-use Rattle.shortest_paths.proofs.Pruned.{completed_holds}
+use Rattle.label_search.specs.Stamped.{most, far}
+use Rattle.steiner_tables.specs.Masks.{single, all_of}
+use Rattle.steiner_tables.specs.Tables.{IsHoldingTable, IsFamily, IsPrunedTable, completed}
+use Rattle.steiner_tables.proofs.Pruned.{completed_holds}
 use Rattle.steiner_exact.specs.Boxes.{none, extent_of, width_with}
 use Rattle.steiner_exact.specs.FlatPieces.{edges_with}
 use Rattle.grid_graph.specs.TilePieces.{tiles_of}

@@ -15,11 +15,11 @@ use Rattle.grid_base.proofs.Joined.{Joins-from_one, Joins-alone, Joins-superset}
 use Rattle.grid_base.proofs.Walks.{WalkBetween-piece, WalkBetween-superset}
 use Rattle.grid_graph.specs.Weighed.{Weighs, NoPieceTwice}
 use Rattle.grid_graph.proofs.Members.{In-Contains, Contains-In, In-append_left, In-append_right, In-from_append}
-use Rattle.shortest_paths.specs.Masks.{bit, AreParts, WithVertex}
-use Rattle.shortest_paths.specs.Paths.{IsStepBack}
-use Rattle.shortest_paths.specs.Tables.{IsAlone}
-use Rattle.shortest_paths.proofs.Masks.{bit-single}
-use Rattle.shortest_paths.proofs.Trees.{in_part}
+use Rattle.steiner_tables.specs.Masks.{bit, AreParts, WithVertex}
+use Rattle.label_search.specs.Paths.{IsStepBack}
+use Rattle.steiner_tables.specs.Tables.{IsAlone}
+use Rattle.steiner_tables.proofs.Masks.{bit-single}
+use Rattle.steiner_tables.proofs.Trees.{in_part}
 use Rattle.steiner_exact.specs.Reading.{IsRead, IsReadOn, LeadsTo, IsTreeWithin}
 use Rattle.steiner_exact.proofs.WeighedLists.{listed_set}
 use Rattle.tree_set.specs.Order.{IsRising}

@@ -9,8 +9,8 @@ use Rattle.grid_graph.specs.Weighed.{IsAllowed, NoPieceTwice}
 use Rattle.grid_graph.proofs.Weighed.{IsWeighed, weighed-none, weighed-more, weighed, allowed_of_tree, member_of_tree, weighs_no_more}
 use Rattle.tree_set.specs.Order.{IsRising}
 use Rattle.tree_set.proofs.Order.{rising_once}
-use Rattle.shortest_paths.specs.Paths.{IsPath}
-use Rattle.shortest_paths.specs.Sets.{IsSetOf, weight}
+use Rattle.label_search.specs.Paths.{IsPath}
+use Rattle.label_search.specs.Sets.{IsSetOf, weight}
 
 -- the pieces of a path with their weights
 weighed_path : (s : Size) (pieces : List (Piece × ℕ)) (a b total : ℕ) (path : List Piece) → IsPath s pieces a b total path → (set : List (Piece × ℕ)) × IsWeighed pieces path set × (weight set ≡ total)

@@ -6,7 +6,7 @@ use Rattle.grid_base.specs.declared.vertex.Vertex.{Vertex}
 use Rattle.grid_base.specs.Lists.{At}
 use Rattle.grid_base.specs.Numbers.{cols, rows, layers, col_of, row_of, layer_of, place_at}
 use Rattle.grid_graph.specs.declared.floors.Floors.{Floors}
-use Rattle.shortest_paths.specs.Masks.{few_terminals, bit}
+use Rattle.steiner_tables.specs.Masks.{few_terminals, bit}
 use Rattle.steiner_exact.specs.declared.extent.Extent.{Extent}
 use Rattle.steiner_exact.specs.declared.terminal_box.TerminalBox.{TerminalBox}
 

@@ -4,7 +4,7 @@ use Rattle.grid_base.specs.declared.piece.Piece.{Piece}
 use Rattle.grid_base.specs.declared.size.Size.{Size}
 use Rattle.grid_base.specs.declared.vertex.Vertex.{Vertex}
 use Rattle.grid_base.specs.Walks.{InVertices, JoinsList}
-use Rattle.shortest_paths.specs.Sets.{IsSetOf, IsLeastWeight, weight}
+use Rattle.label_search.specs.Sets.{IsSetOf, IsLeastWeight, weight}
 use Rattle.tree_set.specs.Order.{IsRising}
 
 -- the tree is a set of the allowed pieces whose weight is the least of those that join the terminals

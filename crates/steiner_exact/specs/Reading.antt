@@ -4,10 +4,10 @@ use Rattle.grid_base.specs.declared.piece.Piece.{Piece}
 use Rattle.grid_base.specs.declared.size.Size.{Size}
 use Rattle.grid_base.specs.declared.vertex.Vertex.{Vertex}
 use Rattle.grid_base.specs.Walks.{Joins, InPieces}
-use Rattle.shortest_paths.specs.Stamped.{most}
-use Rattle.shortest_paths.specs.Masks.{AreParts, WithVertex}
-use Rattle.shortest_paths.specs.Sets.{IsSetOf, weight}
-use Rattle.shortest_paths.specs.Tables.{IsReachedBy}
+use Rattle.label_search.specs.Stamped.{most}
+use Rattle.steiner_tables.specs.Masks.{AreParts, WithVertex}
+use Rattle.label_search.specs.Sets.{IsSetOf, weight}
+use Rattle.steiner_tables.specs.Tables.{IsReachedBy}
 
 -- each number of the masks up to this one was reached
 abbrev pub AreReached : Size → List (Piece × ℕ) → List Vertex → ℕ → (ℕ → ℕ → ℕ) → Type 0

@@ -4,9 +4,9 @@ use Rattle.grid_base.specs.declared.piece.Piece.{Piece}
 use Rattle.grid_base.specs.declared.size.Size.{Size}
 use Rattle.grid_base.specs.declared.vertex.Vertex.{Vertex}
 use Rattle.grid_base.specs.Walks.{InVertices}
-use Rattle.shortest_paths.specs.Stamped.{most}
-use Rattle.shortest_paths.specs.Masks.{all_but_root}
-use Rattle.shortest_paths.specs.Sets.{IsLeastWeight}
+use Rattle.label_search.specs.Stamped.{most}
+use Rattle.steiner_tables.specs.Masks.{all_but_root}
+use Rattle.label_search.specs.Sets.{IsLeastWeight}
 use Rattle.steiner_exact.specs.Boxes.{none}
 use Rattle.steiner_exact.specs.Reading.{AreReached}
 

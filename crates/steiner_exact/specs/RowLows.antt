@@ -4,8 +4,8 @@ use Rattle.grid_base.specs.declared.size.Size.{Size}
 use Rattle.grid_base.specs.declared.vertex.Vertex.{Vertex}
 use Rattle.grid_base.specs.Numbers.{layer_of}
 use Rattle.grid_graph.specs.Flat.{tile_of}
-use Rattle.shortest_paths.specs.Stamped.{far}
-use Rattle.shortest_paths.specs.Tables.{completed}
+use Rattle.label_search.specs.Stamped.{far}
+use Rattle.steiner_tables.specs.Tables.{completed}
 use Rattle.steiner_exact.specs.Boxes.{extent_of, width_with}
 use Rattle.grid_graph.specs.TilePieces.{tiles_of}
 

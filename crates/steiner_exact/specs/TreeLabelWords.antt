@@ -3,7 +3,7 @@ use Rattle.std.specs.Prelude.{◌≡◌, ◌≤◌}
 use Rattle.grid_base.specs.declared.size.Size.{Size}
 use Rattle.grid_graph.specs.Flat.{IsFlatOf}
 use Rattle.shortest_paths.specs.LabelWords.{labels_size, masks_of}
-use Rattle.shortest_paths.specs.Masks.{rooted_masks, proper_masks}
+use Rattle.steiner_tables.specs.Masks.{rooted_masks, proper_masks}
 use Rattle.steiner_exact.specs.declared.tree_labels.TreeLabels.{TreeLabels}
 use Rattle.steiner_exact.specs.FlatPieces.{edge_flags}
 

@@ -3,8 +3,8 @@
 ghost use Rattle.std.specs.Prelude.{◌≡◌, ◌≤◌, All, length};
 ghost use Rattle.grid_base.specs.Numbers.{IsVertex};
 ghost use Rattle.grid_graph.specs.Floors.{AreWithin};
-ghost use Rattle.shortest_paths.specs.Masks.{few_terminals};
-ghost use Rattle.shortest_paths.specs.Tables.{IsFamily};
+ghost use Rattle.steiner_tables.specs.Masks.{few_terminals};
+ghost use Rattle.steiner_tables.specs.Tables.{IsFamily};
 ghost use Rattle.steiner_exact.specs.Boxes.{AreBoxes, box_low};
 
 use crate::boxes::{MASKS, boxes_of};
@@ -31,7 +31,7 @@ pub struct BoxFamily<'a, W: FlooredWeights> {
 impl<'a, W: FlooredWeights> BoxFamily<'a, W> {
     ghost use Rattle.std.specs.Prelude.{◌≡◌, ◌≤◌, All, length};
     ghost use Rattle.grid_base.specs.Numbers.{IsVertex};
-    ghost use Rattle.shortest_paths.specs.Masks.{few_terminals};
+    ghost use Rattle.steiner_tables.specs.Masks.{few_terminals};
 
     /// The boxes of at most five terminals, which are vertices of this size.
     pub fn new(weights: &'a W, size: Size, terminals: &'a [Vertex]) -> BoxFamily<'a, W>

@@ -2,7 +2,7 @@
 
 ghost use Rattle.std.specs.Prelude.{◌≡◌, ◌≤◌, ◌<◌, ◌^◌, All, length};
 ghost use Rattle.grid_base.specs.Numbers.{IsVertex};
-ghost use Rattle.shortest_paths.specs.Masks.{few_terminals};
+ghost use Rattle.steiner_tables.specs.Masks.{few_terminals};
 ghost use Rattle.steiner_exact.specs.Boxes.{box_of, AreBoxes};
 
 use crate::masks::has_terminal;

@@ -3,8 +3,8 @@
 ghost use Rattle.std.specs.Prelude.{◌≡◌, ◌≤◌, ◌<◌, All, IfOk, IfSome, IsTrue, length};
 ghost use Rattle.grid_base.specs.Numbers.{IsVertex};
 ghost use Rattle.shortest_paths.specs.LabelWords.{labels_size, masks_of, labels_number};
-ghost use Rattle.shortest_paths.specs.Masks.{few_terminals};
-ghost use Rattle.shortest_paths.specs.Stamped.{most};
+ghost use Rattle.steiner_tables.specs.Masks.{few_terminals};
+ghost use Rattle.label_search.specs.Stamped.{most};
 
 use crate::limits::MOST;
 use crate::masks::single_of;

@@ -8,9 +8,9 @@
 //! ```
 //!
 //! A table of the flat grid, searched under boxes of terminals, bounds a table of the grid; the tree is read back from its
-//! numbers. Both bounds are families of `shortest_paths`, and so is any other that a caller has.
+//! numbers. Both bounds are families of `steiner_tables`, and so is any other that a caller has.
 //!
-//! It stands on `shortest_paths` for tables, on `tree_set` for sets of pieces and on `grid_graph` for weights that know
+//! It stands on `shortest_paths` for searches, on `tree_set` for sets of pieces and on `grid_graph` for weights that know
 //! lower bounds of themselves. A tree takes memory for its own pieces, its terminals
 //! and the vertices of one guessed tree, and none that grows with the grid.
 //!

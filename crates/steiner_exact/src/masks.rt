@@ -1,7 +1,7 @@
 //! Masks of terminals, bit by bit.
 
 ghost use Rattle.std.specs.Prelude.{◌≡◌, ◌<◌, ◌≤◌, ◌-◌, ◌^◌, ◌==◌, ◌↔◌, IsTrue};
-ghost use Rattle.shortest_paths.specs.Masks.{few_terminals, bit, single, AreParts};
+ghost use Rattle.steiner_tables.specs.Masks.{few_terminals, bit, single, AreParts};
 
 /// The greatest number of terminals.
 pub(crate) const MOST_TERMINALS: u32 = 5;

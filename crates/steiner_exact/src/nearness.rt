@@ -3,7 +3,7 @@
 ghost use Rattle.std.specs.Prelude.{◌≡◌, ◌≤◌, ◌<◌, ◌^◌, All, IfOk, length};
 ghost use Rattle.std.specs.List.Sorted.{IsPermutation};
 ghost use Rattle.grid_base.specs.Numbers.{IsVertex};
-ghost use Rattle.shortest_paths.specs.Masks.{few_terminals};
+ghost use Rattle.steiner_tables.specs.Masks.{few_terminals};
 
 use crate::masks::has_terminal;
 use grid_base::{NoMemory, Place, Size, Vertex};

@@ -3,11 +3,11 @@
 ghost use Rattle.std.specs.Prelude.{◌≡◌, ◌<◌, ◌≤◌, ◌+◌, ◌-◌, ◌↔◌, ℕ, List, length, None, IfOk, IfSome, IsTrue};
 ghost use Rattle.grid_base.specs.Numbers.{IsVertex};
 ghost use Rattle.shortest_paths.specs.LabelWords.{labels_size, masks_of, label_of};
-ghost use Rattle.shortest_paths.specs.Masks.{few_terminals};
-ghost use Rattle.shortest_paths.specs.Stamped.{most};
-ghost use Rattle.shortest_paths.specs.Paths.{IsStepBack, IsPieceBack, NoneWeighsNothing};
-ghost use Rattle.shortest_paths.specs.Searches.{IsBehind};
-ghost use Rattle.shortest_paths.specs.Tables.{IsAlone, IsSplit};
+ghost use Rattle.steiner_tables.specs.Masks.{few_terminals};
+ghost use Rattle.label_search.specs.Stamped.{most};
+ghost use Rattle.label_search.specs.Paths.{IsStepBack, IsPieceBack, NoneWeighsNothing};
+ghost use Rattle.label_search.specs.Searches.{IsBehind};
+ghost use Rattle.steiner_tables.specs.Tables.{IsAlone, IsSplit};
 ghost use Rattle.tree_set.specs.Order.{IsRising};
 ghost use Rattle.steiner_exact.specs.Reading.{AreReached, IsReadOn, LeadsTo, IsSplitBy, IsTreeWithin};
 

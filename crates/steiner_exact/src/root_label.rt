@@ -3,9 +3,9 @@
 ghost use Rattle.std.specs.Prelude.{◌≡◌, ◌≤◌, All, length};
 ghost use Rattle.grid_base.specs.Numbers.{IsVertex};
 ghost use Rattle.shortest_paths.specs.LabelWords.{labels_size, masks_of, label_of};
-ghost use Rattle.shortest_paths.specs.Masks.{few_terminals, all_but_root};
-ghost use Rattle.shortest_paths.specs.Stamped.{far};
-ghost use Rattle.shortest_paths.specs.Tables.{answer_at};
+ghost use Rattle.steiner_tables.specs.Masks.{few_terminals, all_but_root};
+ghost use Rattle.label_search.specs.Stamped.{far};
+ghost use Rattle.steiner_tables.specs.Tables.{answer_at};
 ghost use Rattle.steiner_exact.specs.Roots.{root_of};
 
 use crate::masks::all_but_root_of;

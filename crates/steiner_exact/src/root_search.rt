@@ -5,8 +5,8 @@ ghost use Rattle.grid_base.specs.Numbers.{IsVertex};
 ghost use Rattle.grid_base.specs.Walks.{Joins, InVertices};
 ghost use Rattle.grid_graph.specs.Weighed.{IsAllowed};
 ghost use Rattle.shortest_paths.specs.LabelWords.{labels_size, masks_of, label_of};
-ghost use Rattle.shortest_paths.specs.Stamped.{most};
-ghost use Rattle.shortest_paths.specs.Masks.{few_terminals, all_but_root};
+ghost use Rattle.label_search.specs.Stamped.{most};
+ghost use Rattle.steiner_tables.specs.Masks.{few_terminals, all_but_root};
 ghost use Rattle.steiner_exact.specs.Roots.{IsLeastAtRoot, IsAttempt};
 
 use crate::limits::{FIRST_SLACK, MOST};

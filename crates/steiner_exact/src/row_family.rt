@@ -5,9 +5,9 @@ ghost use Rattle.grid_base.specs.Numbers.{IsVertex};
 ghost use Rattle.grid_graph.specs.Flat.{IsFlatOf};
 ghost use Rattle.grid_graph.specs.Limits.{max_weight};
 ghost use Rattle.shortest_paths.specs.LabelWords.{labels_size, masks_of, label_of};
-ghost use Rattle.shortest_paths.specs.Masks.{proper_masks, few_terminals};
-ghost use Rattle.shortest_paths.specs.Stamped.{most, far};
-ghost use Rattle.shortest_paths.specs.Tables.{IsFamily};
+ghost use Rattle.steiner_tables.specs.Masks.{proper_masks, few_terminals};
+ghost use Rattle.label_search.specs.Stamped.{most, far};
+ghost use Rattle.steiner_tables.specs.Tables.{IsFamily};
 ghost use Rattle.steiner_exact.specs.Boxes.{AreBoxes};
 ghost use Rattle.grid_graph.specs.TilePieces.{tiles_of};
 ghost use Rattle.steiner_exact.specs.RowLows.{row_low};
@@ -49,9 +49,9 @@ impl<'a, W: FlooredWeights, B: Family> RowFamily<'a, W, B> {
     ghost use Rattle.grid_base.specs.Numbers.{IsVertex, place_at};
     ghost use Rattle.grid_graph.specs.Flat.{IsFlatOf};
     ghost use Rattle.shortest_paths.specs.LabelWords.{labels_size, masks_of, label_of};
-    ghost use Rattle.shortest_paths.specs.Stamped.{most, far};
-    ghost use Rattle.shortest_paths.specs.Masks.{proper_masks, few_terminals, all_of};
-    ghost use Rattle.shortest_paths.specs.Tables.{IsPrunedTable, completed};
+    ghost use Rattle.label_search.specs.Stamped.{most, far};
+    ghost use Rattle.steiner_tables.specs.Masks.{proper_masks, few_terminals, all_of};
+    ghost use Rattle.steiner_tables.specs.Tables.{IsPrunedTable, completed};
     ghost use Rattle.steiner_exact.specs.FlatPieces.{edges_with};
     ghost use Rattle.grid_graph.specs.TilePieces.{tiles_of};
 

@@ -18,7 +18,7 @@ impl TerminalBox {
     ghost use Rattle.std.specs.Prelude.{◌≡◌, ◌≤◌};
     ghost use Rattle.grid_base.specs.Numbers.{IsInside};
     ghost use Rattle.grid_graph.specs.Floors.{AreWithin};
-    ghost use Rattle.shortest_paths.specs.Stamped.{far};
+    ghost use Rattle.label_search.specs.Stamped.{far};
     ghost use Rattle.steiner_exact.specs.Boxes.{with_place, box_distance, IsBoxIn};
 
     /// The box of no terminal.

@@ -5,12 +5,7 @@ use crate::flat_size::flat_of;
 use grid_base::{NoMemory, Size};
 use shortest_paths::Labels;
 use std::alloc::Global;
-
-/// How many sets of terminals a table of a grid has: all sets of five terminals without the root.
-pub(crate) const GRID_MASKS: u32 = 15;
-
-/// How many sets of terminals a table of a flat grid has: all sets of five terminals but that of all.
-pub(crate) const FLAT_MASKS: u32 = 30;
+use steiner_tables::{PROPER_MASKS, ROOTED_MASKS};
 
 /// Labels of a grid and of its flat grid, and the flat grid's edges, made once and used for many trees.
 #[derive(Drop)]
@@ -30,8 +25,8 @@ impl TreeLabels {
     {
         let flat = flat_of(size);
         Ok(TreeLabels {
-            grid: Labels::new(alloc, size, GRID_MASKS)?,
-            flat: Labels::new(alloc, flat, FLAT_MASKS)?,
+            grid: Labels::new(alloc, size, ROOTED_MASKS)?,
+            flat: Labels::new(alloc, flat, PROPER_MASKS)?,
             flat_edges: flags_of(alloc, flat)?,
         })
     }

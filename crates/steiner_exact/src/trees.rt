@@ -4,11 +4,9 @@ ghost use Rattle.std.specs.Prelude.{◌≡◌, ◌≤◌, ◌<◌, [], All, IfOk
 ghost use Rattle.grid_base.specs.Numbers.{IsVertex};
 ghost use Rattle.grid_base.specs.Walks.{Joins, InVertices};
 ghost use Rattle.grid_graph.specs.Weighed.{IsAllowed};
-ghost use Rattle.grid_graph.specs.Flat.{IsFlatOf};
 ghost use Rattle.shortest_paths.specs.LabelWords.{labels_size, masks_of, label_of};
-ghost use Rattle.shortest_paths.specs.Masks.{proper_masks, rooted_masks, few_terminals};
-ghost use Rattle.shortest_paths.specs.Paths.{NoneWeighsNothing};
-ghost use Rattle.steiner_exact.specs.FlatPieces.{edge_flags};
+ghost use Rattle.steiner_tables.specs.Masks.{rooted_masks, few_terminals};
+ghost use Rattle.label_search.specs.Paths.{NoneWeighsNothing};
 ghost use Rattle.steiner_exact.specs.LeastSets.{IsLeastTree};
 ghost use Rattle.steiner_exact.specs.Roots.{IsLeastAtRoot};
 ghost use Rattle.steiner_exact.specs.TreeLabelWords.{AreTreeLabels};
@@ -55,14 +53,7 @@ pub fn least_tree<W: FlooredWeights>(
         return least_path(weights, terminals, &mut labels.grid);
     }
     let ordered = with_far_root(alloc, labels.grid.size(), terminals)?;
-    let found = least_of_several(
-        alloc,
-        weights,
-        ordered.as_slice(),
-        &mut labels.grid,
-        &mut labels.flat,
-        labels.flat_edges.as_slice(),
-    )?;
+    let found = least_of_several(alloc, weights, ordered.as_slice(), labels)?;
     Ok(found)
 }
 
@@ -71,30 +62,21 @@ fn least_of_several<W: FlooredWeights>(
     alloc: Global,
     weights: &W,
     terminals: &[Vertex],
-    grid: &mut Labels,
-    flat: &mut Labels,
-    flat_edges: &[bool],
+    labels: &mut TreeLabels,
 ) -> Result<(Tree, u64), NoMemory>
-    requires size { labels_size grid.old ≡ W.size weights.now }
-    requires room { rooted_masks ≤ masks_of grid.old }
-    requires flat_size { IsFlatOf (labels_size flat.old) (W.size weights.now) }
-    requires flat_room { proper_masks ≤ masks_of flat.old }
-    requires flat_edges { flat_edges.now ≡ edge_flags (labels_size flat.old) }
+    requires labels { AreTreeLabels (W.size weights.now) labels.old }
     requires terminals { All (λ v. IsVertex (W.size weights.now) v.0) terminals.now }
     requires two { 2 ≤ length terminals.now }
     requires few { length terminals.now ≤ few_terminals }
     requires joined { Joins (W.size weights.now) (IsAllowed (W.pieces weights.now)) (InVertices terminals.now) }
     requires positive { NoneWeighsNothing (W.pieces weights.now) }
     ensures tree { IfOk result (λ found. IsLeastTree (W.size weights.now) (W.pieces weights.now) terminals.now found.0 found.1) }
-    ensures size { labels_size grid.new ≡ labels_size grid.old }
-    ensures masks { masks_of grid.new ≡ masks_of grid.old }
-    ensures flat_size { labels_size flat.new ≡ labels_size flat.old }
-    ensures flat_masks { masks_of flat.new ≡ masks_of flat.old }
+    ensures labels { AreTreeLabels (W.size weights.now) labels.new }
 {
-    let weight = least_weight(alloc, weights, terminals, grid, flat, flat_edges)?;
+    let weight = least_weight(alloc, weights, terminals, labels)?;
     let mask = all_but_root_of(terminals.len());
     let root = terminals[terminals.len() - 1];
-    let tree = read_tree(alloc, weights, grid, terminals, mask, root)?;
+    let tree = read_tree(alloc, weights, &labels.grid, terminals, mask, root)?;
     Ok((tree, weight))
 }
 
@@ -103,29 +85,20 @@ fn least_weight<W: FlooredWeights>(
     alloc: Global,
     weights: &W,
     terminals: &[Vertex],
-    grid: &mut Labels,
-    flat: &mut Labels,
-    flat_edges: &[bool],
+    labels: &mut TreeLabels,
 ) -> Result<u64, NoMemory>
-    requires size { labels_size grid.old ≡ W.size weights.now }
-    requires room { rooted_masks ≤ masks_of grid.old }
-    requires flat_size { IsFlatOf (labels_size flat.old) (W.size weights.now) }
-    requires flat_room { proper_masks ≤ masks_of flat.old }
-    requires flat_edges { flat_edges.now ≡ edge_flags (labels_size flat.old) }
+    requires labels { AreTreeLabels (W.size weights.now) labels.old }
     requires terminals { All (λ v. IsVertex (W.size weights.now) v.0) terminals.now }
     requires two { 2 ≤ length terminals.now }
     requires few { length terminals.now ≤ few_terminals }
     requires joined { Joins (W.size weights.now) (IsAllowed (W.pieces weights.now)) (InVertices terminals.now) }
-    ensures least { IfOk result (λ least. IsLeastAtRoot (W.size weights.now) (W.pieces weights.now) terminals.now (label_of grid.new) least) }
-    ensures size { labels_size grid.new ≡ labels_size grid.old }
-    ensures masks { masks_of grid.new ≡ masks_of grid.old }
-    ensures flat_size { labels_size flat.new ≡ labels_size flat.old }
-    ensures flat_masks { masks_of flat.new ≡ masks_of flat.old }
+    ensures least { IfOk result (λ least. IsLeastAtRoot (W.size weights.now) (W.pieces weights.now) terminals.now (label_of labels.new.grid) least) }
+    ensures labels { AreTreeLabels (W.size weights.now) labels.new }
 {
-    if grid.size().layers() == 1 {
-        return least_by_boxes(alloc, weights, terminals, grid);
+    if labels.grid.size().layers() == 1 {
+        return least_by_boxes(alloc, weights, terminals, &mut labels.grid);
     }
-    least_by_tiles(alloc, weights, terminals, grid, flat, flat_edges)
+    least_by_tiles(alloc, weights, terminals, labels)
 }
 
 /// The same by a search under boxes.
@@ -155,38 +128,26 @@ fn least_by_tiles<W: FlooredWeights>(
     alloc: Global,
     weights: &W,
     terminals: &[Vertex],
-    grid: &mut Labels,
-    flat: &mut Labels,
-    flat_edges: &[bool],
+    labels: &mut TreeLabels,
 ) -> Result<u64, NoMemory>
-    requires size { labels_size grid.old ≡ W.size weights.now }
-    requires room { rooted_masks ≤ masks_of grid.old }
-    requires flat_size { IsFlatOf (labels_size flat.old) (W.size weights.now) }
-    requires flat_room { proper_masks ≤ masks_of flat.old }
-    requires flat_edges { flat_edges.now ≡ edge_flags (labels_size flat.old) }
+    requires labels { AreTreeLabels (W.size weights.now) labels.old }
     requires terminals { All (λ v. IsVertex (W.size weights.now) v.0) terminals.now }
     requires two { 2 ≤ length terminals.now }
     requires few { length terminals.now ≤ few_terminals }
     requires joined { Joins (W.size weights.now) (IsAllowed (W.pieces weights.now)) (InVertices terminals.now) }
-    ensures least { IfOk result (λ least. IsLeastAtRoot (W.size weights.now) (W.pieces weights.now) terminals.now (label_of grid.new) least) }
-    ensures size { labels_size grid.new ≡ labels_size grid.old }
-    ensures masks { masks_of grid.new ≡ masks_of grid.old }
-    ensures flat_size { labels_size flat.new ≡ labels_size flat.old }
-    ensures flat_masks { masks_of flat.new ≡ masks_of flat.old }
+    ensures least { IfOk result (λ least. IsLeastAtRoot (W.size weights.now) (W.pieces weights.now) terminals.now (label_of labels.new.grid) least) }
+    ensures labels { AreTreeLabels (W.size weights.now) labels.new }
 {
-    let tiles = tiles_of(alloc, grid.size(), terminals)?;
-    let ground = FlatWeights::new(weights, flat.size(), flat_edges);
-    let bounds = BoxFamily::new(&ground, flat.size(), tiles.as_slice());
-    let guess = tree_guess(alloc, &ground, tiles.as_slice(), flat)?;
+    let listed = tiles_of(alloc, labels.grid.size(), terminals)?;
+    let tiles = listed.as_slice();
+    let ground = FlatWeights::new(weights, labels.flat.size(), labels.flat_edges.as_slice());
+    let bounds = BoxFamily::new(&ground, labels.flat.size(), tiles);
+    let guess = tree_guess(alloc, &ground, tiles, &mut labels.flat)?;
     let limit = (guess + TABLE_SLACK).min(MOST);
-    flat.pruned(
-        &ground,
-        &bounds,
-        tiles.as_slice(),
-        all_of(tiles.len()) - 1,
-        limit,
-    );
-    let across = root_label(flat, tiles.as_slice()).unwrap_or(guess);
-    let family = RowFamily::new(weights, grid.size(), terminals, &bounds, flat, limit);
-    Ok(least_at_root(weights, &family, terminals, across + FIRST_SLACK, grid))
+    let last = all_of(tiles.len()) - 1;
+    labels.flat.pruned(&ground, &bounds, tiles, last, limit);
+    let across = root_label(&labels.flat, tiles).unwrap_or(guess) + FIRST_SLACK;
+    let size = labels.grid.size();
+    let family = RowFamily::new(weights, size, terminals, &bounds, &labels.flat, limit);
+    Ok(least_at_root(weights, &family, terminals, across, &mut labels.grid))
 }

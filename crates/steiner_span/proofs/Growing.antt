@@ -6,20 +6,20 @@ use Rattle.grid_base.specs.declared.size.Size.{Size}
 use Rattle.grid_base.specs.Numbers.{Connects}
 use Rattle.grid_graph.specs.Weighed.{Weighs, IsAllowed}
 use Rattle.shortest_paths.specs.declared.labels.Labels.{Labels}
-use Rattle.steiner_span.specs.Growths.{AreKeys, AfterOffer, AreBehind, IsGrowing, IsTaken, FallsTo, FallsOn, SpreadsOn}
-use Rattle.shortest_paths.specs.Paths.{NoneWeighsNothing}
+use Rattle.steiner_span.specs.Growths.{AreKeys, AfterOffer, AreBehind, IsGrowing, IsTaken, FallsTo, FallsOn, RelaxesOn}
+use Rattle.label_search.specs.Paths.{NoneWeighsNothing}
 use Rattle.shortest_paths.specs.LabelWords.{labels_number}
 use Rattle.shortest_paths.specs.LedSearches.{HasKey, IsOpen, GoOn, Lowers, IsTakenOut, work_of}
-use Rattle.shortest_paths.specs.Runs.{IsSpreadWithin}
+use Rattle.label_search.specs.Runs.{IsRelaxedWithin}
 use Rattle.shortest_paths.proofs.LedSearches.{number_within}
-use Rattle.shortest_paths.specs.Searches.{IsBehind, IsRelaxed}
-use Rattle.shortest_paths.specs.Stamped.{far}
+use Rattle.label_search.specs.Searches.{IsBehind, IsRelaxed}
+use Rattle.label_search.specs.Stamped.{far}
 use Rattle.grid_base.specs.Walks.{Joins}
 use Rattle.grid_base.proofs.Walks.{walk_vertices}
 use Rattle.grid_base.specs.declared.vertex.Vertex.{Vertex}
 use Rattle.grid_graph.specs.Weighed.{NoPieceTwice, AreWithinLimit}
-use Rattle.shortest_paths.proofs.Forests.{light_part}
-use Rattle.shortest_paths.proofs.Law.{rises_by_weight}
+use Rattle.label_search.proofs.Forests.{light_part}
+use Rattle.label_search.proofs.Law.{rises_by_weight}
 
 pub go_on_itself : (l : Labels) → GoOn l l
 go_on_itself l = record { size = refl; masks = refl; first = λ vertices count first. first }
@@ -40,8 +40,8 @@ falls_to a b d first second = record {
 pub falls_on : (a b d : Labels) → FallsOn a b → FallsOn b d → FallsOn a d
 falls_on a b d first second = record { to = falls_to a b d first.to second.to; zeros = λ v is. first.zeros v (second.zeros v is) }
 
-pub spreads_on : (s : Size) (pieces : List (Piece × ℕ)) (a b d : Labels) → SpreadsOn s pieces a b → SpreadsOn s pieces b d → SpreadsOn s pieces a d
-spreads_on s pieces a b d first second = record {
+pub relaxes_on : (s : Size) (pieces : List (Piece × ℕ)) (a b d : Labels) → RelaxesOn s pieces a b → RelaxesOn s pieces b d → RelaxesOn s pieces a d
+relaxes_on s pieces a b d first second = record {
   fell = falls_on a b d first.fell second.fell;
   changed = λ v. ⊎_elim
       (λ same. ⊎_elim (λ still. inl (same ∙ still)) (λ waits. inr (second.kept v waits)) (first.changed v))
@@ -63,7 +63,7 @@ still_behind s pieces num new v falls same old = record {
 }
 
 -- an offer along a piece
-pub offered_on : (s : Size) (pieces : List (Piece × ℕ)) (old new : Labels) (from to k : ℕ) (p : Piece) → NoneWeighsNothing pieces → Weighs pieces p k → Connects s p from to → AfterOffer old new to (labels_number old from + k) → SpreadsOn s pieces old new
+pub offered_on : (s : Size) (pieces : List (Piece × ℕ)) (old new : Labels) (from to k : ℕ) (p : Piece) → NoneWeighsNothing pieces → Weighs pieces p k → Connects s p from to → AfterOffer old new to (labels_number old from + k) → RelaxesOn s pieces old new
 offered_on s pieces old new from to k p positive weighs connects taken = record {
   fell = record {
     to = record { go_on = taken.go_on; falls = taken.falls; less = taken.less };
@@ -120,7 +120,7 @@ some_waits s pieces T rest r growing once small joins source goal none =
     let nothing : (v : ℕ) → ¬ IsOpen r v = λ v waits. none v waits.0 waits.1 in
     let walk = joins source.0 goal.0 source.1 goal.1 in
     let part = light_part s pieces pieces source.0 small (record { allowed = λ x at. at; once = once }) (walk_vertices s (IsAllowed pieces) source.0 goal.0 walk).0 in
-    let low = rises_by_weight s pieces (labels_number r) (λ p k a b weighs connects. growing.spread a (nothing a) p k b weighs connects) part.part part.is_set.allowed source.0 goal.0 (part.joins source.0 goal.0 walk) in
+    let low = rises_by_weight s pieces (labels_number r) (λ p k a b weighs connects. growing.relaxed a (nothing a) p k b weighs connects) part.part part.is_set.allowed source.0 goal.0 (part.joins source.0 goal.0 walk) in
     nothing goal.0 (growing.pending goal.0 goal.1 goal.2 (omega (arith, low, source.2, part.light)))
 
 -- what is behind a neighbour stays so where no number changes
@@ -145,22 +145,22 @@ take_growing s pieces T rest old new at growing is = record {
     numbered = λ v key held. omega (arith, is.numbers v, growing.keys.numbered v key (is.only v key held).1);
   };
   behind = same_behind s pieces (labels_number old) (labels_number new) is.numbers growing.behind;
-  spread = λ v other still p k u weighs connects. omega (arith, is.numbers v, is.numbers u, growing.spread v (λ waits. still (waits.0, is.kept v waits.0 other waits.1)) p k u weighs connects);
+  relaxed = λ v other still p k u weighs connects. omega (arith, is.numbers v, is.numbers u, growing.relaxed v (λ waits. still (waits.0, is.kept v waits.0 other waits.1)) p k u weighs connects);
   pending = λ v other terminal some numbered. let waits = growing.pending v terminal (omega (arith, is.numbers v, some)) (omega (arith, is.numbers v, numbered)) in (waits.0, is.kept v waits.0 other waits.1);
   numbered = omega (arith, is.numbers at, growing.keys.numbered at is.least.key is.least.has);
   least = λ v waits. omega (arith, is.numbers v, is.numbers at, growing.keys.low at is.least.key is.least.has, is.least.least v waits.0 (is.only v waits.0 waits.1).1, growing.keys.high v waits.0 (is.only v waits.0 waits.1).1);
 }
 
--- a vertex that was taken out is spread
-pub spread_growing : (s : Size) (pieces : List (Piece × ℕ)) (T : ℕ → Type 0) (rest : ℕ → ℕ) (old new : Labels) (at : ℕ) → IsTaken s pieces T rest old at → (T at → 0 < labels_number old at → ⊥) → AreKeys rest new → SpreadsOn s pieces old new →
+-- a vertex that was taken out is relaxed
+pub relaxed_growing : (s : Size) (pieces : List (Piece × ℕ)) (T : ℕ → Type 0) (rest : ℕ → ℕ) (old new : Labels) (at : ℕ) → IsTaken s pieces T rest old at → (T at → 0 < labels_number old at → ⊥) → AreKeys rest new → RelaxesOn s pieces old new →
     IsRelaxed s pieces (labels_number new) at → IsGrowing s pieces T rest new
-spread_growing s pieces T rest old new at taken reached keys on spread = record {
+relaxed_growing s pieces T rest old new at taken reached keys on relaxed = record {
   keys = keys;
   behind = on.behind taken.behind;
-  spread = λ v still. ⊎_elim
-      (λ here. subst (IsRelaxed s pieces (labels_number new)) (sym here) spread)
+  relaxed = λ v still. ⊎_elim
+      (λ here. subst (IsRelaxed s pieces (labels_number new)) (sym here) relaxed)
       (λ other p k u weighs connects. ⊎_elim
-      (λ same. omega (arith, same, on.fell.to.falls u, taken.spread v other (λ waits. still (on.kept v waits)) p k u weighs connects))
+      (λ same. omega (arith, same, on.fell.to.falls u, taken.relaxed v other (λ waits. still (on.kept v waits)) p k u weighs connects))
       (λ waits. absurd (still waits))
       (on.changed v))
       (cases_eq v at);
@@ -181,15 +181,15 @@ still_at old new from to reached more taken is = ⊎_elim
     (taken.changed from)
 
 -- where every offer below the number of what has none was answered, all were taken
-pub spread_whole : (s : Size) (pieces : List (Piece × ℕ)) (l : Labels) (v : ℕ) → IsSpreadWithin s pieces (λ u. 0) far (labels_number l) v → IsRelaxed s pieces (labels_number l) v
-spread_whole s pieces l v within p k u weighs connects = ⊎_elim (λ taken. taken) (λ refused. omega (arith, refused, number_within l u)) (within p k u weighs connects)
+pub relaxed_whole : (s : Size) (pieces : List (Piece × ℕ)) (l : Labels) (v : ℕ) → IsRelaxedWithin s pieces (λ u. 0) far (labels_number l) v → IsRelaxed s pieces (labels_number l) v
+relaxed_whole s pieces l v within p k u weighs connects = ⊎_elim (λ taken. taken) (λ refused. omega (arith, refused, number_within l u)) (within p k u weighs connects)
 
 -- where more is to go
 pub taken_more : (s : Size) (pieces : List (Piece × ℕ)) (T : ℕ → Type 0) (rest more : ℕ → ℕ) (l : Labels) (at : ℕ) → ((v : ℕ) → rest v ≤ more v) → IsTaken s pieces T rest l at → IsTaken s pieces T more l at
 taken_more s pieces T rest more l at greater taken = record {
   keys = record { low = taken.keys.low; high = λ v key held. omega (arith, taken.keys.high v key held, greater v); numbered = taken.keys.numbered };
   behind = taken.behind;
-  spread = taken.spread;
+  relaxed = taken.relaxed;
   pending = taken.pending;
   numbered = taken.numbered;
   least = λ v waits. omega (arith, taken.least v waits, greater v);

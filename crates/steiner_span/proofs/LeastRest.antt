@@ -14,10 +14,10 @@ use Rattle.grid_base.proofs.Places.{vertex_number-place}
 use Rattle.grid_graph.specs.declared.floors.Floors.{Floors}
 use Rattle.grid_graph.specs.Floors.{AreFloors}
 use Rattle.steiner_span.specs.Aheads.{least_rest, StandsIn}
-use Rattle.shortest_paths.specs.Floors.{floor_rest}
-use Rattle.shortest_paths.specs.Sets.{RisesSlowly}
-use Rattle.shortest_paths.specs.Stamped.{far}
-use Rattle.shortest_paths.proofs.FloorSteps.{floor_rest-slow, floor_rest-vertex}
+use Rattle.label_search.specs.Floors.{floor_rest}
+use Rattle.label_search.specs.Sets.{RisesSlowly}
+use Rattle.label_search.specs.Stamped.{far}
+use Rattle.label_search.proofs.FloorSteps.{floor_rest-slow, floor_rest-vertex}
 
 head_or_tail : (x : Place) (rest : List Place) (y : Place) → Contains (x ∷ rest) y → (y ≡ x) ⊎ Contains rest y
 head_or_tail x rest y (zero, within, is) = inl (sym is)

@@ -15,14 +15,14 @@ use Rattle.steiner_span.specs.declared.step_back.StepBack.{StepBack}
 use Rattle.steiner_span.specs.Growths.{AfterOffer, AreKeys, AreBehind, AreLight, IsGrowing, IsTaken, FallsTo, IsWayBack, IsGrown}
 use Rattle.shortest_paths.specs.LabelWords.{labels_number}
 use Rattle.shortest_paths.specs.LedSearches.{IsOpen}
-use Rattle.shortest_paths.specs.Sets.{IsSetOf, IsDistance, RisesSlowly, weight}
+use Rattle.label_search.specs.Sets.{IsSetOf, IsDistance, RisesSlowly, weight}
 use Rattle.shortest_paths.specs.Spanning.{Link, IsSpanningTree}
 use Rattle.steiner_span.specs.Exchanges.{IsExchanged}
-use Rattle.shortest_paths.specs.Stamped.{far}
-use Rattle.shortest_paths.proofs.Distances.{least_past}
+use Rattle.label_search.specs.Stamped.{far}
+use Rattle.label_search.proofs.LeastNumbers.{least_past}
 use Rattle.steiner_span.proofs.Exchange.{OrAlso, exchanged, exchanged_at_start, exchanged_more}
 use Rattle.steiner_span.proofs.Growing.{falls_itself, falls_to, still_behind}
-use Rattle.shortest_paths.proofs.Sets.{extended, ends_joined, no_pieces}
+use Rattle.label_search.proofs.Sets.{extended, ends_joined, no_pieces}
 
 -- no allowed set that joins the tree with a terminal outside it weighs less than the number of the one taken out
 pub nearest : (s : Size) (pieces : List (Piece × ℕ)) (T : ℕ → Type 0) (rest : ℕ → ℕ) (r : Labels) (at : ℕ) → IsTaken s pieces T rest r at → RisesSlowly s pieces rest → ((v : ℕ) → T v → 0 < labels_number r v → rest v ≡ 0) →
@@ -37,7 +37,7 @@ nearest s pieces T rest r at taken slow near a b zero_a terminal above set is wa
     (λ none. omega (arith, none, taken.numbered))
     (cases_lt (num b) far))
     (cases_eq b at) in
-    let low = least_past s pieces num rest x (λ v. IsOpen r v ⊎ (v ≡ at)) a b x slow (λ v still p k u weighs connects. inl (taken.spread v (λ here. still (inr here)) (λ waits. still (inl waits)) p k u weighs connects))
+    let low = least_past s pieces num rest x (λ v. IsOpen r v ⊎ (v ≡ at)) a b x slow (λ v still p k u weighs connects. inl (taken.relaxed v (λ here. still (inr here)) (λ waits. still (inl waits)) p k u weighs connects))
     (λ v waiting. ⊎_elim (λ waits. taken.least v waits) (λ here. omega (arith, ap num here)) waiting) (omega arith) zero_a far_b set is walk in
     omega (arith, low, near b terminal above)
 
@@ -167,8 +167,8 @@ seeded_growing s pieces T rest old new at taken above seeding reached =
     record {
       keys = seeding.keys;
       behind = seeding.behind;
-      spread = λ v still. ⊎_elim
-          (λ same p k u weighs connects. omega (arith, same, seeding.fell.falls u, taken.spread v (other_than v same) (λ waits. still (seeding.kept v waits)) p k u weighs connects))
+      relaxed = λ v still. ⊎_elim
+          (λ same p k u weighs connects. omega (arith, same, seeding.fell.falls u, taken.relaxed v (other_than v same) (λ waits. still (seeding.kept v waits)) p k u weighs connects))
           (λ seeded. absurd (still seeded.1))
           (seeding.changed v);
       pending = λ v terminal some numbered. ⊎_elim
@@ -198,7 +198,7 @@ pub start_growing : (s : Size) (pieces : List (Piece × ℕ)) (T : ℕ → Type 
 start_growing s pieces T rest old new at none keys taken = record {
   keys = keys;
   behind = λ v numbered. ⊎_elim (λ same. absurd (omega (arith, same, none v, numbered))) (λ here. inl here.1) (taken.changed v);
-  spread = λ v still p k u weighs connects. ⊎_elim (λ same. omega (arith, same, none v, none u, taken.falls u)) (λ here. absurd (still here.2)) (taken.changed v);
+  relaxed = λ v still p k u weighs connects. ⊎_elim (λ same. omega (arith, same, none v, none u, taken.falls u)) (λ here. absurd (still here.2)) (taken.changed v);
   pending = λ v terminal some numbered. ⊎_elim (λ same. absurd (omega (arith, same, none v, numbered))) (λ here. here.2) (taken.changed v);
 }
 

@@ -12,7 +12,7 @@ use Rattle.grid_base.specs.Lists.{At, HasNoRepeats}
 use Rattle.grid_graph.specs.Weighed.{Weighs, IsAllowed, NoPieceTwice}
 use Rattle.grid_graph.proofs.Weighed.{weighed, weighs_no_more}
 use Rattle.steiner_span.specs.Growths.{AreLight}
-use Rattle.shortest_paths.specs.Sets.{IsSetOf, weight}
+use Rattle.label_search.specs.Sets.{IsSetOf, weight}
 use Rattle.tree_set.specs.Order.{IsRising}
 use Rattle.tree_set.proofs.Order.{rising_once}
 

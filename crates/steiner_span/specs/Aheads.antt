@@ -5,8 +5,8 @@ use Rattle.grid_base.specs.declared.place.Place.{Place}
 use Rattle.grid_base.specs.declared.size.Size.{Size}
 use Rattle.grid_base.specs.Numbers.{IsVertex, place_at}
 use Rattle.grid_graph.specs.declared.floors.Floors.{Floors}
-use Rattle.shortest_paths.specs.Floors.{floor_rest}
-use Rattle.shortest_paths.specs.Stamped.{far}
+use Rattle.label_search.specs.Floors.{floor_rest}
+use Rattle.label_search.specs.Stamped.{far}
 
 -- the least grid distance to one of the places, each step at its floor
 abbrev pub least_rest : Size → Floors → List Place → ℕ → ℕ

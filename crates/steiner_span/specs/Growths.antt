@@ -11,11 +11,11 @@ use Rattle.grid_graph.specs.Weighed.{Weighs, IsAllowed}
 use Rattle.shortest_paths.specs.declared.labels.Labels.{Labels}
 use Rattle.shortest_paths.specs.LabelWords.{labels_number}
 use Rattle.shortest_paths.specs.LedSearches.{HasKey, IsOpen, GoOn, work_of}
-use Rattle.shortest_paths.specs.Paths.{IsStepBack}
-use Rattle.shortest_paths.specs.Searches.{IsBehind, IsRelaxed}
-use Rattle.shortest_paths.specs.Sets.{IsSetOf, weight}
+use Rattle.label_search.specs.Paths.{IsStepBack}
+use Rattle.label_search.specs.Searches.{IsBehind, IsRelaxed}
+use Rattle.label_search.specs.Sets.{IsSetOf, weight}
 use Rattle.shortest_paths.specs.Spanning.{Link, IsSpanningTree}
-use Rattle.shortest_paths.specs.Stamped.{far}
+use Rattle.label_search.specs.Stamped.{far}
 use Rattle.steiner_span.specs.declared.step_back.StepBack.{StepBack}
 use Rattle.steiner_span.specs.Exchanges.{IsExchanged}
 
@@ -29,18 +29,18 @@ pub record AreKeys (rest : ℕ → ℕ) (l : Labels) : Type 0 where
 abbrev pub AreBehind : Size → List (Piece × ℕ) → (ℕ → ℕ) → Type 0
 AreBehind s pieces num = (v : ℕ) → num v < far → (num v ≡ 0) ⊎ IsBehind s pieces num v
 
--- the numbers of a growth: what doesn't wait is spread, and of the terminals T each that has a number above 0 waits
+-- the numbers of a growth: what doesn't wait is relaxed, and of the terminals T each that has a number above 0 waits
 pub record IsGrowing (s : Size) (pieces : List (Piece × ℕ)) (T : ℕ → Type 0) (rest : ℕ → ℕ) (l : Labels) : Type 0 where
   pub keys : AreKeys rest l
   pub behind : AreBehind s pieces (labels_number l)
-  pub spread : (v : ℕ) → ¬ IsOpen l v → IsRelaxed s pieces (labels_number l) v
+  pub relaxed : (v : ℕ) → ¬ IsOpen l v → IsRelaxed s pieces (labels_number l) v
   pub pending : (v : ℕ) → T v → 0 < labels_number l v → labels_number l v < far → IsOpen l v
 
--- the same where a vertex of least key was taken out and isn't spread
+-- the same where a vertex of least key was taken out and isn't relaxed
 pub record IsTaken (s : Size) (pieces : List (Piece × ℕ)) (T : ℕ → Type 0) (rest : ℕ → ℕ) (l : Labels) (at : ℕ) : Type 0 where
   pub keys : AreKeys rest l
   pub behind : AreBehind s pieces (labels_number l)
-  pub spread : (v : ℕ) → v ≢ at → ¬ IsOpen l v → IsRelaxed s pieces (labels_number l) v
+  pub relaxed : (v : ℕ) → v ≢ at → ¬ IsOpen l v → IsRelaxed s pieces (labels_number l) v
   pub pending : (v : ℕ) → v ≢ at → T v → 0 < labels_number l v → labels_number l v < far → IsOpen l v
   pub numbered : labels_number l at < far
   pub least : (v : ℕ) → IsOpen l v → labels_number l at ≤ labels_number l v + rest v
@@ -65,7 +65,7 @@ pub record FallsOn (old new : Labels) : Type 0 where
   pub zeros : (v : ℕ) → labels_number new v ≡ 0 → labels_number old v ≡ 0
 
 -- numbers fell, none of them to 0, and what fell waits and is behind a neighbour
-pub record SpreadsOn (s : Size) (pieces : List (Piece × ℕ)) (old new : Labels) : Type 0 where
+pub record RelaxesOn (s : Size) (pieces : List (Piece × ℕ)) (old new : Labels) : Type 0 where
   pub fell : FallsOn old new
   pub changed : (v : ℕ) → (labels_number new v ≡ labels_number old v) ⊎ IsOpen new v
   pub kept : (v : ℕ) → IsOpen old v → IsOpen new v

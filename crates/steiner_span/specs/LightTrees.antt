@@ -4,7 +4,7 @@ use Rattle.grid_base.specs.declared.piece.Piece.{Piece}
 use Rattle.grid_base.specs.declared.size.Size.{Size}
 use Rattle.grid_base.specs.declared.vertex.Vertex.{Vertex}
 use Rattle.grid_base.specs.Walks.{JoinsList}
-use Rattle.shortest_paths.specs.Sets.{IsSetOf, weight}
+use Rattle.label_search.specs.Sets.{IsSetOf, weight}
 use Rattle.shortest_paths.specs.Spanning.{Link, IsSpanningTree, links_weight}
 use Rattle.tree_set.specs.Order.{IsRising}
 

@@ -8,11 +8,11 @@ ghost use Rattle.grid_base.specs.Walks.{Joins, InVertices, InPieces, JoinsList};
 ghost use Rattle.grid_graph.specs.Weighed.{IsAllowed};
 ghost use Rattle.shortest_paths.specs.LabelWords.{labels_size, masks_of, labels_number};
 ghost use Rattle.shortest_paths.specs.LedSearches.{HasKey, AreFirst, IsFirst, found_of, work_of};
-ghost use Rattle.shortest_paths.specs.Paths.{NoneWeighsNothing};
-ghost use Rattle.shortest_paths.specs.Searches.{IsRelaxed};
+ghost use Rattle.label_search.specs.Paths.{NoneWeighsNothing};
+ghost use Rattle.label_search.specs.Searches.{IsRelaxed};
 ghost use Rattle.shortest_paths.specs.Spanning.{Link, IsSpanningTree, links_weight};
-ghost use Rattle.shortest_paths.specs.Stamped.{far};
-ghost use Rattle.steiner_span.specs.Growths.{AreKeys, AfterOffer, IsGrowing, IsTaken, FallsTo, FallsOn, SpreadsOn, IsGrown, AreLight};
+ghost use Rattle.label_search.specs.Stamped.{far};
+ghost use Rattle.steiner_span.specs.Growths.{AreKeys, AfterOffer, IsGrowing, IsTaken, FallsTo, FallsOn, RelaxesOn, IsGrown, AreLight};
 
 use crate::ahead::Ahead;
 use crate::nearest::Nearest;
@@ -61,7 +61,7 @@ fn offer<B: Bound>(labels: &mut Labels, bound: &B, to: Spot, offered: u64)
 }
 
 /// Offers each neighbour of a vertex the number that it gets from there.
-fn spread<W: Weights, B: Bound>(labels: &mut Labels, weights: &W, bound: &B, from: Spot)
+fn relax<W: Weights, B: Bound>(labels: &mut Labels, weights: &W, bound: &B, from: Spot)
     requires size { labels_size labels.old ≡ W.size weights.now }
     requires bound_size { B.size bound.now ≡ W.size weights.now }
     requires keys { AreKeys (B.rest bound.now) labels.old }
@@ -69,8 +69,8 @@ fn spread<W: Weights, B: Bound>(labels: &mut Labels, weights: &W, bound: &B, fro
     requires number { labels_number labels.old from.vertex.0 < far }
     requires positive { NoneWeighsNothing (W.pieces weights.now) }
     ensures keys { AreKeys (B.rest bound.now) labels.new }
-    ensures spreads_on { SpreadsOn (W.size weights.now) (W.pieces weights.now) labels.old labels.new }
-    ensures spread { IsRelaxed (W.size weights.now) (W.pieces weights.now) (labels_number labels.new) from.vertex.0 }
+    ensures relaxes_on { RelaxesOn (W.size weights.now) (W.pieces weights.now) labels.old labels.new }
+    ensures relaxed { IsRelaxed (W.size weights.now) (W.pieces weights.now) (labels_number labels.new) from.vertex.0 }
 {
     let reached = labels.number(from.vertex);
     for step in &spot_steps(labels.size(), from) {
@@ -136,7 +136,7 @@ fn next_terminal<W: Weights, B: Bound>(
 {
     let mut at = take(labels, weights, bound, terminals);
     while !is_unreached(labels, count, at.vertex) {
-        spread(labels, weights, bound, at);
+        relax(labels, weights, bound, at);
         at = take(labels, weights, bound, terminals);
     }
     at

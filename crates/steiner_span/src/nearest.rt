@@ -4,7 +4,7 @@ ghost use Rattle.std.specs.Prelude.{◌≡◌, ◌<◌, ◌≤◌, ℕ, All, IfS
 ghost use Rattle.grid_base.specs.Numbers.{IsInside};
 ghost use Rattle.grid_graph.specs.Floors.{AreFloors, AreWithin};
 ghost use Rattle.steiner_span.specs.Aheads.{least_rest, StandsIn};
-ghost use Rattle.shortest_paths.specs.Sets.{RisesSlowly};
+ghost use Rattle.label_search.specs.Sets.{RisesSlowly};
 
 use crate::ahead::Ahead;
 use grid_base::{NoMemory, Place, Size, Spot, Vertex};

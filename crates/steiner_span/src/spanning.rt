@@ -5,7 +5,7 @@ ghost use Rattle.grid_base.specs.Numbers.{IsVertex};
 ghost use Rattle.grid_base.specs.Walks.{Joins, InVertices};
 ghost use Rattle.grid_graph.specs.Weighed.{IsAllowed};
 ghost use Rattle.shortest_paths.specs.LabelWords.{labels_size, masks_of};
-ghost use Rattle.shortest_paths.specs.Paths.{NoneWeighsNothing};
+ghost use Rattle.label_search.specs.Paths.{NoneWeighsNothing};
 ghost use Rattle.steiner_span.specs.LightTrees.{IsLightTree};
 
 use crate::grow::grow_tree;

@@ -4,10 +4,10 @@ ghost use Rattle.std.specs.Prelude.{◌≡◌, ◌<◌, ◌≤◌, ◌+◌, ◌�
 ghost use Rattle.grid_base.specs.Numbers.{IsVertex};
 ghost use Rattle.grid_base.specs.Spots.{IsSpot};
 ghost use Rattle.steiner_span.specs.Growths.{AreBehind, IsWayBack};
-ghost use Rattle.shortest_paths.specs.Paths.{IsStepBack, IsPieceBack, NoneWeighsNothing};
+ghost use Rattle.label_search.specs.Paths.{IsStepBack, IsPieceBack, NoneWeighsNothing};
 ghost use Rattle.shortest_paths.specs.LabelWords.{labels_size, labels_number};
-ghost use Rattle.shortest_paths.specs.Searches.{IsBehind};
-ghost use Rattle.shortest_paths.specs.Stamped.{far};
+ghost use Rattle.label_search.specs.Searches.{IsBehind};
+ghost use Rattle.label_search.specs.Stamped.{far};
 
 use crate::step_back::StepBack;
 use grid_base::{NoMemory, Piece, Spot, Vertex, spot_steps};

@@ -4,7 +4,7 @@ ghost use Rattle.std.specs.Prelude.{◌≡◌, ℕ, List, map};
 ghost use Rattle.grid_base.specs.declared.piece.Piece.{Piece};
 ghost use Rattle.grid_base.specs.Walks.{InPieces};
 ghost use Rattle.grid_graph.specs.Weighed.{IsAllowed};
-ghost use Rattle.shortest_paths.specs.Sets.{IsSetOf, weight};
+ghost use Rattle.label_search.specs.Sets.{IsSetOf, weight};
 ghost use Rattle.tree_set.specs.Order.{IsRising};
 
 use grid_base::Piece;

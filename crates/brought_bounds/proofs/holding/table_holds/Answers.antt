@@ -1,6 +1,6 @@
 use Rattle.std.proofs.Common.{◌≡◌, ◌-◌, length, All, refl, ◌∙◌, subst, arith}
-use Rattle.shortest_paths.specs.Masks.{all_but_root}
-use Rattle.shortest_paths.proofs.Roots.{holds_at_root}
+use Rattle.steiner_tables.specs.Masks.{all_but_root}
+use Rattle.steiner_tables.proofs.Roots.{holds_at_root}
 use Rattle.brought_bounds.specs.TableWords.{table_number, IsRow, IsTable}
 use Rattle.brought_bounds.proofs.Held.{held, power_small}
 use Rattle.brought_bounds.proofs.holding.table_holds.Goals as goal

@@ -1,7 +1,7 @@
 use Rattle.std.proofs.Common.{◌≡◌, ◌<◌, ◌≤◌, ℕ, length}
 use Rattle.grid_base.specs.declared.vertex.Vertex.{Vertex}
 use Rattle.grid_base.specs.Lists.{At}
-use Rattle.shortest_paths.specs.Masks.{single}
+use Rattle.steiner_tables.specs.Masks.{single}
 use Rattle.brought_bounds.specs.TableWords.{table_number}
 use Rattle.brought_bounds.proofs.own.are_own.Given as goal
 

@@ -1,6 +1,6 @@
 use Rattle.std.proofs.Common.{◌+◌, refl, sym, subst, ⊎_elim, arith}
 use Rattle.std.proofs.lemmas.Bool.{cases_eq}
-use Rattle.shortest_paths.specs.Sets.{RisesSlowly}
+use Rattle.label_search.specs.Sets.{RisesSlowly}
 use Rattle.brought_bounds.specs.TableWords.{table_number}
 use Rattle.brought_bounds.proofs.rising.rows_rise.Goals as goal
 

@@ -1,5 +1,5 @@
 use Rattle.std.proofs.Common.{◌<◌, ◌≤◌, ℕ}
-use Rattle.shortest_paths.specs.Sets.{RisesSlowly}
+use Rattle.label_search.specs.Sets.{RisesSlowly}
 use Rattle.brought_bounds.specs.TableWords.{table_number}
 use Rattle.brought_bounds.proofs.rising.rows_rise.Given as goal
 

@@ -1,6 +1,6 @@
 use Rattle.std.proofs.Common.{◌+◌, ◌≤◌, refl, sym, subst, arith}
-use Rattle.shortest_paths.specs.Masks.{AreParts}
-use Rattle.shortest_paths.proofs.Masks.{parts_sum}
+use Rattle.steiner_tables.specs.Masks.{AreParts}
+use Rattle.steiner_tables.proofs.Masks.{parts_sum}
 use Rattle.brought_bounds.specs.TableWords.{table_number}
 use Rattle.brought_bounds.proofs.splitting.split_holds.Goals as goal
 

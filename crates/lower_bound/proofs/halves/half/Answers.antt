@@ -1,4 +1,4 @@
-use Rattle.std.proofs.Common.{◌≡◌, ◌/◌, false, get_or, unwrap_or, refl, ap, subst}
+use Rattle.std.proofs.Common.{◌/◌, false, get_or, unwrap_or, refl, ap, subst}
 use Rattle.std.specs.Bool.{IsTrue}
 use Rattle.std.proofs.lemmas.Option.{slice_get-get_or, get_or_from_slice_get}
 use Rattle.grid_base.specs.declared.vertex.Vertex.{Vertex}

@@ -1,4 +1,4 @@
-use Rattle.std.proofs.Common.{◌≡◌, ◌≢◌, ◌<◌, ℕ, get_or}
+use Rattle.std.proofs.Common.{◌≢◌, ◌<◌, ℕ, get_or}
 use Rattle.grid_base.specs.declared.vertex.Vertex.{Vertex}
 use Rattle.lower_bound.proofs.halves.has_twin.Given as goal
 

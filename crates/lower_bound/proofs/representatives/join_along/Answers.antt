@@ -1,9 +1,8 @@
-use Rattle.std.proofs.Common.{◌≡◌, refl, sym, ◌∙◌, subst, inl}
+use Rattle.std.proofs.Common.{refl, sym, ◌∙◌, subst, inl}
 use Rattle.grid_base.specs.declared.piece.Piece.{Piece}
 use Rattle.grid_base.specs.declared.piece.Piece.TheVariants.{Edge}
 use Rattle.grid_base.specs.declared.size.Size.{Size}
-use Rattle.grid_base.specs.Numbers.{IsPiece, Connects, start_of, end_of}
-use Rattle.grid_base.specs.Walks.{WalkBetween}
+use Rattle.grid_base.specs.Numbers.{IsPiece, Connects}
 use Rattle.grid_base.proofs.Walks.{WalkBetween-piece}
 use Rattle.grid_graph.specs.Weighed.{IsAllowed, Weighs}
 use Rattle.lower_bound.specs.Representatives.{IsFree}

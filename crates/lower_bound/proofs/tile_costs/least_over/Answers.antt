@@ -1,7 +1,5 @@
-use Rattle.std.proofs.Common.{◌≡◌, ◌+◌, ◌*◌, ℕ, false, sym, ap, subst, arith}
+use Rattle.std.proofs.Common.{◌≡◌, ◌+◌, ◌*◌, false, sym, ap, subst, arith}
 use Rattle.std.specs.Bool.{IsTrue}
-use Rattle.grid_base.specs.declared.piece.Piece.{Piece}
-use Rattle.grid_base.specs.declared.piece.Piece.TheVariants.{Edge}
 use Rattle.grid_base.specs.Numbers.{layers}
 use Rattle.grid_graph.specs.Flat.{tiles}
 use Rattle.grid_graph.specs.Weighed.{Weighs, IsAllowed}

@@ -2,7 +2,7 @@ use Rattle.std.proofs.Common.{◌≡◌, length, set, replicate, sym, ◌∙◌,
 use Rattle.std.proofs.lemmas.List.{length-set, length-replicate}
 use Rattle.grid_base.specs.Numbers.{vertices}
 use Rattle.reference_programs.specs.LowerNumbers.{unreached, listed_number, IsLowerNumber}
-use Rattle.shortest_paths.specs.Sets.{IsDistance, RisesSlowly}
+use Rattle.label_search.specs.Sets.{IsDistance, RisesSlowly}
 use Rattle.reference_programs.proofs.Lowering.{start_reached, lower_reached, slow_distance, distance_in}
 use Rattle.reference_programs.proofs.plain_paths.plain_distances.Goals as goal
 

@@ -1,7 +1,7 @@
 use Rattle.std.proofs.Common.{◌≡◌, ℕ, List, [], Option, MatchOption, sym, ◌∙◌, subst}
 use Rattle.grid_base.specs.declared.piece.Piece.{Piece}
 use Rattle.grid_base.specs.Walks.{InVertices}
-use Rattle.shortest_paths.specs.Sets.{IsLeastWeight, AreApart}
+use Rattle.label_search.specs.Sets.{IsLeastWeight, AreApart}
 use Rattle.reference_programs.specs.LeastSets.{IsLeastBeside}
 use Rattle.reference_programs.proofs.LeastSets.{least_weight, none_joins}
 use Rattle.reference_programs.proofs.plain_weights.plain_least_weight.Goals as goal

@@ -7,10 +7,10 @@ use Rattle.grid_base.specs.Numbers.{IsVertex}
 use Rattle.grid_base.specs.Walks.{Joins, InVertices}
 use Rattle.grid_graph.specs.Weighed.{IsAllowed}
 use Rattle.shortest_paths.specs.LabelWords.{label_of}
-use Rattle.shortest_paths.specs.Masks.{all_but_root}
-use Rattle.shortest_paths.specs.Stamped.{far}
-use Rattle.shortest_paths.specs.Tables.{IsLabel, answer_at}
-use Rattle.shortest_paths.proofs.Roots.{root_mask}
+use Rattle.steiner_tables.specs.Masks.{all_but_root}
+use Rattle.label_search.specs.Stamped.{far}
+use Rattle.steiner_tables.specs.Tables.{IsLabel, answer_at}
+use Rattle.steiner_tables.proofs.Roots.{root_mask}
 use Rattle.steiner_exact.proofs.Attempts.{few_masks}
 use Rattle.reference_programs.proofs.RootLabels.{joined_by_label}
 use Rattle.reference_programs.proofs.tree_tests.least_by_table.Goals as goal

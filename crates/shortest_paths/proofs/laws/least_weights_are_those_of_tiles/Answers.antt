@@ -2,7 +2,7 @@
 use Rattle.grid_base.specs.Walks.{InVertices}
 use Rattle.grid_graph.specs.Flat.{tile_of}
 use Rattle.grid_graph.specs.TilePieces.{tiles_of}
-use Rattle.shortest_paths.specs.Sets.{IsEither}
+use Rattle.label_search.specs.Sets.{IsEither}
 use Rattle.shortest_paths.proofs.TileSets.{joined_by_tiles, tiles_joined, least_by_tiles, tiles_least, tiles_of_vertices}
 use Rattle.shortest_paths.proofs.TileSets.{tiles_of_two}
 use Rattle.shortest_paths.proofs.laws.least_weights_are_those_of_tiles.Goals as goal

@@ -6,9 +6,9 @@ use Rattle.grid_base.specs.declared.spot.Spot.{Spot}
 use Rattle.grid_base.specs.declared.vertex.Vertex.{Vertex}
 use Rattle.grid_base.specs.Spots.{spot_at}
 use Rattle.grid_base.specs.Walks.{InVertices}
-use Rattle.shortest_paths.specs.Founds.{index_in}
-use Rattle.shortest_paths.specs.Rows.{size_in}
-use Rattle.shortest_paths.proofs.Finding.{listed_spot}
+use Rattle.label_search.specs.Founds.{index_in}
+use Rattle.label_search.specs.Rows.{size_in}
+use Rattle.label_search.proofs.Finding.{listed_spot}
 use Rattle.shortest_paths.proofs.led_search.find_first.Goals as goal
 
 pub find-requires : goal.find-requires

@@ -1,8 +1,8 @@
 use Rattle.std.proofs.Common.{◌≡◌, ◌<◌, ℕ, All, take}
 use Rattle.grid_base.specs.declared.vertex.Vertex.{Vertex}
 use Rattle.grid_base.specs.Walks.{InVertices}
-use Rattle.shortest_paths.specs.Founds.{index_in}
-use Rattle.shortest_paths.specs.Rows.{size_in, number_in, IsWaiting}
+use Rattle.label_search.specs.Founds.{index_in}
+use Rattle.label_search.specs.Rows.{size_in, number_in, IsWaiting}
 use Rattle.shortest_paths.proofs.led_search.find_first.Given as goal
 
 abbrev pub invariant-loop-vertex : goal.invariant-loop-vertex

@@ -1,14 +1,14 @@
 use Rattle.std.proofs.Common.{◌≡◌, ◌≢◌, ◌<◌, ◌^◌, false, sym, ◌∙◌, subst, inl, inr, ⊎_elim, arith}
 use Rattle.std.specs.Bool.{IsTrue}
-use Rattle.shortest_paths.specs.declared.found.Found.{Found}
-use Rattle.shortest_paths.specs.declared.row.Row.{Row}
-use Rattle.shortest_paths.specs.Founds.{FindsMore, index_in}
+use Rattle.label_search.specs.declared.found.Found.{Found}
+use Rattle.label_search.specs.declared.row.Row.{Row}
+use Rattle.label_search.specs.Founds.{FindsMore, index_in}
 use Rattle.shortest_paths.specs.Nearest.{IsFoundGoal}
-use Rattle.shortest_paths.specs.Rows.{number_in, Waits}
-use Rattle.shortest_paths.specs.Runs.{FallsFrom}
-use Rattle.shortest_paths.proofs.Finding.{FindsMore-refl}
+use Rattle.label_search.specs.Rows.{number_in, Waits}
+use Rattle.label_search.specs.Runs.{FallsFrom}
+use Rattle.label_search.proofs.Finding.{FindsMore-refl}
 use Rattle.shortest_paths.proofs.NearestGoals.{goal_before, nearer_of, taken_nearest, idle_nearest}
-use Rattle.shortest_paths.proofs.Spreading.{settled_on, FallsFrom-same, FallsFrom-trans}
+use Rattle.label_search.proofs.Relaxing.{settled_on, FallsFrom-same, FallsFrom-trans}
 use Rattle.shortest_paths.proofs.nearest.next_goal.Goals as goal
 
 -- a vertex was taken out and nothing else changed
@@ -49,8 +49,8 @@ returns-then-is_goal-clause-nearest g c =
     (omega (arith, c.requires.count, before.fell.found.more)) goal)
     (omega (arith, c.take-at.ensures.numbers at)) is
 
-pub spread-requires-clause-search : goal.spread-requires-clause-search
-spread-requires-clause-search g c =
+pub relax-requires-clause-search : goal.relax-requires-clause-search
+relax-requires-clause-search g c =
     let before = c.loop-bound.invariant.search in
     let taken = c.take-at.ensures in
     record {
@@ -59,8 +59,8 @@ spread-requires-clause-search g c =
       within = λ v has. omega (arith, before.within v (omega (arith, has, taken.numbers v)), taken.numbers v);
     }
 
-pub spread-requires-clause-number : goal.spread-requires-clause-number
-spread-requires-clause-number g c =
+pub relax-requires-clause-number : goal.relax-requires-clause-number
+relax-requires-clause-number g c =
     let least = c.take-at.ensures.least in
     let v = c.take-at.result.vertex.0 in
     omega (arith, c.loop-bound.invariant.search.numbered v least.key least.waits, c.take-at.ensures.numbers v)
@@ -71,9 +71,9 @@ loop-bound-preserved g c =
     let pieces = g.W.Weights.pieces c.args.weights.now in
     let old = c.loop-bound.row in
     let mid = c.take-at.new.self in
-    let new = c.spread.new.row in
+    let new = c.relax.new.row in
     let before = c.loop-bound.invariant in
-    let after = c.spread.ensures in
+    let after = c.relax.ensures in
     let taken = c.take-at.ensures in
     let count = c.args.count in
     let source = c.args.source.0 in
@@ -87,7 +87,7 @@ loop-bound-preserved g c =
           (λ v other waits. (waits.0, taken.kept v waits.0 other waits.1))
           (λ v. omega (arith, after.goes_on.fell.falls v, taken.numbers v))
           (λ v. ⊎_elim (λ same. inl (same ∙ taken.numbers v)) (λ waits. inr waits) (after.goes_on.changed v))
-          after.goes_on.kept after.spread;
+          after.goes_on.kept after.relaxed;
       fell = FallsFrom-trans s pieces c.args.row.now old new before.fell fell;
       waits = λ v goal has. ⊎_elim
           (λ same.

@@ -1,7 +1,7 @@
 use Rattle.std.proofs.Common.{◌^◌}
 use Rattle.shortest_paths.specs.Nearest.{DoGoalsWait}
-use Rattle.shortest_paths.specs.Rows.{work_left}
-use Rattle.shortest_paths.specs.Runs.{IsSearch, IsSettled, FallsFrom}
+use Rattle.label_search.specs.Rows.{work_left}
+use Rattle.label_search.specs.Runs.{IsSearch, IsSettled, FallsFrom}
 use Rattle.shortest_paths.proofs.nearest.next_goal.Given as goal
 
 abbrev pub invariant-loop-bound : goal.invariant-loop-bound

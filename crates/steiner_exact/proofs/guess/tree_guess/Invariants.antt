@@ -2,7 +2,7 @@ use Rattle.std.proofs.Common.{◌≡◌, ◌≤◌, All}
 use Rattle.grid_base.specs.declared.vertex.Vertex.{Vertex}
 use Rattle.grid_base.specs.Numbers.{IsVertex}
 use Rattle.shortest_paths.specs.LabelWords.{labels_size, masks_of}
-use Rattle.shortest_paths.specs.Stamped.{most}
+use Rattle.label_search.specs.Stamped.{most}
 use Rattle.steiner_exact.proofs.guess.tree_guess.Given as goal
 
 abbrev pub invariant-loop : goal.invariant-loop

@@ -5,8 +5,8 @@ use Rattle.grid_base.specs.declared.vertex.Vertex.{Vertex}
 use Rattle.grid_base.specs.Numbers.{IsVertex}
 use Rattle.grid_graph.specs.Weighed.{IsAllowed}
 use Rattle.shortest_paths.specs.LabelWords.{distance_of}
-use Rattle.shortest_paths.specs.Paths.{IsPath}
-use Rattle.shortest_paths.specs.Sets.{IsDistance}
+use Rattle.label_search.specs.Paths.{IsPath}
+use Rattle.label_search.specs.Sets.{IsDistance}
 use Rattle.steiner_exact.proofs.LeastSets.{first_of, second_of, joins_first_two, joined_distance, searched, both_least}
 use Rattle.steiner_exact.proofs.TwoTerminals.{joined_vertices}
 use Rattle.steiner_exact.proofs.least_path.least_path.Goals as goal

@@ -1,5 +1,5 @@
 use Rattle.std.proofs.Common.{ℕ, ◌≡◌, ◌<◌, ◌+◌}
-use Rattle.shortest_paths.specs.Masks.{bit}
+use Rattle.steiner_tables.specs.Masks.{bit}
 use Rattle.steiner_exact.proofs.masks.are_parts.Given as goal
 
 -- the terminals before this place are in one of the parts

@@ -3,12 +3,12 @@ use Rattle.std.specs.Bool.{IsTrue}
 use Rattle.grid_base.specs.declared.piece.Piece.{Piece}
 use Rattle.grid_base.specs.declared.size.Size.{Size}
 use Rattle.grid_base.specs.declared.vertex.Vertex.{Vertex}
-use Rattle.shortest_paths.specs.Searches.{IsBehind}
-use Rattle.shortest_paths.specs.Tables.{IsAlone, IsSplit, IsReachedBy}
+use Rattle.label_search.specs.Searches.{IsBehind}
+use Rattle.steiner_tables.specs.Tables.{IsAlone, IsSplit, IsReachedBy}
 use Rattle.std.specs.Option.{IfSome}
 use Rattle.grid_base.specs.declared.no_memory.NoMemory.{NoMemory}
 use Rattle.shortest_paths.specs.LabelWords.{label_of}
-use Rattle.shortest_paths.proofs.Masks.{parts_sum}
+use Rattle.steiner_tables.proofs.Masks.{parts_sum}
 use Rattle.steiner_exact.specs.Reading.{IsSplitBy, IsReadOn}
 use Rattle.steiner_exact.proofs.TreesRead.{read_end, read_both}
 use Rattle.steiner_exact.proofs.reading.+read_part.Goals as goal

@@ -1,7 +1,7 @@
 use Rattle.std.proofs.Common.{arith}
 use Rattle.grid_base.proofs.Pieces.{end_vertex}
 use Rattle.shortest_paths.specs.LabelWords.{label_of}
-use Rattle.shortest_paths.specs.Paths.{IsStepBack}
+use Rattle.label_search.specs.Paths.{IsStepBack}
 use Rattle.steiner_exact.proofs.TreesRead.{leads_nowhere, leads_more}
 use Rattle.steiner_exact.proofs.reading.follow.Goals as goal
 

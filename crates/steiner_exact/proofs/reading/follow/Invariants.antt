@@ -1,7 +1,7 @@
 use Rattle.std.proofs.Common.{◌≤◌}
 use Rattle.grid_base.specs.Numbers.{IsVertex}
 use Rattle.shortest_paths.specs.LabelWords.{label_of}
-use Rattle.shortest_paths.specs.Stamped.{most}
+use Rattle.label_search.specs.Stamped.{most}
 use Rattle.steiner_exact.specs.Reading.{LeadsTo}
 use Rattle.steiner_exact.proofs.reading.follow.Given as goal
 

@@ -1,6 +1,6 @@
 use Rattle.std.proofs.Common.{ℕ, ◌≡◌, ◌<◌}
 use Rattle.grid_base.specs.Lists.{At}
-use Rattle.shortest_paths.specs.Masks.{single}
+use Rattle.steiner_tables.specs.Masks.{single}
 use Rattle.steiner_exact.proofs.reading.is_alone.Given as goal
 
 -- no terminal before this place is the vertex and makes up the mask

@@ -1,8 +1,8 @@
 use Rattle.std.proofs.Common.{ℕ, ◌≡◌, ◌+◌, ◌-◌, ◌≤◌, subst, arith}
 use Rattle.shortest_paths.specs.LabelWords.{label_of}
-use Rattle.shortest_paths.specs.Masks.{AreParts}
-use Rattle.shortest_paths.specs.Tables.{IsSplit}
-use Rattle.shortest_paths.proofs.Masks.{parts_sum}
+use Rattle.steiner_tables.specs.Masks.{AreParts}
+use Rattle.steiner_tables.specs.Tables.{IsSplit}
+use Rattle.steiner_tables.proofs.Masks.{parts_sum}
 use Rattle.steiner_exact.specs.Reading.{IsSplitBy}
 use Rattle.steiner_exact.proofs.reading.split_of.Goals as goal
 

@@ -1,8 +1,8 @@
 use Rattle.std.proofs.Common.{ap, ◌∙◌}
 use Rattle.shortest_paths.specs.LabelWords.{label_of}
-use Rattle.shortest_paths.specs.Stamped.{far}
-use Rattle.shortest_paths.specs.Tables.{answer_at}
-use Rattle.shortest_paths.proofs.Roots.{root_mask}
+use Rattle.label_search.specs.Stamped.{far}
+use Rattle.steiner_tables.specs.Tables.{answer_at}
+use Rattle.steiner_tables.proofs.Roots.{root_mask}
 use Rattle.steiner_exact.specs.Roots.{root_of}
 use Rattle.steiner_exact.proofs.root_label.root_label.Goals as goal
 

@@ -3,9 +3,9 @@ use Rattle.grid_base.specs.declared.size.Size.{Size}
 use Rattle.grid_base.specs.Numbers.{IsVertex}
 use Rattle.grid_base.specs.declared.vertex.Vertex.{Vertex}
 use Rattle.shortest_paths.specs.LabelWords.{label_of}
-use Rattle.shortest_paths.specs.Stamped.{far}
-use Rattle.shortest_paths.specs.Tables.{IsPrunedTable}
-use Rattle.shortest_paths.proofs.Roots.{root_mask}
+use Rattle.label_search.specs.Stamped.{far}
+use Rattle.steiner_tables.specs.Tables.{IsPrunedTable}
+use Rattle.steiner_tables.proofs.Roots.{root_mask}
 use Rattle.steiner_exact.proofs.Attempts.{attempted, family_of}
 use Rattle.steiner_exact.proofs.root_search.attempt.Goals as goal
 

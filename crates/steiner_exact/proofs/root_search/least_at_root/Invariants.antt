@@ -1,6 +1,6 @@
 use Rattle.std.proofs.Common.{◌≡◌, ◌<◌, ◌≤◌, ◌-◌}
 use Rattle.shortest_paths.specs.LabelWords.{labels_size, masks_of, label_of}
-use Rattle.shortest_paths.specs.Stamped.{most}
+use Rattle.label_search.specs.Stamped.{most}
 use Rattle.steiner_exact.specs.Roots.{IsAttempt}
 use Rattle.steiner_exact.proofs.root_search.least_at_root.Given as goal
 

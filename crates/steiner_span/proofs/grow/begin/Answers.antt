@@ -7,7 +7,7 @@ use Rattle.grid_base.specs.Numbers.{IsVertex}
 use Rattle.grid_base.specs.Spots.{IsSpot, spot_at}
 use Rattle.grid_base.specs.Walks.{InVertices}
 use Rattle.shortest_paths.specs.LabelWords.{labels_size, labels_number}
-use Rattle.shortest_paths.proofs.Finding.{listed_spot}
+use Rattle.label_search.proofs.Finding.{listed_spot}
 use Rattle.steiner_span.proofs.Reaching.{start_growing, start_grown}
 use Rattle.steiner_span.proofs.grow.begin.Goals as goal
 

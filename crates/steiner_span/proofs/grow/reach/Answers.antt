@@ -4,7 +4,7 @@ use Rattle.grid_base.specs.declared.size.Size.{Size}
 use Rattle.grid_base.specs.Walks.{InVertices}
 use Rattle.steiner_span.specs.declared.step_back.StepBack.{StepBack}
 use Rattle.shortest_paths.specs.LabelWords.{labels_number}
-use Rattle.shortest_paths.specs.Sets.{RisesSlowly}
+use Rattle.label_search.specs.Sets.{RisesSlowly}
 use Rattle.steiner_span.proofs.Reaching.{IsOnWay, way_begins, way_goes_on, way_ends, seeding_begins, seeding_on, seeded_growing, no_elements}
 use Rattle.steiner_span.proofs.Growing.{taken_more}
 use Rattle.steiner_span.proofs.grow.reach.Goals as goal

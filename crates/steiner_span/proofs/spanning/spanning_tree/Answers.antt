@@ -3,7 +3,7 @@ use Rattle.std.specs.List.{Contains}
 use Rattle.grid_base.specs.declared.piece.Piece.{Piece}
 use Rattle.grid_base.specs.Walks.{InPieces, InVertices}
 use Rattle.grid_base.proofs.Joined.{Joins-superset}
-use Rattle.shortest_paths.specs.Sets.{weight}
+use Rattle.label_search.specs.Sets.{weight}
 use Rattle.shortest_paths.specs.Spanning.{links_weight}
 use Rattle.grid_graph.proofs.Weighed.{member_of_tree}
 use Rattle.steiner_span.proofs.WeighedTrees.{tree_set, within_light}

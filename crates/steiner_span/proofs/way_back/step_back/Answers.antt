@@ -5,7 +5,7 @@ use Rattle.grid_base.specs.Numbers.{IsVertex}
 use Rattle.grid_base.specs.Spots.{spot_steps}
 use Rattle.shortest_paths.specs.LabelWords.{labels_number}
 use Rattle.shortest_paths.proofs.Backwards.{NoneReachesBelow, none_more, none_past, some_reaches}
-use Rattle.shortest_paths.proofs.Spreading.{spot_step, no_step}
+use Rattle.label_search.proofs.Relaxing.{spot_step, no_step}
 use Rattle.steiner_span.proofs.way_back.step_back.Goals as goal
 use Rattle.steiner_span.proofs.way_back.step_back.Goals.{in-Some+else-reaches, in_default}
 

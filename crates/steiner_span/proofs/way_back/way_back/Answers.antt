@@ -2,7 +2,7 @@ use Rattle.std.proofs.Common.{Option, subst, arith}
 use Rattle.std.specs.Option.{IfSome}
 use Rattle.grid_base.specs.declared.piece.Piece.{Piece}
 use Rattle.grid_base.specs.declared.spot.Spot.{Spot}
-use Rattle.shortest_paths.specs.Paths.{IsStepBack}
+use Rattle.label_search.specs.Paths.{IsStepBack}
 use Rattle.shortest_paths.specs.LabelWords.{labels_number}
 use Rattle.steiner_span.proofs.way_back.way_back.Goals as goal
 

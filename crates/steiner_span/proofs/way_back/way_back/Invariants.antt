@@ -2,7 +2,7 @@ use Rattle.std.proofs.Common.{◌<◌, reverse}
 use Rattle.grid_base.specs.Spots.{IsSpot}
 use Rattle.steiner_span.specs.Growths.{IsWayBack}
 use Rattle.shortest_paths.specs.LabelWords.{labels_number}
-use Rattle.shortest_paths.specs.Stamped.{far}
+use Rattle.label_search.specs.Stamped.{far}
 use Rattle.steiner_span.proofs.way_back.way_back.Given as goal
 
 abbrev pub invariant-loop-here : goal.invariant-loop-here

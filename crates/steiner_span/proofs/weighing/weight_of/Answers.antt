@@ -1,7 +1,7 @@
 use Rattle.std.proofs.Common.{ℕ, ◌+◌, arith}
 use Rattle.std.proofs.lemmas.List.Sums.{sum_by-take-le}
 use Rattle.grid_base.specs.declared.piece.Piece.{Piece}
-use Rattle.shortest_paths.proofs.Sets.{weight-most}
+use Rattle.label_search.proofs.Sets.{weight-most}
 use Rattle.steiner_span.proofs.WeighedTrees.{tree_set, has_next}
 use Rattle.steiner_span.proofs.weighing.weight_of.Goals as goal
 

@@ -1,6 +1,6 @@
 use Rattle.std.proofs.Common.{◌≡◌, ℕ, List, map, take}
 use Rattle.grid_base.specs.declared.piece.Piece.{Piece}
-use Rattle.shortest_paths.specs.Sets.{IsSetOf, weight}
+use Rattle.label_search.specs.Sets.{IsSetOf, weight}
 use Rattle.steiner_span.proofs.weighing.weight_of.Given as goal
 
 abbrev pub invariant-loop-piece : goal.invariant-loop-piece

@@ -1,4 +1,4 @@
-use Rattle.std.proofs.Common.{sym, ◌∙◌, subst}
+use Rattle.std.proofs.Common.{sym, subst}
 use Rattle.grid_base.specs.declared.size.Size.{Size}
 use Rattle.grid_graph.specs.Flat.{IsFlatOf}
 use Rattle.edge_prices.specs.Costings.{costed_size, costed_pieces}

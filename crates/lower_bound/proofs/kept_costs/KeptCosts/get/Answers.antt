@@ -1,4 +1,4 @@
-use Rattle.std.proofs.Common.{◌≡◌, ℕ, List, Some, sym, ap, subst, ◌∙◌, eq-eqb, eqb-true}
+use Rattle.std.proofs.Common.{◌≡◌, List, Some, sym, ap, subst, ◌∙◌, eq-eqb, eqb-true}
 use Rattle.std.specs.Bool.{Decides}
 use Rattle.std.specs.Option.{IfSome}
 use Rattle.std.proofs.lemmas.Option.{slice_get-get_or}
@@ -7,7 +7,7 @@ use Rattle.grid_base.specs.contracts.vertex.VertexPartialEq.TheImpl as equal
 use Rattle.grid_base.specs.declared.vertex.Vertex.{Vertex}
 use Rattle.grid_base.specs.Lists.{At}
 use Rattle.grid_base.specs.Walks.{InVertices}
-use Rattle.shortest_paths.specs.Sets.{IsLeastWeight}
+use Rattle.label_search.specs.Sets.{IsLeastWeight}
 use Rattle.lower_bound.specs.declared.kept_costs.KeptCost.{KeptCost}
 use Rattle.lower_bound.proofs.kept_costs.KeptCosts.get.Goals as goal
 

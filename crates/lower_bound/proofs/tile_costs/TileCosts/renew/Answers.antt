@@ -1,11 +1,11 @@
-use Rattle.std.proofs.Common.{◌≡◌, ◌<◌, ◌≤◌, ℕ, List, length, slice_index, sym, ap, subst, ◌∙◌}
+use Rattle.std.proofs.Common.{◌≡◌, ◌<◌, ◌≤◌, ℕ, List, length, slice_index, sym, subst, ◌∙◌}
 use Rattle.std.proofs.lemmas.List.{with_items_is}
 use Rattle.grid_base.specs.declared.size.Size.{Size}
 use Rattle.grid_base.specs.Numbers.{edge_axis}
 use Rattle.grid_graph.specs.Floors.{floor_along}
 use Rattle.grid_graph.specs.TilePieces.{AreLeastBetweenTiles}
 use Rattle.grid_graph.specs.Weighed.{WeighsOnlyPieces}
-use Rattle.lower_bound.specs.TileCosts.{AreLeastOnAll, costs_between}
+use Rattle.lower_bound.specs.TileCosts.{costs_between}
 use Rattle.lower_bound.proofs.CostLists.{AreKept, kept, costs_known, between_layers}
 use Rattle.lower_bound.proofs.tile_costs.TileCosts.renew.Goals as goal
 

@@ -2,7 +2,7 @@ use Rattle.std.proofs.Common.{slice_index, sym, subst}
 use Rattle.grid_base.specs.declared.piece.Piece.{Piece}
 use Rattle.grid_graph.specs.Weighed.{IsAllowed, Weighs}
 use Rattle.lower_bound.specs.TileCosts.{costs_between}
-use Rattle.lower_bound.proofs.CostLists.{edge, has_cost, cost_is, no_via}
+use Rattle.lower_bound.proofs.CostLists.{has_cost, cost_is, no_via}
 use Rattle.lower_bound.proofs.tile_costs.TileCostsWeights.allows.Goals as goal
 
 pub returns-in-Edge : goal.returns-in-Edge

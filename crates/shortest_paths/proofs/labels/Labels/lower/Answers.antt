@@ -1,5 +1,5 @@
 use Rattle.std.proofs.Common.{refl, arith}
-use Rattle.shortest_paths.proofs.Finding.{still_found}
+use Rattle.label_search.proofs.Finding.{still_found}
 use Rattle.shortest_paths.proofs.labels.Labels.lower.Goals as goal
 
 pub returns : goal.returns

@@ -8,12 +8,12 @@ use Rattle.grid_base.proofs.Walks.{WalkBetween-sym}
 use Rattle.grid_base.proofs.Pieces.{end_vertex}
 use Rattle.grid_graph.specs.Weighed.{IsAllowed}
 use Rattle.shortest_paths.specs.LabelWords.{labels_number}
-use Rattle.shortest_paths.specs.Paths.{IsPath, IsStepBack}
+use Rattle.label_search.specs.Paths.{IsPath, IsStepBack}
 use Rattle.shortest_paths.proofs.Backwards.{path_more, path_back, path_set}
 use Rattle.shortest_paths.proofs.Distances.{answer_found, distance_least}
-use Rattle.shortest_paths.proofs.Pruned.{answer_at-some}
-use Rattle.shortest_paths.specs.Stamped.{far}
-use Rattle.shortest_paths.proofs.Sets.{joins_ends}
+use Rattle.steiner_tables.proofs.Pruned.{answer_at-some}
+use Rattle.label_search.specs.Stamped.{far}
+use Rattle.label_search.proofs.Sets.{joins_ends}
 use Rattle.shortest_paths.proofs.labels.Labels.path_to.Goals as goal
 
 pub loop-here-smaller : goal.loop-here-smaller

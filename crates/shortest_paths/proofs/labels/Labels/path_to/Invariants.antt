@@ -1,8 +1,8 @@
 use Rattle.std.proofs.Common.{◌+◌, ◌≤◌, ℕ}
 use Rattle.grid_base.specs.Numbers.{IsVertex}
 use Rattle.shortest_paths.specs.LabelWords.{labels_number}
-use Rattle.shortest_paths.specs.Paths.{IsPath}
-use Rattle.shortest_paths.specs.Stamped.{most}
+use Rattle.label_search.specs.Paths.{IsPath}
+use Rattle.label_search.specs.Stamped.{most}
 use Rattle.shortest_paths.proofs.labels.Labels.path_to.Given as goal
 
 abbrev pub invariant-loop-here : goal.invariant-loop-here

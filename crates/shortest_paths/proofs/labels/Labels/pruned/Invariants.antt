@@ -1,7 +1,7 @@
 use Rattle.std.proofs.Common.{◌≡◌, ◌-◌}
 use Rattle.shortest_paths.specs.LabelWords.{labels_size, masks_of, label_of}
-use Rattle.shortest_paths.specs.Stamped.{far}
-use Rattle.shortest_paths.specs.Tables.{IsPrunedTable}
+use Rattle.label_search.specs.Stamped.{far}
+use Rattle.steiner_tables.specs.Tables.{IsPrunedTable}
 use Rattle.shortest_paths.proofs.labels.Labels.pruned.Given as goal
 
 abbrev pub invariant-loop-mask : goal.invariant-loop-mask

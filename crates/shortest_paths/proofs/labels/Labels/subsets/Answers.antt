@@ -1,11 +1,11 @@
 use Rattle.std.proofs.Common.{◌-◌, length, refl, subst, arith}
 use Rattle.shortest_paths.specs.LabelWords.{label_of}
-use Rattle.shortest_paths.specs.Masks.{all_but_root}
-use Rattle.shortest_paths.specs.NoFamilies.{nothing_holds}
-use Rattle.shortest_paths.specs.Stamped.{most, far}
-use Rattle.shortest_paths.specs.Tables.{IsPrunedTable}
-use Rattle.shortest_paths.proofs.Seeding.{single_of, root_below}
-use Rattle.shortest_paths.proofs.Pruned.{IsPrunedBy, exact_label, reached_exactly}
+use Rattle.steiner_tables.specs.Masks.{all_but_root}
+use Rattle.steiner_tables.specs.NoFamilies.{nothing_holds}
+use Rattle.label_search.specs.Stamped.{most, far}
+use Rattle.steiner_tables.specs.Tables.{IsPrunedTable}
+use Rattle.steiner_tables.proofs.Seeding.{single_of, root_below}
+use Rattle.steiner_tables.proofs.Pruned.{IsPrunedBy, exact_label, reached_exactly}
 use Rattle.shortest_paths.proofs.labels.Labels.subsets.Goals as goal
 
 pub returns-clause-reached : goal.returns-clause-reached

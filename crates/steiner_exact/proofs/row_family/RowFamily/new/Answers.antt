@@ -5,9 +5,9 @@ use Rattle.grid_base.specs.declared.size.Size.{Size}
 use Rattle.grid_base.specs.declared.vertex.Vertex.{Vertex}
 use Rattle.grid_graph.specs.Flat.{AreLeastOver}
 use Rattle.shortest_paths.specs.LabelWords.{label_of}
-use Rattle.shortest_paths.specs.Stamped.{far}
-use Rattle.shortest_paths.specs.Masks.{all_of}
-use Rattle.shortest_paths.specs.Tables.{IsFamily, IsPrunedTable}
+use Rattle.label_search.specs.Stamped.{far}
+use Rattle.steiner_tables.specs.Masks.{all_of}
+use Rattle.steiner_tables.specs.Tables.{IsFamily, IsPrunedTable}
 use Rattle.steiner_exact.specs.FlatPieces.{edges_with}
 use Rattle.grid_graph.specs.TilePieces.{tiles_of}
 use Rattle.steiner_exact.proofs.RowLaws.{over_family, pruned_table}

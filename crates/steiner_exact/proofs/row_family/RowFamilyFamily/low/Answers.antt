@@ -5,8 +5,8 @@ use Rattle.grid_base.specs.Numbers.{layers, layer_of}
 use Rattle.grid_base.proofs.Places.{place_at-inside}
 use Rattle.grid_graph.specs.Flat.{tile_of}
 use Rattle.shortest_paths.specs.LabelWords.{label_of}
-use Rattle.shortest_paths.specs.Stamped.{far}
-use Rattle.shortest_paths.specs.Tables.{completed}
+use Rattle.label_search.specs.Stamped.{far}
+use Rattle.steiner_tables.specs.Tables.{completed}
 use Rattle.steiner_exact.specs.declared.terminal_box.TerminalBox.{TerminalBox}
 use Rattle.steiner_exact.specs.Boxes.{box_of, width_with}
 use Rattle.grid_graph.specs.TilePieces.{tiles_of}

@@ -2,8 +2,8 @@ use Rattle.std.proofs.Common.{◌≡◌, ◌<◌, ◌≤◌, List, length, take,
 use Rattle.std.proofs.lemmas.Grind.{common_steps}
 use Rattle.std.proofs.lemmas.List.Elements.{All-more, All-weaker, All-contains, Contains-get_or}
 use Rattle.grid_base.specs.declared.place.Place.{Place}
-use Rattle.shortest_paths.specs.Floors.{floor_distance, floor_rest}
-use Rattle.shortest_paths.proofs.FloorSteps.{floor_rest-vertex}
+use Rattle.label_search.specs.Floors.{floor_distance, floor_rest}
+use Rattle.label_search.proofs.FloorSteps.{floor_rest-vertex}
 use Rattle.steiner_span.proofs.LeastRest.{least_far, least_below, least_above}
 use Rattle.steiner_span.proofs.nearest.NearestBound.rest.Goals as goal
 

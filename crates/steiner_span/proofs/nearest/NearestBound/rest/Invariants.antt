@@ -1,8 +1,8 @@
 use Rattle.std.proofs.Common.{◌≤◌, All, take}
 use Rattle.grid_base.specs.declared.place.Place.{Place}
 use Rattle.steiner_span.specs.Aheads.{least_rest}
-use Rattle.shortest_paths.specs.Floors.{floor_distance}
-use Rattle.shortest_paths.specs.Stamped.{far}
+use Rattle.label_search.specs.Floors.{floor_distance}
+use Rattle.label_search.specs.Stamped.{far}
 use Rattle.steiner_span.proofs.nearest.NearestBound.rest.Given as goal
 
 abbrev pub invariant-loop-goal : goal.invariant-loop-goal

@@ -1,0 +1,14 @@
+pub mod Gaps
+pub mod Held
+pub mod Order
+pub mod Pigeons
+pub mod Law
+pub mod Sets
+pub mod Offers
+pub mod Relaxing
+pub mod FloorSteps
+pub mod Forests
+pub mod Finding
+pub mod RowSteps
+pub mod LeastNumbers
+pub mod Starts

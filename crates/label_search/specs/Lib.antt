@@ -1,0 +1,13 @@
+pub mod Heaps
+pub mod Held
+pub mod Searches
+pub mod Sets
+pub mod Stamped
+pub mod Paths
+pub mod Floors
+pub mod Finding
+pub mod Founds
+pub mod Rows
+pub mod RowParts
+pub mod Runs
+pub mod Starts

@@ -1,9 +1,0 @@
-use Rattle.std.proofs.Common.{◌≡◌, ◌<◌, ℕ, length, get_or}
-use Rattle.shortest_paths.specs.Finding.{unset}
-use Rattle.shortest_paths.proofs.found.clear_stamps.Given as goal
-
-abbrev pub invariant-loop-each : goal.invariant-loop-each
-invariant-loop-each l = record {
-  length : length l.slots ≡ length l.initial.slots;
-  cleared : (v : ℕ) → v < l.each-index → (get_or l.slots v unset).stamp ≡ 0;
-}

@@ -1,9 +1,0 @@
-use Rattle.std.proofs.Common.{arith}
-use Rattle.shortest_paths.proofs.Held.{read}
-use Rattle.shortest_paths.proofs.Order.{root_least}
-use Rattle.shortest_paths.proofs.heap.Heap.least.Goals as goal
-
-pub returns-clause-least : goal.returns-clause-least
-returns-clause-least c =
-    let s = c.args.self.now in
-    λ u k held. omega (arith, read s.keys.items 0 _ (omega arith) c.index.ensures, root_least s.keys.items s.len held.place s.ordered held.inside, held.valued)

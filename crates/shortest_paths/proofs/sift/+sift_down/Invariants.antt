@@ -1,5 +1,0 @@
-use Rattle.std.proofs.Common.{◌-◌}
-use Rattle.shortest_paths.proofs.sift.+sift_down.Given as goal
-
-abbrev pub decreases-sift_down : goal.decreases-sift_down
-decreases-sift_down l = l.len - l.gap

@@ -1,4 +1,0 @@
-use Rattle.shortest_paths.proofs.sift.+sift_up.Given as goal
-
-abbrev pub decreases-sift_up : goal.decreases-sift_up
-decreases-sift_up l = l.gap
