@@ -21,10 +21,10 @@ found=$(rt version 2>/dev/null || true)
 
 room=$(mktemp -d)
 prover=
-# leave STATUS: ends the prover too, where it still runs
+# leave STATUS: ends the prover too, where it still runs; its checks may write a moment longer than it does
 leave() {
     [ -z "$prover" ] || { kill "$prover" 2>/dev/null && wait "$prover"; } || true
-    rm -rf "$room"
+    rm -rf "$room" 2>/dev/null || { sleep 2 && rm -rf "$room"; }
     trap - EXIT
     exit "$1"
 }
