@@ -1,10 +1,14 @@
 # How far the gate is, from its log. Behind `shown` crates a line for each further one that is done, or with now=1 one line:
 #   proved 12 of 34 crates, route_judge last; 6 min so far, about 14 min left
-# The files are the costs of crates in processor seconds, the crates that are wanted, and the log.
-FILENAME ~ /costs\.txt$/ { if ($1 !~ /^#/) cost[$1] = $2; next }
+# The files are docs/AUDIT.md, whose table of five columns has what crates cost in processor seconds, the crates that are wanted,
+# and the log.
+FILENAME ~ /AUDIT\.md$/ {
+    if (split($0, cell, "|") == 7 && gsub(/[ `]/, "", cell[2])) cost[cell[2]] = cell[3] + 0
+    next
+}
 FILENAME ~ /crates\.txt$/ {
     sub(/:.*/, "")
-    if (!($0 in cost)) cost[$0] = 100
+    if (!cost[$0]) cost[$0] = 100
     is_wanted[$0] = 1
     count++
     left += cost[$0]

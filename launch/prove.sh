@@ -54,7 +54,7 @@ processors=$(getconf _NPROCESSORS_ONLN 2>/dev/null || echo 1)
 # far HOW: how far the gate is, in the words of launch/progress.awk
 far() {
     awk -v "$1" -v seconds="$(($(date +%s) - begin))" -v processors="$processors" -f "$top/launch/progress.awk" \
-        "$top/launch/costs.txt" "$room/crates.txt" "$room/log"
+        "$top/docs/AUDIT.md" "$room/crates.txt" "$room/log"
 }
 
 say "proving and building both programs on $processors processors; later starts are immediate"
