@@ -30,7 +30,7 @@ leave() {
 }
 trap 'leave 126' EXIT
 trap 'leave 129' HUP
-trap 'say "stopped; what is proved by now is kept"; leave 130' INT
+trap 'echo >&2; say "stopped; what is proved by now is kept"; leave 130' INT
 trap 'leave 143' TERM
 
 # the copy; the gate wants the top of a repository
