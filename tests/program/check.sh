@@ -591,6 +591,41 @@ printf '%s\n' 'refused 8' >"$room/wanted"
 got=$?
 judge 'want of memory' 8
 
+# ---- the launchers
+
+# They stand beside the built programs here, which are newer than all else, so that nothing is left to prove.
+house=$room/house
+mkdir -p "$house/docs"
+cp -R "$top/launch" "$top/grouter" "$top/unavoidable" "$house"
+cp "$top/docs/FORMATS.md" "$house/docs"
+printf '%s\n' grouter: unavoidable: >"$house/crates.txt"
+for each in grouter unavoidable; do
+    mkdir -p "$house/crates/$each/out"
+    cp "$room/$each" "$house/crates/$each/out"
+done
+for each in grouter unavoidable; do
+    program=$house/$each
+    help=$(awk -v name="$each" '/^```/ { inside = $0 == "```help-" name; next } inside' "$top/docs/FORMATS.md")
+    [ -n "$help" ]
+    got=$?
+    : >"$room/wanted"
+    : >"$room/said"
+    judge "$each: there is a text of help" 0
+    expect "$each: help" 0 "$help" --help
+    expect "$each: help behind other words" 0 "$help" route --help
+    "$room/$each" </dev/null >"$room/wanted"
+    "$program" </dev/null >"$room/said" 2>"$room/hint"
+    got=$?
+    judge "$each: no words" 2
+    echo "$each: ./$each --help shows the words, with an example of each command" >"$room/wanted"
+    mv "$room/hint" "$room/said"
+    got=0
+    judge "$each: a line on help, where there are no words" 0
+done
+program=$house/grouter
+expect 'the launcher hands on words and status' 3 'refused 3 11 44 capacity' route misspelled.gr a.routes a.cert
+program=$room/grouter
+
 # ---- what all runs left
 
 ls -R . >"$room/said"
