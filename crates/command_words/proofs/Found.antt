@@ -1,19 +1,14 @@
 -- What clap finds in the words of a command, and when it refuses them.
-use Rattle.std.proofs.Common.{◌≡◌, ◌∙◌, ◌++◌, ◌&&◌, ◌||◌, ℕ, zero, suc, Bool, true, false, not, refl, sym, ap, subst, arith, true≢false, List, [], ◌∷◌, map, Option, Some, None, Result, nat_le}
-use Rattle.std.specs.Prelude.{cond, find, fold, is_some, option_and_then, option_map, slice_get}
-use Rattle.std.specs.Option.{option_map_or}
-use Rattle.std.specs.List.{AllByRecursion, list_all, list_any}
+use Rattle.std.proofs.Common.{◌≡◌, ◌∙◌, ◌&&◌, ◌||◌, ℕ, Bool, true, false, not, refl, sym, ap, subst, arith, true≢false, List, [], ◌∷◌, map, Option, Some, None, Result, nat_le}
+use Rattle.std.specs.Prelude.{cond, find, fold, is_some, option_and_then, option_map}
+use Rattle.std.specs.List.{list_all, list_any}
 use Rattle.std.specs.Str.{bytes_eq}
 use Rattle.std.specs.Str.Parse.{ParsesUnsigned, digits_value}
 use Rattle.std.proofs.lemmas.Bool.Decides.{nat_tests}
-use Rattle.std.proofs.lemmas.List.{map-append}
-use Rattle.std.proofs.lemmas.List.Folds.{list_any-append}
 use Rattle.std.proofs.lemmas.Slice.Eq.{bytes_eq-Decides}
 use Rattle.std.proofs.Math.Bool.{or-false}
-use Rattle.clap.specs.Words.{Row, Rule, Text, first_of, matches_of, one_of, read_as}
-use Rattle.clap.specs.Facts.{explicit_source}
+use Rattle.clap.specs.Words.{Row, Rule, Text, matches_of, one_of, read_as}
 use Rattle.clap.specs.Simple.{built}
-use Rattle.clap.specs.Takes.{is_given}
 use Rattle.clap.specs.Walk.{Held, Walk, finished, has_row, idle, nothing_held, reading_by, row_text, settled, walk, with_default}
 use Rattle.clap.specs.Faults.{check_fault, defaults_fault, fault_of, settle_fault, values_fault}
 use Rattle.clap.specs.Kinds.{Kinds, or_else}
@@ -27,7 +22,7 @@ use Rattle.command_words.specs.CommandLine.{IsOptionValue, OptionForm, all_diffe
 use Rattle.command_words.specs.Kinds.{form_of, id_of, option_of}
 use Rattle.command_words.specs.Apps.{app_of_kind, default_text}
 use Rattle.command_words.proofs.Walks.{at, or_else-nil}
-use Rattle.command_words.proofs.Uses.{AreSingle, AreUses, Use, after_uses, all_faults, all_faults_are, faults_of, ids_of, not_true, or_else_assoc, parts_true, row_for, rows_after_uses, uses_fault, uses_walk, with_use}
+use Rattle.command_words.proofs.Uses.{AreSingle, AreUses, Use, after_uses, all_faults, all_faults_are, faults_of, ids_of, parts_true, row_for, rows_after_uses, uses_fault, uses_walk}
 use Rattle.command_words.proofs.Defaults.{default_is_found, found_stays, no_default_fault, row_at}
 use Rattle.command_words.proofs.Values.{accepts_is, in_range, no_hyphen, reads_number}
 use Rattle.command_words.proofs.Rules.{HasDefault, IsOption, is_given_in_range, known, of_option, option_word, rule_for, rule_is, rules, shape, sound}

@@ -1,18 +1,17 @@
 -- The words of a command taken apart, and what a parse of them gives.
-use Rattle.std.proofs.Common.{◌≡◌, ◌∙◌, ◌++◌, ◌==◌, ◌&&◌, ◌+◌, ◌<◌, ℕ, zero, suc, true, eqb, refl, sym, ap, ap₂, subst, arith, true≢false, List, [], ◌∷◌, map, length, take, drop, Option, Some, None, Result}
-use Rattle.std.specs.Prelude.{IfSome, IsSome, find, option_map, slice_get, slice_index_or}
-use Rattle.std.specs.Borrow.{Bor}
+use Rattle.std.proofs.Common.{◌≡◌, ◌∙◌, ◌==◌, ◌&&◌, ◌+◌, ◌<◌, ℕ, zero, suc, true, refl, sym, ap, ap₂, subst, arith, true≢false, List, [], ◌∷◌, map, length, take, drop, Option, Some, None, Result}
+use Rattle.std.specs.Prelude.{IfSome, IsSome, find, slice_get}
 use Rattle.std.specs.List.{list_all}
 use Rattle.std.specs.Str.{bytes_eq}
-use Rattle.std.specs.Str.Parse.{HasUnsignedDigitsIfOk, ParsesUnsigned, digits_value}
+use Rattle.std.specs.Str.Parse.{HasUnsignedDigitsIfOk, ParsesUnsigned}
 use Rattle.std.proofs.lemmas.Bool.Decides.{nat_tests}
-use Rattle.clap.specs.Words.{Row, Text, fault_of, first_of, first_value, found_of, matches_of, one_of, one_text, rows_of}
+use Rattle.clap.specs.Words.{Row, Text, fault_of, found_of, matches_of, one_of, one_text, rows_of}
 use Rattle.clap.specs.Matches.{ReadsOne}
 use Rattle.clap.specs.declared.parser.matches.ArgMatches.{ArgMatches}
-use Rattle.clap.proofs.WalkLemmas.{first_value-rows, one_text-rows}
+use Rattle.clap.proofs.WalkLemmas.{one_text-rows}
 use Rattle.command_words.specs.declared.kind.Kind.{Kind}
 use Rattle.command_words.specs.declared.option_name.OptionName.{OptionName}
-use Rattle.command_words.specs.CommandLine.{CommandForm, IsOptionValue, OptionForm, all_differ, are_names, are_options, are_pairs, begins_with, given_options, has_option, has_shape, has_values_in_range, in_pairs, is_command_of, is_file_name, is_value_word, most_seed, names_in, option_words, value_for, value_or}
+use Rattle.command_words.specs.CommandLine.{CommandForm, IsOptionValue, OptionForm, all_differ, are_names, are_options, are_pairs, begins_with, given_options, has_option, has_shape, has_values_in_range, in_pairs, is_command_of, names_in, option_words, value_for, value_or}
 use Rattle.command_words.specs.Kinds.{form_of, id_of, option_of}
 use Rattle.command_words.specs.Apps.{AreReadWords, app_of_kind, found_in}
 use Rattle.command_words.proofs.Uses.{all_faults, parts_true}
@@ -149,11 +148,6 @@ name_is form [] place t below is = absurd (cc)
 name_is form (word ∷ words) place t below is =
     let next : suc place ≡ place + 1 = omega arith in
     slice_get-front form.names place words below ∙ ap (slice_get (word ∷ words)) next ∙ is
-
-pub one_name : (xs : List Text) (a : Text) → length xs ≡ 1 → slice_get xs 0 ≡ Some a → xs ≡ a ∷ []
-one_name [] a count first = cc
-one_name (x ∷ []) a count first = cc
-one_name (x ∷ y ∷ xs) a count first = absurd (omega (arith, count))
 
 pub two_names : (xs : List Text) (a b : Text) → length xs ≡ 2 → slice_get xs 0 ≡ Some a → slice_get xs 1 ≡ Some b → xs ≡ a ∷ b ∷ []
 two_names [] a b count first second = cc

@@ -1,13 +1,12 @@
 -- The options of each command as clap builds them. A command has its place in one table here, and an option in another.
-use Rattle.std.proofs.Common.{◌≡◌, ◌∙◌, ◌++◌, append-nil, append_assoc, ◌+◌, ◌<◌, ◌^◌, ◌&&◌, ◌||◌, ℕ, suc, Bool, true, false, not, refl, sym, ap, subst, arith, true≢false, List, [], ◌∷◌, map, length, Option, Some, None}
-use Rattle.std.specs.Prelude.{⊤, cond, fold, min, option_and_then}
+use Rattle.std.proofs.Common.{◌≡◌, ◌∙◌, ◌++◌, append-nil, append_assoc, ◌<◌, ◌^◌, ◌&&◌, ◌||◌, ℕ, Bool, true, false, not, refl, sym, ap, subst, arith, true≢false, List, [], ◌∷◌, Option, Some, None}
+use Rattle.std.specs.Prelude.{cond, fold, option_and_then}
 use Rattle.std.specs.List.{AllByRecursion, list_any}
 use Rattle.std.specs.Str.{bytes_eq}
 use Rattle.std.specs.Str.Parse.{digits_value}
-use Rattle.std.proofs.lemmas.List.{length-map}
 use Rattle.std.proofs.lemmas.Slice.Eq.{bytes_eq-Decides}
-use Rattle.clap.specs.Words.{App, Row, Rule, Text, is_simple, new_app, with_rule}
-use Rattle.clap.specs.Lexer.{long_of, usize_max}
+use Rattle.clap.specs.Words.{Row, Rule, Text, is_simple, new_app, with_rule}
+use Rattle.clap.specs.Lexer.{long_of}
 use Rattle.clap.specs.Simple.{Shape, built, filled}
 use Rattle.clap.specs.Takes.{is_given}
 use Rattle.clap.specs.Walk.{arg_by_id, arg_by_long, row_text}
@@ -20,7 +19,7 @@ use Rattle.command_words.specs.declared.option_name.OptionName.TheVariants.{Work
 use Rattle.command_words.specs.CommandLine.{IsOptionValue, OptionForm, has_option, is_in_range, is_value_word}
 use Rattle.command_words.specs.Kinds.{form_of, id_of, option_of, options_of}
 use Rattle.command_words.specs.Apps.{app_of_kind, app_with, default_text, option_rule}
-use Rattle.command_words.proofs.Walks.{IsOptionWord, IsSingle}
+use Rattle.command_words.proofs.Walks.{IsOptionWord}
 use Rattle.command_words.proofs.Defaults.{HaveFineDefaults, default_found}
 use Rattle.command_words.proofs.Values.{in_range}
 
