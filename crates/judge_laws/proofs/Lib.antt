@@ -9,7 +9,6 @@ pub mod Resources
 pub mod TrueClaims
 pub mod CertLimits
 pub mod OneVerdict
-pub mod AlikeGrids
 pub mod AlikeDesigns
 pub mod OneCert
 pub mod OneTextVerdict

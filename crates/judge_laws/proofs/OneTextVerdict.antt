@@ -1,16 +1,13 @@
 -- Three texts have one verdict, one measure, and meet whatever design, blocks and certificate they read as.
-use Rattle.std.proofs.Common.{◌≡◌, ℕ, List, Option, Some, None, Ok, refl, sym, ◌∙◌, subst}
-use Rattle.std.specs.Option.{ForSome}
-use Rattle.std.proofs.lemmas.Option.{same_Some}
+use Rattle.std.proofs.Common.{◌≡◌, ℕ, List, Option, None, Ok, sym, ◌∙◌}
 use Rattle.cert_text.specs.declared.cert.Cert.{Cert}
 use Rattle.grid_graph.specs.declared.design.Design.{Design}
 use Rattle.grid_graph.specs.declared.ground.Ground.{Ground}
 use Rattle.grid_graph.specs.Alike.{AreAlikeDesigns}
 use Rattle.ispd_reader.proofs.Alike.{one_design}
 use Rattle.route_text.specs.declared.block.Block.{Block}
-use Rattle.tree_set.specs.declared.budget.Budget.{Budget}
 use Rattle.tree_set.specs.declared.measure.Measure.{Measure}
-use Rattle.tree_set.specs.Budgets.{IsWithinLimits, MayBeBudget, most_of}
+use Rattle.tree_set.specs.Budgets.{IsWithinLimits, most_of}
 use Rattle.route_judge.specs.declared.reason.Reason.{Reason}
 use Rattle.route_judge.specs.Judgements.{IsJudged}
 use Rattle.route_judge.specs.Measured.{AreMeasured}
@@ -19,11 +16,7 @@ use Rattle.judge_laws.specs.TextVerdicts.{AreTextsOf, IsVerdictOn}
 use Rattle.judge_laws.proofs.AlikeDesigns.{judged_alike, measured_once, meet_alike}
 use Rattle.judge_laws.proofs.OneCert.{one_cert, cert_within}
 use Rattle.judge_laws.proofs.OneVerdict.{verdict_once}
-
--- a budget within the limits is one
-may : (budget : Option Budget) → IsWithinLimits budget → ForSome (most_of budget) MayBeBudget
-may None within most is = absurd (cc is)
-may (Some b) within most is = subst MayBeBudget (same_Some b.most most is) (within b refl).0
+use Rattle.judge_laws.proofs.TrueClaims.{budget_positive}
 
 -- two readings of three texts
 module _ (design routes certificate : List ℕ) (d e : Design) (over others : List Ground) (blocks more : List Block) (cert again : Cert)
@@ -49,7 +42,7 @@ module _ (design routes certificate : List ℕ) (d e : Design) (over others : Li
       → AreMeasured e others more (most_of again.budget) other much → (one ≡ other) × (few ≡ much)
   one_measurement one other few much measured too =
       measured_once d e over others more (most_of again.budget) one other few much alike first.grounds second.grounds
-      (may again.budget within) (rw (same_blocks, same_cert) at measured) too
+      (budget_positive again.budget within) (rw (same_blocks, same_cert) at measured) too
 
   pub meet_too : Meet d over blocks cert → Meet e others more again
   meet_too meet = meet_alike d e over others more again alike first.grounds second.grounds (rw (same_blocks, same_cert) at meet)

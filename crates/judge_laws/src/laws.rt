@@ -1,6 +1,6 @@
 //! What the words of the contracts amount to. Nothing is computed here: each contract is a law.
 
-ghost use Rattle.std.specs.Prelude.{ℕ, ◌≡◌, ◌↔◌, ◌≤◌, List, All, Option, Some, None};
+ghost use Rattle.std.specs.Prelude.{ℕ, ◌≡◌, ◌↔◌, ◌<◌, ◌≤◌, List, All, Option, Some, None};
 ghost use Rattle.std.specs.Option.{ForSome};
 ghost use Rattle.cert_text.specs.declared.cert.Cert.{Cert};
 ghost use Rattle.cert_text.specs.Certs.{IsCertOf, IsCertWithin};
@@ -17,7 +17,7 @@ ghost use Rattle.grid_graph.specs.declared.ground.Ground.{Ground};
 ghost use Rattle.grid_graph.specs.Grounds.{AreGrounds};
 ghost use Rattle.tree_set.specs.declared.fraction.Fraction.{Fraction};
 ghost use Rattle.tree_set.specs.declared.measure.Measure.{Measure};
-ghost use Rattle.tree_set.specs.Budgets.{IsWithinLimits, MayBeBudget, most_of};
+ghost use Rattle.tree_set.specs.Budgets.{IsWithinLimits, most_of};
 ghost use Rattle.tree_set.specs.Order.{IsRising};
 ghost use Rattle.route_text.specs.declared.block.Block.{Block};
 ghost use Rattle.route_text.specs.Written.{written_blocks};
@@ -67,7 +67,7 @@ pub fn alike_designs_are_judged_alike()
         → AreAlikeDesigns d e → AreGrounds d.grid d.nets over → AreGrounds e.grid e.nets others
         → IsJudged d over blocks cert reason ↔ IsJudged e others blocks cert reason }
     ensures measured { (d e : Design) (over others : List Ground) (blocks : List Block) (budget : Option ℕ) (one other : Measure) (few more : ℕ)
-        → AreAlikeDesigns d e → AreGrounds d.grid d.nets over → AreGrounds e.grid e.nets others → ForSome budget MayBeBudget
+        → AreAlikeDesigns d e → AreGrounds d.grid d.nets over → AreGrounds e.grid e.nets others → ForSome budget (λ most. 0 < most)
         → AreMeasured d over blocks budget one few → AreMeasured e others blocks budget other more → (one ≡ other) × (few ≡ more) }
 {}
 
