@@ -1,5 +1,6 @@
 -- Words begin with the word of one command at most.
 use Rattle.std.proofs.Common.{◌≡◌, ◌∙◌, ◌&&◌, true, false, refl, sym, ap, true≢false, List, [], ◌∷◌, Result, Ok, Err, IfErr}
+use Rattle.std.proofs.lemmas.Bool.{and_parts}
 use Rattle.std.proofs.Math.Bool.{or-false}
 use Rattle.std.specs.Str.{bytes_eq}
 use Rattle.std.proofs.lemmas.Slice.Eq.{bytes_eq-Decides}
@@ -11,7 +12,6 @@ use Rattle.command_words.specs.declared.words_error.WordsError.TheVariants.{Refu
 use Rattle.command_words.specs.declared.kind.Kind.TheVariants.{Route, Measure, Judge, Make, Trial}
 use Rattle.command_words.specs.CommandLine.{are_names, are_options, begins_with, has_shape, has_values_in_range, is_command, is_command_of, names_in, option_words}
 use Rattle.command_words.specs.Kinds.{form_of}
-use Rattle.command_words.proofs.Uses.{parts_true}
 
 no_word_of : (first : Text) (rest : List Text) → ((kind : Kind) → bytes_eq first (form_of kind).word ≡ false) → is_command (first ∷ rest) ≡ false
 no_word_of first rest none = rw (none Route, none Measure, none Judge, none Make, none Trial) refl
@@ -39,7 +39,7 @@ refused : (kind : Kind) (words : List Text) → has_shape (form_of kind) words �
 refused kind [] shaped none = absurd (true≢false (sym shaped))
 refused kind (first ∷ rest) shaped none =
     let words = first ∷ rest in
-    no_other kind first rest (parts_true (begins_with (form_of kind).word words)
+    no_other kind first rest (and_parts (begins_with (form_of kind).word words)
     (are_names (form_of kind) (names_in (form_of kind) words) && are_options (form_of kind) (option_words (form_of kind) words)) shaped).0 none
 
 pub refusals : {T : Type 0} (r : Result T WordsError) (kind : Kind) (words : List Text) → has_shape (form_of kind) words ≡ true

@@ -1,19 +1,15 @@
 -- What clap finds in the words of a command, and when it refuses them.
-use Rattle.std.proofs.Common.{◌≡◌, ◌∙◌, ◌++◌, ◌&&◌, ◌||◌, ℕ, zero, suc, Bool, true, false, not, refl, sym, ap, subst, arith, true≢false, List, [], ◌∷◌, map, Option, Some, None, Result, nat_le}
-use Rattle.std.specs.Prelude.{cond, find, fold, is_some, option_and_then, option_map, slice_get}
-use Rattle.std.specs.Option.{option_map_or}
-use Rattle.std.specs.List.{AllByRecursion, list_all, list_any}
+use Rattle.std.proofs.Common.{◌≡◌, ◌∙◌, ◌&&◌, ◌||◌, ℕ, Bool, true, false, not, refl, sym, ap, subst, arith, true≢false, List, [], ◌∷◌, map, Option, Some, None, Result, nat_le}
+use Rattle.std.proofs.lemmas.Bool.{and_parts}
+use Rattle.std.specs.Prelude.{cond, find, fold, is_some, option_and_then, option_map}
+use Rattle.std.specs.List.{list_all, list_any}
 use Rattle.std.specs.Str.{bytes_eq}
 use Rattle.std.specs.Str.Parse.{ParsesUnsigned, digits_value}
 use Rattle.std.proofs.lemmas.Bool.Decides.{nat_tests}
-use Rattle.std.proofs.lemmas.List.{map-append}
-use Rattle.std.proofs.lemmas.List.Folds.{list_any-append}
 use Rattle.std.proofs.lemmas.Slice.Eq.{bytes_eq-Decides}
 use Rattle.std.proofs.Math.Bool.{or-false}
-use Rattle.clap.specs.Words.{Row, Rule, Text, first_of, matches_of, one_of, read_as}
-use Rattle.clap.specs.Facts.{explicit_source}
+use Rattle.clap.specs.Words.{Row, Rule, Text, matches_of, one_of, read_as}
 use Rattle.clap.specs.Simple.{built}
-use Rattle.clap.specs.Takes.{is_given}
 use Rattle.clap.specs.Walk.{Held, Walk, finished, has_row, idle, nothing_held, reading_by, row_text, settled, walk, with_default}
 use Rattle.clap.specs.Faults.{check_fault, defaults_fault, fault_of, settle_fault, values_fault}
 use Rattle.clap.specs.Kinds.{Kinds, or_else}
@@ -22,17 +18,15 @@ use Rattle.clap.specs.declared.builder.value_parser.Reading.TheVariants.{AsWritt
 use Rattle.clap.specs.declared.error.kind.ErrorKind.TheVariants as kinds
 use Rattle.clap.proofs.FaultLemmas.{leaf_fault}
 use Rattle.command_words.specs.declared.kind.Kind.{Kind}
-use Rattle.command_words.specs.declared.kind.Kind.TheVariants.{Route, Measure, Judge, Make, Trial}
 use Rattle.command_words.specs.declared.option_name.OptionName.{OptionName}
 use Rattle.command_words.specs.CommandLine.{IsOptionValue, OptionForm, all_differ, are_pairs, has_option, in_pairs, is_value_word, value_for, value_or}
-use Rattle.command_words.specs.Kinds.{form_of, id_of, names_of, option_of}
+use Rattle.command_words.specs.Kinds.{form_of, id_of, option_of}
 use Rattle.command_words.specs.Apps.{app_of_kind, default_text}
 use Rattle.command_words.proofs.Walks.{at, or_else-nil}
-use Rattle.command_words.proofs.Uses.{AreSingle, AreUses, Use, after_uses, all_faults, all_faults_are, faults_of, ids_of, not_true, or_else_assoc, parts_true, row_for, rows_after_uses, uses_fault, uses_walk, with_use}
-use Rattle.command_words.proofs.Defaults.{back_found, default_is_found, found_stays, no_default_fault, row_at}
+use Rattle.command_words.proofs.Uses.{AreSingle, AreUses, Use, after_uses, all_faults, all_faults_are, faults_of, ids_of, row_for, rows_after_uses, uses_fault, uses_walk}
+use Rattle.command_words.proofs.Defaults.{default_is_found, found_stays, no_default_fault, row_at}
 use Rattle.command_words.proofs.Values.{accepts_is, in_range, no_hyphen, reads_number}
-use Rattle.command_words.proofs.Rules.{HasDefault, HaveRows, IsOption, fine_defaults, has_default, is_given_in_range, names_known, none_missing, of_option, option_word, rule_for, rule_is, rules, shape, small, word_is}
-use Rattle.command_words.proofs.Names.{AreAsMany, AreWords, IsFound, name_found, name_ids, name_uses, names_fault, names_single, names_walk, no_name_fault, place_after}
+use Rattle.command_words.proofs.Rules.{HasDefault, IsOption, is_given_in_range, known, of_option, option_word, rule_for, rule_is, rules, shape, sound}
 
 abbrev pub Given : Type 0
 Given = List ℕ × List ℕ
@@ -49,26 +43,26 @@ are_uses : (kind : Kind) (words : List Text) → are_pairs words ≡ true → li
 are_uses kind [] even fit = tt
 are_uses kind (word ∷ []) even fit = absurd (true≢false (sym even))
 are_uses kind (word ∷ text ∷ words) even fit =
-    let parts = parts_true (fits kind (word, text)) (list_all (fits kind) (in_pairs words)) fit in
-    let both = parts_true (has_option (form_of kind) word) (is_value_word text) parts.0 in
+    let parts = and_parts (fits kind (word, text)) (list_all (fits kind) (in_pairs words)) fit in
+    let both = and_parts (has_option (form_of kind) word) (is_value_word text) parts.0 in
     (option_word kind word both.0, refl, no_hyphen text both.1, are_uses kind words even parts.1)
 
 are_single : (kind : Kind) (ps : List Given) → list_all (fits kind) ps ≡ true → AreSingle (rules kind) (map use_of ps)
 are_single kind [] fit = tt
 are_single kind (given ∷ ps) fit =
-    let parts = parts_true (fits kind given) (list_all (fits kind) ps) fit in
-    let both = parts_true (has_option (form_of kind) given.0) (is_value_word given.1) parts.0 in
+    let parts = and_parts (fits kind given) (list_all (fits kind) ps) fit in
+    let both = and_parts (has_option (form_of kind) given.0) (is_value_word given.1) parts.0 in
     ((option_word kind given.0 both.0).single, are_single kind ps parts.1)
 
 word_at : (kind : Kind) (word : Text) → has_option (form_of kind) word ≡ true → word ≡ 45 ∷ 45 ∷ (rule_for word).id
 word_at kind = of_option kind (λ word. word ≡ 45 ∷ 45 ∷ (rule_for word).id)
-    (λ option is. word_is option ∙ ap (λ (r : Rule). 45 ∷ 45 ∷ r.id) (sym (rule_is option)))
+    (λ option is. (sound option).word ∙ ap (λ (r : Rule). 45 ∷ 45 ∷ r.id) (sym (rule_is option)))
 
 words_are : (kind : Kind) (ps : List Given) → list_all (fits kind) ps ≡ true → map (λ given. given.0) ps ≡ map (λ (id : Text). 45 ∷ 45 ∷ id) (ids_of (map use_of ps))
 words_are kind [] fit = refl
 words_are kind (given ∷ ps) fit =
-    let parts = parts_true (fits kind given) (list_all (fits kind) ps) fit in
-    let both = parts_true (has_option (form_of kind) given.0) (is_value_word given.1) parts.0 in
+    let parts = and_parts (fits kind given) (list_all (fits kind) ps) fit in
+    let both = and_parts (has_option (form_of kind) given.0) (is_value_word given.1) parts.0 in
     ap (λ (word : Text). word ∷ map (λ g. g.0) ps) (word_at kind given.0 both.0) ∙ ap (λ (ws : List Text). (45 ∷ 45 ∷ (rule_for given.0).id) ∷ ws) (words_are kind ps parts.1)
 
 any_dashed : (x : Text) (xs : List Text) → list_any (bytes_eq (45 ∷ 45 ∷ x)) (map (λ (id : Text). 45 ∷ 45 ∷ id) xs) ≡ list_any (bytes_eq x) xs
@@ -79,53 +73,8 @@ differ_dashed : (xs : List Text) → all_differ (map (λ (id : Text). 45 ∷ 45 
 differ_dashed [] = refl
 differ_dashed (x ∷ xs) = ap (λ b. not b && all_differ (map (λ (id : Text). 45 ∷ 45 ∷ id) xs)) (any_dashed x xs) ∙ ap (λ b. not (list_any (bytes_eq x) xs) && b) (differ_dashed xs)
 
--- ---- the ids of the names and of the options differ
-
--- y is none of the xs
-abbrev is_apart : List Text → Text → Type 0
-is_apart xs y = list_any (λ x. bytes_eq x y) xs ≡ false
-
-or_parts : (a b : Bool) → (a || b) ≡ false → (a ≡ false) × (b ≡ false)
-or_parts false b e = (refl, e)
-or_parts true b e = absurd (true≢false e)
-
-apart_from : (x : Text) (xs ys : List Text) → AllByRecursion (is_apart (x ∷ xs)) ys → (list_any (bytes_eq x) ys ≡ false) × AllByRecursion (is_apart xs) ys
-apart_from x xs [] apart = (refl, tt)
-apart_from x xs (y ∷ ys) apart =
-    let here = or_parts (bytes_eq x y) (list_any (λ z. bytes_eq z y) xs) apart.0 in
-    let rest = apart_from x xs ys apart.1 in
-    (rw (here.0, rest.0) refl, (here.1, rest.1))
-
-differ_join : (xs ys : List Text) → all_differ xs ≡ true → all_differ ys ≡ true → AllByRecursion (is_apart xs) ys → all_differ (xs ++ ys) ≡ true
-differ_join [] ys a b apart = b
-differ_join (x ∷ xs) ys a b apart =
-    let parts = parts_true (not (list_any (bytes_eq x) xs)) (all_differ xs) a in
-    let from = apart_from x xs ys apart in
-    let none : list_any (bytes_eq x) (xs ++ ys) ≡ false = list_any-append (bytes_eq x) xs ys ∙ ap (λ c. c || list_any (bytes_eq x) ys) (not_true (list_any (bytes_eq x) xs) parts.0) ∙ from.0 in
-    rw (none, differ_join xs ys parts.1 b from.1) refl
-
-names_differ : (kind : Kind) → all_differ (names_of kind) ≡ true
-names_differ Route = refl
-names_differ Measure = refl
-names_differ Judge = refl
-names_differ Make = refl
-names_differ Trial = refl
-
-options_apart : (kind : Kind) (ps : List Given) → list_all (fits kind) ps ≡ true → AllByRecursion (is_apart (names_of kind)) (ids_of (map use_of ps))
-options_apart kind [] fit = tt
-options_apart kind (given ∷ ps) fit =
-    let parts = parts_true (fits kind given) (list_all (fits kind) ps) fit in
-    let both = parts_true (has_option (form_of kind) given.0) (is_value_word given.1) parts.0 in (
-      of_option kind (λ word. is_apart (names_of kind) (rule_for word).id)
-          (λ option is. ap (λ (r : Rule). list_any (λ id. bytes_eq id r.id) (names_of kind)) (rule_is option) ∙ is.apart) given.0 both.0,
-      options_apart kind ps parts.1,
-    )
-
-ids_differ : (kind : Kind) (ps : List Given) → list_all (fits kind) ps ≡ true → all_differ (map (λ given. given.0) ps) ≡ true
-    → all_differ (names_of kind ++ ids_of (map use_of ps)) ≡ true
-ids_differ kind ps fit differ =
-    differ_join (names_of kind) (ids_of (map use_of ps)) (names_differ kind)
-    (sym (differ_dashed (ids_of (map use_of ps))) ∙ sym (ap all_differ (words_are kind ps fit)) ∙ differ) (options_apart kind ps fit)
+ids_differ : (kind : Kind) (ps : List Given) → list_all (fits kind) ps ≡ true → all_differ (map (λ given. given.0) ps) ≡ true → all_differ (ids_of (map use_of ps)) ≡ true
+ids_differ kind ps fit differ = sym (differ_dashed (ids_of (map use_of ps))) ∙ sym (ap all_differ (words_are kind ps fit)) ∙ differ
 
 -- ---- what is refused
 
@@ -136,8 +85,8 @@ value_fault_is : (kind : Kind) (word : Text) → has_option (form_of kind) word 
     → values_fault (rule_for word) (t ∷ []) ≡ fault_unless (is_given_in_range kind (word, t))
 value_fault_is kind = of_option kind (λ word. (t : Text) → is_value_word t ≡ true → values_fault (rule_for word) (t ∷ []) ≡ fault_unless (is_given_in_range kind (word, t)))
     (λ option is t value. ap (λ (r : Rule). values_fault r (t ∷ [])) (rule_is option)
-    ∙ ap fault_unless (accepts_is false (option_of option).least (option_of option).most t value (small option)
-    ∙ sym (or-false (in_range (option_of option).least (option_of option).most t)) ∙ sym (is.ranged t)))
+    ∙ ap fault_unless (accepts_is false (option_of option).least (option_of option).most t value (sound option).small
+    ∙ sym (or-false (in_range (option_of option).least (option_of option).most t)) ∙ sym (is.2 t)))
 
 value_is_fine : (b : Bool) (rest : Kinds) → or_else (fault_unless b) rest ≡ [] → (b ≡ true) × (rest ≡ [])
 value_is_fine true rest e = (refl, e)
@@ -147,17 +96,17 @@ value_is_fine false rest e = cc
 pub refused_none : (kind : Kind) (ps : List Given) → list_all (fits kind) ps ≡ true → all_faults (map use_of ps) ≡ [] → list_all (is_given_in_range kind) ps ≡ true
 refused_none kind [] fit none = refl
 refused_none kind (given ∷ ps) fit none =
-    let parts = parts_true (fits kind given) (list_all (fits kind) ps) fit in
-    let both = parts_true (has_option (form_of kind) given.0) (is_value_word given.1) parts.0 in
+    let parts = and_parts (fits kind given) (list_all (fits kind) ps) fit in
+    let both = and_parts (has_option (form_of kind) given.0) (is_value_word given.1) parts.0 in
     let here = value_is_fine (is_given_in_range kind given) (all_faults (map use_of ps)) (ap (λ k. or_else k (all_faults (map use_of ps))) (sym (value_fault_is kind given.0 both.0 given.1 both.1)) ∙ none) in
     rw (here.0, refused_none kind ps parts.1 here.1) refl
 
 pub none_refused : (kind : Kind) (ps : List Given) → list_all (fits kind) ps ≡ true → list_all (is_given_in_range kind) ps ≡ true → all_faults (map use_of ps) ≡ []
 none_refused kind [] fit all = refl
 none_refused kind (given ∷ ps) fit all =
-    let parts = parts_true (fits kind given) (list_all (fits kind) ps) fit in
-    let both = parts_true (has_option (form_of kind) given.0) (is_value_word given.1) parts.0 in
-    let here = parts_true (is_given_in_range kind given) (list_all (is_given_in_range kind) ps) all in
+    let parts = and_parts (fits kind given) (list_all (fits kind) ps) fit in
+    let both = and_parts (has_option (form_of kind) given.0) (is_value_word given.1) parts.0 in
+    let here = and_parts (is_given_in_range kind given) (list_all (is_given_in_range kind) ps) all in
     ap (λ k. or_else k (all_faults (map use_of ps))) (value_fault_is kind given.0 both.0 given.1 both.1 ∙ ap fault_unless here.0) ∙ none_refused kind ps parts.1 here.1
 
 -- ---- rows of options
@@ -179,8 +128,8 @@ row_given given = row_for (use_of given)
 use_found : (kind : Kind) (id : Text) (ps : List Given) → list_all (fits kind) ps ≡ true → row_at id (map row_for (map use_of ps)) ≡ option_map row_given (given_for (45 ∷ 45 ∷ id) ps)
 use_found kind id [] fit = refl
 use_found kind id (given ∷ ps) fit =
-    let parts = parts_true (fits kind given) (list_all (fits kind) ps) fit in
-    let both = parts_true (has_option (form_of kind) given.0) (is_value_word given.1) parts.0 in
+    let parts = and_parts (fits kind given) (list_all (fits kind) ps) fit in
+    let both = and_parts (has_option (form_of kind) given.0) (is_value_word given.1) parts.0 in
     let same : bytes_eq given.0 (45 ∷ 45 ∷ id) ≡ bytes_eq (rule_for given.0).id id = ap (λ (word : Text). bytes_eq word (45 ∷ 45 ∷ id)) (word_at kind given.0 both.0) in
     sym (ap (λ b. cond b (Some (row_given given)) (row_at id (map row_for (map use_of ps)))) same) ∙ step (bytes_eq given.0 (45 ∷ 45 ∷ id)) (use_found kind id ps parts.1)
   where
@@ -192,13 +141,13 @@ use_found kind id (given ∷ ps) fit =
 found_passes : (q : Given → Bool) (word : Text) (ps : List Given) (given : Given) → list_all q ps ≡ true → given_for word ps ≡ Some given
     → (q given ≡ true) × (bytes_eq given.0 word ≡ true)
 found_passes q word [] given all found = cc
-found_passes q word (p ∷ ps) given all found = step (bytes_eq p.0 word) refl found (found_passes q word ps given (parts_true (q p) (list_all q ps) all).1)
+found_passes q word (p ∷ ps) given all found = step (bytes_eq p.0 word) refl found (found_passes q word ps given (and_parts (q p) (list_all q ps) all).1)
   where
     step : (b : Bool) → bytes_eq p.0 word ≡ b → cond b (Some p) (given_for word ps) ≡ Some given
         → (given_for word ps ≡ Some given → (q given ≡ true) × (bytes_eq given.0 word ≡ true)) → (q given ≡ true) × (bytes_eq given.0 word ≡ true)
     step true e f more =
         let same : p ≡ given = cc in
-        (subst (λ (g : Given). q g ≡ true) same (parts_true (q p) (list_all q ps) all).0, subst (λ (g : Given). bytes_eq g.0 word ≡ true) same e)
+        (subst (λ (g : Given). q g ≡ true) same (and_parts (q p) (list_all q ps) all).0, subst (λ (g : Given). bytes_eq g.0 word ≡ true) same e)
     step false e f more = more f
 
 reading_is : (kind : Kind) (word : Text) → has_option (form_of kind) word ≡ true → reading_by (rule_for word) ≡ AsWritten
@@ -209,24 +158,7 @@ abbrev text_or : Option Text → Option Given → Option Text
 text_or otherwise None = otherwise
 text_or otherwise (Some given) = Some given.1
 
-no_name_row : (from : ℕ) (ids ts : List Text) (id : Text) → list_any (λ i. bytes_eq i id) ids ≡ false → has_row id (map row_for (name_uses from ids ts)) ≡ false
-no_name_row from [] ts id none = refl
-no_name_row from (i ∷ ids) [] id none = refl
-no_name_row from (i ∷ ids) (t ∷ ts) id none =
-    let parts = or_parts (bytes_eq i id) (list_any (λ x. bytes_eq x id) ids) none in
-    rw (parts.0, no_name_row (suc from) ids ts id parts.1) refl
-
 -- ---- all uses
-
-after_uses-append : (c : List Rule) (us vs : List Use) (h : Held) → after_uses c (us ++ vs) h ≡ after_uses c vs (after_uses c us h)
-after_uses-append c [] vs h = refl
-after_uses-append c (u ∷ us) vs h = after_uses-append c us vs (with_use c u h)
-
-faults_of-append : (c : List Rule) (again : Bool) (us vs : List Use) (h : Held) → faults_of c again (us ++ vs) h ≡ or_else (faults_of c again us h) (faults_of c again vs (after_uses c us h))
-faults_of-append c again [] vs h = refl
-faults_of-append c again (u ∷ us) vs h =
-    ap (or_else (settle_fault c again h)) (faults_of-append c again us vs (with_use c u h))
-    ∙ sym (or_else_assoc (settle_fault c again h) (faults_of c again us (with_use c u h)) (faults_of c again vs (after_uses c us (with_use c u h))))
 
 rows_of_uses : (c : List Rule) (us : List Use) → AreSingle c us → all_differ (ids_of us) ≡ true → (settled c (after_uses c us nothing_held)).rows ≡ map row_for us
 rows_of_uses c [] are differ = refl
@@ -237,102 +169,60 @@ faults_of_uses : (c : List Rule) (again : Bool) (us : List Use) → AreSingle c 
 faults_of_uses c again [] are differ = refl
 faults_of_uses c again (u ∷ us) are differ = all_faults_are c again us u [] are differ
 
--- ---- names that are there
+-- ---- all of it, for a word before options with their values
 
-pub text_at : (ids ts : List Text) (place : ℕ) (id : Text) → AreAsMany ids ts → slice_get ids place ≡ Some id → (t : Text) × (slice_get ts place ≡ Some t)
-text_at [] ts place id many is = cc
-text_at (i ∷ ids) [] place id many is = absurd many
-text_at (i ∷ ids) (t ∷ ts) zero id many is = (t, refl)
-text_at (i ∷ ids) (t ∷ ts) (suc place) id many is = text_at ids ts place id many is
-
-all_by_place : (P : Text → Type 0) (ids : List Text) → ((place : ℕ) (id : Text) → slice_get ids place ≡ Some id → P id) → AllByRecursion P ids
-all_by_place P [] each = tt
-all_by_place P (id ∷ ids) each = (each 0 id refl, all_by_place P ids (λ place i is. each (suc place) i is))
-
--- ---- all of it, for words that have the shape
-
-module _ (kind : Kind) (w : Text) (ts ws : List Text) (many : AreAsMany (names_of kind) ts) (named : AreWords ts)
+module _ (kind : Kind) (w : Text) (ws : List Text)
     (even : are_pairs ws ≡ true) (fit : list_all (fits kind) (in_pairs ws) ≡ true) (differ : all_differ (map (λ given. given.0) (in_pairs ws)) ≡ true) where
   abbrev words : List Text
-  words = w ∷ (ts ++ ws)
+  words = w ∷ ws
 
   abbrev us : List Use
-  us = name_uses 1 (names_of kind) ts
-
-  abbrev os : List Use
-  os = map use_of (in_pairs ws)
+  us = map use_of (in_pairs ws)
 
   abbrev rows : List Row
-  rows = map row_for (us ++ os)
+  rows = map row_for us
 
   abbrev found : List Row
   found = fold with_default rows (rules kind)
 
   abbrev ended : Held
-  ended = after_uses (rules kind) (us ++ os) nothing_held
+  ended = after_uses (rules kind) us nothing_held
 
-  abbrev place : ℕ
-  place = place_after 1 (names_of kind)
+  singles : AreSingle (rules kind) us
+  singles = are_single kind (in_pairs ws) fit
 
-  singles : AreSingle (rules kind) (us ++ os)
-  singles = names_single (rules kind) 1 (names_of kind) ts os (names_known kind) (are_single kind (in_pairs ws) fit)
+  ids : all_differ (ids_of us) ≡ true
+  ids = ids_differ kind (in_pairs ws) fit differ
 
-  ids : all_differ (ids_of (us ++ os)) ≡ true
-  ids = ap all_differ (name_ids 1 (names_of kind) ts os many) ∙ ids_differ kind (in_pairs ws) fit differ
+  uses : AreUses (rules kind) ws us
+  uses = are_uses kind ws even fit
 
-  walk_is : walk (rules kind) [] nothing_held (ts ++ ws) ≡ at place idle ended
-  walk_is = names_walk (shape kind) 1 (names_of kind) ts ws nothing_held (names_known kind) many named
-      ∙ uses_walk (rules kind) place ws os (after_uses (rules kind) us nothing_held) (are_uses kind ws even fit)
-      ∙ ap (at place idle) (sym (after_uses-append (rules kind) us os nothing_held))
+  walk_is : walk (rules kind) [] nothing_held ws ≡ at 1 idle ended
+  walk_is = uses_walk (rules kind) 1 ws us nothing_held uses
 
   rows_are : (settled (rules kind) ended).rows ≡ rows
-  rows_are = rows_of_uses (rules kind) (us ++ os) singles ids
+  rows_are = rows_of_uses (rules kind) us singles ids
 
   matches_are : matches_of (app_of_kind kind) words ≡ found
   matches_are = ap (λ (k : Walk). finished (rules kind) k.held) walk_is ∙ ap (λ (rs : List Row). fold with_default rs (rules kind)) rows_are
 
-  split : rows ≡ map row_for us ++ map row_for os
-  split = map-append row_for us os
-
-  -- the row of a name
-  name_is : (k : ℕ) (id t : Text) → slice_get (names_of kind) k ≡ Some id → slice_get ts k ≡ Some t → IsFound id t found
-  name_is k id t is given =
-      let h = name_found (names_of kind) ts 1 k (map row_for os) id t (names_differ kind) is given in
-      let here : row_at id rows ≡ Some h.0 = ap (row_at id) split ∙ h.1 in
-      (h.0, found_stays (rules kind) rows id (has_is rows id ∙ ap is_some here) ∙ here, h.2)
-
-  pub name_text : (k : ℕ) (id t : Text) → slice_get (names_of kind) k ≡ Some id → slice_get ts k ≡ Some t → first_of id (matches_of (app_of_kind kind) words) ≡ Some t
-  name_text k id t is given =
-      let h = name_is k id t is given in
-      ap (first_of id) matches_are ∙ ap (option_and_then (λ (r : Row). slice_get r.values 0)) h.1 ∙ ap (λ (vs : List Text). slice_get vs 0) h.2.values
-
-  all_given : HaveRows found (names_of kind)
-  all_given = all_by_place (λ id. is_given id found ≡ true) (names_of kind) (λ k id is.
-      let t = text_at (names_of kind) ts k id many is in
-      let h = name_is k id t.0 is t.1 in
-      ap (λ (o : Option Row). option_map_or (λ r. explicit_source r.source) o false) h.1 ∙ ap explicit_source h.2.source)
-
   none_wanted : check_fault (shape kind) found false ≡ []
-  none_wanted = ap (λ b. cond b (kinds.MissingRequiredArgument ∷ []) []) (none_missing kind found all_given)
+  none_wanted = ap (λ b. cond b (kinds.MissingRequiredArgument ∷ []) []) ((known kind).none_required found)
 
-  pub fault_is : fault_of (app_of_kind kind) words ≡ all_faults os
+  pub fault_is : fault_of (app_of_kind kind) words ≡ all_faults us
   fault_is =
       let c = rules kind in
       let again = (shape kind).args_override_self in
-      leaf_fault (built (app_of_kind kind)) nothing_held (ts ++ ws) refl
-      ∙ ap (λ (k : Kinds). or_else k (rest (walk c [] nothing_held (ts ++ ws))))
-      (names_fault (shape kind) 1 (names_of kind) ts ws nothing_held (names_known kind) many named
-      ∙ ap (or_else (faults_of c again us nothing_held)) (uses_fault (shape kind) place ws os (after_uses c us nothing_held) (are_uses kind ws even fit))
-      ∙ sym (faults_of-append c again us os nothing_held))
-      ∙ ap (λ (k : Walk). or_else (faults_of c again (us ++ os) nothing_held) (rest k)) walk_is
-      ∙ ap (λ (rs : List Row). or_else (faults_of c again (us ++ os) nothing_held) (or_else (settle_fault c again ended)
+      leaf_fault (built (app_of_kind kind)) nothing_held ws refl
+      ∙ ap (λ (k : Kinds). or_else k (rest (walk c [] nothing_held ws))) (uses_fault (shape kind) 1 ws us nothing_held uses)
+      ∙ ap (λ (k : Walk). or_else (faults_of c again us nothing_held) (rest k)) walk_is
+      ∙ ap (λ (rs : List Row). or_else (faults_of c again us nothing_held) (or_else (settle_fault c again ended)
       (or_else (defaults_fault rs c) (check_fault (shape kind) (fold with_default rs c) false)))) rows_are
-      ∙ ap (λ (k : Kinds). or_else (faults_of c again (us ++ os) nothing_held) (or_else (settle_fault c again ended) (or_else k (check_fault (shape kind) found false))))
-      (no_default_fault c rows (fine_defaults kind))
-      ∙ ap (λ (k : Kinds). or_else (faults_of c again (us ++ os) nothing_held) (or_else (settle_fault c again ended) k)) none_wanted
-      ∙ ap (or_else (faults_of c again (us ++ os) nothing_held)) (or_else-nil (settle_fault c again ended))
-      ∙ faults_of_uses c again (us ++ os) singles ids
-      ∙ no_name_fault 1 (names_of kind) ts os
+      ∙ ap (λ (k : Kinds). or_else (faults_of c again us nothing_held) (or_else (settle_fault c again ended) (or_else k (check_fault (shape kind) found false))))
+      (no_default_fault c rows (known kind).defaults)
+      ∙ ap (λ (k : Kinds). or_else (faults_of c again us nothing_held) (or_else (settle_fault c again ended) k)) none_wanted
+      ∙ ap (or_else (faults_of c again us nothing_held)) (or_else-nil (settle_fault c again ended))
+      ∙ faults_of_uses c again us singles ids
     where
       rest : Walk → Kinds
       rest k = or_else (settle_fault (rules kind) (shape kind).args_override_self k.held)
@@ -346,22 +236,21 @@ module _ (kind : Kind) (w : Text) (ts ws : List Text) (many : AreAsMany (names_o
     form = option_of option
 
     option_row : row_at id rows ≡ option_map row_given (given_for (45 ∷ 45 ∷ id) (in_pairs ws))
-    option_row = ap (row_at id) split ∙ back_found (map row_for us) (map row_for os) id (no_name_row 1 (names_of kind) ts id is.apart)
-        ∙ use_found kind id (in_pairs ws) fit
+    option_row = use_found kind id (in_pairs ws) fit
 
     row_is : (o : Option Given) → given_for (45 ∷ 45 ∷ id) (in_pairs ws) ≡ o → option_and_then row_text (row_at id found) ≡ text_or (default_text option) o
     row_is None e =
         let same : row_at id rows ≡ None = option_row ∙ ap (option_map row_given) e in
-        ap (option_and_then row_text) (default_is_found (rules kind) rows id (has_is rows id ∙ ap is_some same)) ∙ is.default
+        ap (option_and_then row_text) (default_is_found (rules kind) rows id (has_is rows id ∙ ap is_some same)) ∙ is.3
     row_is (Some given) e =
         let same : row_at id rows ≡ Some (row_given given) = option_row ∙ ap (option_map row_given) e in
         let passes = found_passes (fits kind) (45 ∷ 45 ∷ id) (in_pairs ws) given fit e in
-        let both = parts_true (has_option (form_of kind) given.0) (is_value_word given.1) passes.0 in
+        let both = and_parts (has_option (form_of kind) given.0) (is_value_word given.1) passes.0 in
         ap (option_and_then row_text) (found_stays (rules kind) rows id (has_is rows id ∙ ap is_some same) ∙ same)
         ∙ ap (λ how. Some (read_as how given.1)) (reading_is kind given.0 both.0)
 
     value_is : (o : Option Given) → given_for (45 ∷ 45 ∷ id) (in_pairs ws) ≡ o → value_for form (in_pairs ws) ≡ value_or form.unless_given o
-    value_is o e = ap (λ (word : Text). value_or form.unless_given (given_for word (in_pairs ws))) (word_is option) ∙ ap (value_or form.unless_given) e
+    value_is o e = ap (λ (word : Text). value_or form.unless_given (given_for word (in_pairs ws))) (sound option).word ∙ ap (value_or form.unless_given) e
 
     one_is : (o : Option Given) → given_for (45 ∷ 45 ∷ id) (in_pairs ws) ≡ o → one_of id (matches_of (app_of_kind kind) words) ≡ text_or (default_text option) o
     one_is o e = ap (one_of id) matches_are ∙ row_is o e
@@ -370,10 +259,10 @@ module _ (kind : Kind) (w : Text) (ts ws : List Text) (many : AreAsMany (names_o
       given_ranged : (given : Given) → given_for (45 ∷ 45 ∷ id) (in_pairs ws) ≡ Some given → IsOptionValue form (digits_value 10 given.1)
       given_ranged given e =
           let ranged = found_passes (is_given_in_range kind) (45 ∷ 45 ∷ id) (in_pairs ws) given all e in
-          let word : given.0 ≡ form.word = (bytes_eq-Decides given.0 (45 ∷ 45 ∷ id)).0 ranged.1 ∙ sym (word_is option) in
+          let word : given.0 ≡ form.word = (bytes_eq-Decides given.0 (45 ∷ 45 ∷ id)).0 ranged.1 ∙ sym (sound option).word in
           let here : in_range form.least form.most given.1 ≡ true =
-          sym (or-false (in_range form.least form.most given.1)) ∙ sym (is.ranged given.1) ∙ subst (λ (t : Text). is_given_in_range kind (t, given.1) ≡ true) word ranged.0 in
-          let parts = parts_true (nat_le form.least (digits_value 10 given.1)) (nat_le (digits_value 10 given.1) form.most) here in
+          sym (or-false (in_range form.least form.most given.1)) ∙ sym (is.2 given.1) ∙ subst (λ (t : Text). is_given_in_range kind (t, given.1) ≡ true) word ranged.0 in
+          let parts = and_parts (nat_le form.least (digits_value 10 given.1)) (nat_le (digits_value 10 given.1) form.most) here in
           let low = parts.0 in
           let high = parts.1 in
           (grind (arith, nat_tests), grind (arith, nat_tests))
@@ -386,15 +275,15 @@ module _ (kind : Kind) (w : Text) (ts ws : List Text) (many : AreAsMany (names_o
         where
           by_default : (d : Option Text) → HasDefault form d → one_of id (matches_of (app_of_kind kind) words) ≡ d → form.unless_given ≡ r
           by_default None has one = has ∙ sym (none one)
-          by_default (Some t) has one = has.0 ∙ sym (reads_number E G t r has.1 (omega (arith, has.2.1, small option)) only (some t one))
+          by_default (Some t) has one = has.0 ∙ sym (reads_number E G t r has.1 (omega (arith, has.2.1, (sound option).small)) only (some t one))
 
           step : (o : Option Given) → given_for (45 ∷ 45 ∷ id) (in_pairs ws) ≡ o → value_for form (in_pairs ws) ≡ r
-          step None e = value_is None e ∙ by_default (default_text option) (has_default option) (one_is None e)
+          step None e = value_is None e ∙ by_default (default_text option) (sound option).default (one_is None e)
           step (Some given) e =
               let passes = found_passes (fits kind) (45 ∷ 45 ∷ id) (in_pairs ws) given fit e in
-              let both = parts_true (has_option (form_of kind) given.0) (is_value_word given.1) passes.0 in
+              let both = and_parts (has_option (form_of kind) given.0) (is_value_word given.1) passes.0 in
               let range = given_ranged given e in
-              value_is (Some given) e ∙ sym (reads_number E G given.1 r both.1 (omega (arith, range.1, small option)) only (some given.1 (one_is (Some given) e)))
+              value_is (Some given) e ∙ sym (reads_number E G given.1 r both.1 (omega (arith, range.1, (sound option).small)) only (some given.1 (one_is (Some given) e)))
 
       pub number_ranged : (n : ℕ) → value_for form (in_pairs ws) ≡ Some n → IsOptionValue form n
       number_ranged n = step (given_for (45 ∷ 45 ∷ id) (in_pairs ws)) refl
@@ -406,7 +295,7 @@ module _ (kind : Kind) (w : Text) (ts ws : List Text) (many : AreAsMany (names_o
               subst (IsOptionValue form) same has.2
 
           step : (o : Option Given) → given_for (45 ∷ 45 ∷ id) (in_pairs ws) ≡ o → value_for form (in_pairs ws) ≡ Some n → IsOptionValue form n
-          step None e v = by_default (default_text option) (has_default option) (sym (value_is None e) ∙ v)
+          step None e v = by_default (default_text option) (sound option).default (sym (value_is None e) ∙ v)
           step (Some given) e v =
               let same : digits_value 10 given.1 ≡ n = cc (value_is (Some given) e, v) in
               subst (IsOptionValue form) same (given_ranged given e)

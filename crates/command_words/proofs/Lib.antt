@@ -5,6 +5,5 @@ pub mod Defaults
 pub mod Values
 pub mod Commands
 pub mod Rules
-pub mod Names
 pub mod Found
 pub mod Parts

@@ -1,56 +1,49 @@
 -- The words of a command taken apart, and what a parse of them gives.
-use Rattle.std.proofs.Common.{◌≡◌, ◌∙◌, ◌++◌, ◌==◌, ◌&&◌, ◌<◌, ℕ, zero, suc, true, eqb, refl, sym, ap, ap₂, subst, arith, true≢false, List, [], ◌∷◌, map, length, take, drop, Option, Some, None, Result}
-use Rattle.std.specs.Prelude.{IfSome, IsSome, find, option_map, slice_get, slice_index_or}
-use Rattle.std.specs.Borrow.{Bor}
+use Rattle.std.proofs.Common.{◌≡◌, ◌∙◌, ◌==◌, ◌&&◌, ◌+◌, ◌<◌, ℕ, zero, suc, true, refl, sym, ap, ap₂, subst, arith, true≢false, List, [], ◌∷◌, map, length, take, drop, Option, Some, None, Result}
+use Rattle.std.proofs.lemmas.Bool.{and_parts}
+use Rattle.std.specs.Prelude.{IfSome, IsSome, find, slice_get}
 use Rattle.std.specs.List.{list_all}
 use Rattle.std.specs.Str.{bytes_eq}
-use Rattle.std.specs.Str.Parse.{HasUnsignedDigitsIfOk, ParsesUnsigned, digits_value}
+use Rattle.std.specs.Str.Parse.{HasUnsignedDigitsIfOk, ParsesUnsigned}
 use Rattle.std.proofs.lemmas.Bool.Decides.{nat_tests}
-use Rattle.std.proofs.lemmas.List.{take-append-drop}
-use Rattle.clap.specs.Words.{Row, Text, fault_of, first_of, first_value, found_of, matches_of, one_of, one_text, rows_of}
+use Rattle.clap.specs.Words.{Row, Text, fault_of, found_of, matches_of, one_of, one_text, rows_of}
 use Rattle.clap.specs.Matches.{ReadsOne}
 use Rattle.clap.specs.declared.parser.matches.ArgMatches.{ArgMatches}
-use Rattle.clap.proofs.WalkLemmas.{first_value-rows, one_text-rows}
+use Rattle.clap.proofs.WalkLemmas.{one_text-rows}
 use Rattle.command_words.specs.declared.kind.Kind.{Kind}
-use Rattle.command_words.specs.declared.kind.Kind.TheVariants.{Route, Measure, Judge, Make, Trial}
 use Rattle.command_words.specs.declared.option_name.OptionName.{OptionName}
-use Rattle.command_words.specs.CommandLine.{CommandForm, IsOptionValue, OptionForm, all_differ, are_names, are_options, are_pairs, begins_with, given_options, has_option, has_shape, has_values_in_range, in_pairs, is_command_of, is_file_name, is_value_word, most_seed, names_in, option_words, value_for, value_or}
-use Rattle.std.specs.Prelude.{nat_le}
-use Rattle.command_words.specs.Kinds.{form_of, id_of, names_of, option_of}
+use Rattle.command_words.specs.CommandLine.{CommandForm, IsOptionValue, OptionForm, all_differ, are_names, are_options, are_pairs, begins_with, given_options, has_option, has_shape, has_values_in_range, in_pairs, is_command_of, names_in, option_words, value_for, value_or}
+use Rattle.command_words.specs.Kinds.{form_of, id_of, option_of}
 use Rattle.command_words.specs.Apps.{AreReadWords, app_of_kind, found_in}
-use Rattle.command_words.proofs.Uses.{HasNoHyphen, all_faults, not_true, parts_true}
-use Rattle.command_words.proofs.Values.{no_hyphen}
-use Rattle.command_words.proofs.Rules.{is_given_in_range, known, name_count, names_many}
-use Rattle.command_words.proofs.Names.{AreAsMany, AreWords, as_many}
-use Rattle.command_words.proofs.Found.{fault_is, fits, name_text, none_refused, number_is, number_ranged, refused_none, text_at, use_of}
+use Rattle.command_words.proofs.Uses.{all_faults}
+use Rattle.command_words.proofs.Rules.{is_given_in_range, known_option}
+use Rattle.command_words.proofs.Found.{fault_is, fits, none_refused, number_is, number_ranged, refused_none, use_of}
 
-file_name : (t : Text) → is_file_name t ≡ true → HasNoHyphen t
-file_name [] is = absurd (true≢false (sym is))
-file_name (x ∷ xs) is = not_true (eqb x 45) is
+-- ---- how many words stand before the options
 
-name_apart : (kind : Kind) (t : Text) → (form_of kind).is_name t ≡ true → HasNoHyphen t
-name_apart Route t is = file_name t is
-name_apart Measure t is = file_name t is
-name_apart Judge t is = file_name t is
-name_apart Make t is = file_name t is
-name_apart Trial t is = no_hyphen t (parts_true (is_value_word t) (nat_le (digits_value 10 t) most_seed) is).0
+pub names_counted : (form : CommandForm) (words : List Text) → has_shape form words ≡ true → length (names_in form words) ≡ form.names
+names_counted form words shaped =
+    let outer = and_parts (begins_with form.word words) (are_names form (names_in form words) && are_options form (option_words form words)) shaped in
+    let inner = and_parts (are_names form (names_in form words)) (are_options form (option_words form words)) outer.1 in
+    let counted : (length (names_in form words) == form.names) ≡ true =
+    (and_parts (length (names_in form words) == form.names) (list_all form.is_name (names_in form words) && all_differ (names_in form words)) inner.0).0 in
+    grind (arith, nat_tests)
 
-names_apart : (kind : Kind) (ts : List Text) → list_all (form_of kind).is_name ts ≡ true → AreWords ts
-names_apart kind [] all = tt
-names_apart kind (t ∷ ts) all =
-    let parts = parts_true ((form_of kind).is_name t) (list_all (form_of kind).is_name ts) all in
-    (name_apart kind t parts.0, names_apart kind ts parts.1)
+-- one word stands before those behind n words of more
+before : (n : ℕ) (x : Text) (xs : List Text) → length (take n xs) ≡ n → (w : Text) × (drop n (x ∷ xs) ≡ w ∷ drop n xs) × (n < length (x ∷ xs))
+before zero x xs long = (x, refl, omega arith)
+before (suc n) x [] long = cc
+before (suc n) x (y ∷ xs) long =
+    let rest = before n y xs (omega (arith, long)) in
+    (rest.0, rest.1, omega (arith, rest.2))
 
--- as many names as the command has, and options with their values
+-- options with their values, behind one word that stands before them
 pub record IsParted (kind : Kind) (words : List Text) : Type 0 where
   pub first : Text
-  pub names : List Text
   pub rest : List Text
-  pub is : words ≡ first ∷ (names ++ rest)
-  pub named : names ≡ names_in (form_of kind) words
+  pub is : drop (form_of kind).names words ≡ first ∷ rest
+  pub within : (form_of kind).names < length words
   pub given : rest ≡ option_words (form_of kind) words
-  pub many : AreAsMany (names_of kind) names
-  pub apart : AreWords names
   pub even : are_pairs rest ≡ true
   pub fit : list_all (fits kind) (in_pairs rest) ≡ true
   pub differ : all_differ (map (λ given. given.0) (in_pairs rest)) ≡ true
@@ -59,31 +52,15 @@ pub parted : (kind : Kind) (words : List Text) → has_shape (form_of kind) word
 parted kind [] shaped = absurd (true≢false (sym shaped))
 parted kind (word ∷ words) shaped =
     let form = form_of kind in
-    let names : List Text = take form.names words in
     let rest : List Text = drop form.names words in
-    let outer = parts_true (begins_with form.word (word ∷ words)) (are_names form names && are_options form rest) shaped in
-    let inner = parts_true (are_names form names) (are_options form rest) outer.1 in
-    let named = parts_true (length names == form.names) (list_all form.is_name names && all_differ names) inner.0 in
-    let counted : (length names == form.names) ≡ true = named.0 in
-    let count : length names ≡ form.names = grind (arith, nat_tests) in
-    let each = parts_true (list_all form.is_name names) (all_differ names) named.1 in
-    let even = parts_true (are_pairs rest) (list_all (fits kind) (in_pairs rest) && all_differ (map (λ given. given.0) (in_pairs rest))) inner.1 in
-    let fit = parts_true (list_all (fits kind) (in_pairs rest)) (all_differ (map (λ given. given.0) (in_pairs rest))) even.1 in
-    record {
-      first = word;
-      names = names;
-      rest = rest;
-      is = ap (λ (ws : List Text). word ∷ ws) (sym (take-append-drop form.names words));
-      named = refl;
-      given = refl;
-      many = as_many (names_of kind) names (names_many kind ∙ sym count);
-      apart = names_apart kind names each.0;
-      even = even.0;
-      fit = fit.0;
-      differ = fit.1;
-    }
+    let outer = and_parts (begins_with form.word (word ∷ words)) (are_names form (take form.names words) && are_options form rest) shaped in
+    let inner = and_parts (are_names form (take form.names words)) (are_options form rest) outer.1 in
+    let even = and_parts (are_pairs rest) (list_all (fits kind) (in_pairs rest) && all_differ (map (λ given. given.0) (in_pairs rest))) inner.1 in
+    let fit = and_parts (list_all (fits kind) (in_pairs rest)) (all_differ (map (λ given. given.0) (in_pairs rest))) even.1 in
+    let one = before form.names word words (names_counted form (word ∷ words) shaped) in
+    record { first = one.0; rest = rest; is = one.1; within = one.2; given = refl; even = even.0; fit = fit.0; differ = fit.1 }
 
-pub found_is : (kind : Kind) (words : List Text) → found_in kind words ≡ matches_of (app_of_kind kind) words
+pub found_is : (kind : Kind) (words : List Text) → found_in kind words ≡ matches_of (app_of_kind kind) (drop (form_of kind).names words)
 unfolding found_in
 found_is kind words = refl
 
@@ -94,44 +71,38 @@ module _ (kind : Kind) (words : List Text) (shaped : has_shape (form_of kind) wo
   ranged_is : list_all (is_given_in_range kind) (in_pairs p.rest) ≡ has_values_in_range (form_of kind) words
   ranged_is = ap (λ (ws : List Text). list_all (is_given_in_range kind) (in_pairs ws)) p.given
 
-  faults_are : fault_of (app_of_kind kind) words ≡ all_faults (map use_of (in_pairs p.rest))
-  faults_are = ap (fault_of (app_of_kind kind)) p.is ∙ fault_is kind p.first p.names p.rest p.many p.apart p.even p.fit p.differ
+  abbrev behind : List Text
+  behind = drop (form_of kind).names words
+
+  faults_are : fault_of (app_of_kind kind) behind ≡ all_faults (map use_of (in_pairs p.rest))
+  faults_are = ap (fault_of (app_of_kind kind)) p.is ∙ fault_is kind p.first p.rest p.even p.fit p.differ
 
   -- a parse fails for want of memory alone exactly where the values are in range
-  pub fails : fault_of (app_of_kind kind) words ≡ [] → has_values_in_range (form_of kind) words ≡ true
+  pub fails : fault_of (app_of_kind kind) behind ≡ [] → has_values_in_range (form_of kind) words ≡ true
   fails none = sym ranged_is ∙ refused_none kind (in_pairs p.rest) p.fit (sym faults_are ∙ none)
 
-  pub passes : has_values_in_range (form_of kind) words ≡ true → fault_of (app_of_kind kind) words ≡ []
+  pub passes : has_values_in_range (form_of kind) words ≡ true → fault_of (app_of_kind kind) behind ≡ []
   passes ranged = faults_are ∙ none_refused kind (in_pairs p.rest) p.fit (ranged_is ∙ ranged)
 
-  matches_are : matches_of (app_of_kind kind) words ≡ matches_of (app_of_kind kind) (p.first ∷ (p.names ++ p.rest))
+  matches_are : matches_of (app_of_kind kind) behind ≡ matches_of (app_of_kind kind) (p.first ∷ p.rest)
   matches_are = ap (matches_of (app_of_kind kind)) p.is
-
-  name_there : (place : ℕ) (id : Text) → slice_get (names_of kind) place ≡ Some id
-      → (t : Text) × (first_of id (matches_of (app_of_kind kind) words) ≡ Some t) × (slice_get (names_in (form_of kind) words) place ≡ Some t)
-  name_there place id is =
-      let t = text_at (names_of kind) p.names place id p.many is in (
-        t.0,
-        ap (first_of id) matches_are ∙ name_text kind p.first p.names p.rest p.many p.apart p.even p.fit p.differ place id t.0 is t.1,
-        ap (λ (ts : List Text). slice_get ts place) (sym p.named) ∙ t.1,
-      )
 
   module _ (option : OptionName) (has : has_option (form_of kind) (option_of option).word ≡ true) (ranged : has_values_in_range (form_of kind) words ≡ true) where
     values_are : value_for (option_of option) (in_pairs p.rest) ≡ value_for (option_of option) (given_options (form_of kind) words)
     values_are = ap (λ (ws : List Text). value_for (option_of option) (in_pairs ws)) p.given
 
     value_there : {E : Type 0} (G : List ℕ → Result ℕ E → Type 0) → ((u : List ℕ) (r : Result ℕ E) → G u r → ParsesUnsigned 64 10 u r)
-        → (r : Option ℕ) → (one_of (id_of option) (matches_of (app_of_kind kind) words) ≡ None → r ≡ None)
-        → ((t : Text) → one_of (id_of option) (matches_of (app_of_kind kind) words) ≡ Some t → ReadsOne G t r)
+        → (r : Option ℕ) → (one_of (id_of option) (matches_of (app_of_kind kind) behind) ≡ None → r ≡ None)
+        → ((t : Text) → one_of (id_of option) (matches_of (app_of_kind kind) behind) ≡ Some t → ReadsOne G t r)
         → value_for (option_of option) (given_options (form_of kind) words) ≡ r
     value_there {E = E} G only r none some =
-        sym values_are ∙ number_is kind p.first p.names p.rest p.many p.apart p.even p.fit p.differ option (known kind option has) (ranged_is ∙ ranged) E G only r
+        sym values_are ∙ number_is kind p.first p.rest p.even p.fit p.differ option (known_option kind option has) (ranged_is ∙ ranged) E G only r
         (λ e. none (ap (one_of (id_of option)) matches_are ∙ e)) (λ t e. some t (ap (one_of (id_of option)) matches_are ∙ e))
 
     pub value_in_range : (r : Option ℕ) → value_for (option_of option) (given_options (form_of kind) words) ≡ r → IfSome r (IsOptionValue (option_of option))
     value_in_range None is = tt
     value_in_range (Some n) is =
-        number_ranged kind p.first p.names p.rest p.many p.apart p.even p.fit p.differ option (known kind option has) (ranged_is ∙ ranged) n (values_are ∙ is)
+        number_ranged kind p.first p.rest p.even p.fit p.differ option (known_option kind option has) (ranged_is ∙ ranged) n (values_are ∙ is)
 
 -- how `u64` reads a text, where its errors are explained so
 abbrev GivesNumber : {E : Type 0} → (List ℕ → Result ℕ E → Type 0) → List ℕ → Result ℕ E → Type 0
@@ -139,14 +110,11 @@ GivesNumber explains bs r = ParsesUnsigned 64 10 bs r × explains bs r × HasUns
 
 -- what the getters of a parse give
 module _ (m : ArgMatches) (kind : Kind) (words : List Text) (read : AreReadWords kind words (rows_of (found_of m))) where
-  rows_are : rows_of (found_of m) ≡ matches_of (app_of_kind kind) words
-  rows_are = read.found ∙ found_is kind words
+  abbrev given : List Text
+  given = drop (form_of kind).names words
 
-  pub name_read : (place : ℕ) (id : Text) → slice_get (names_of kind) place ≡ Some id
-      → (t : Text) × (first_value (found_of m) id ≡ Some t) × (slice_get (names_in (form_of kind) words) place ≡ Some t)
-  name_read place id is =
-      let there = name_there kind words read.shaped place id is in
-      (there.0, first_value-rows (found_of m) id ∙ ap (first_of id) rows_are ∙ there.1, there.2)
+  rows_are : rows_of (found_of m) ≡ matches_of (app_of_kind kind) given
+  rows_are = read.found ∙ found_is kind words
 
   pub value_read : (option : OptionName) → has_option (form_of kind) (option_of option).word ≡ true
       → {E : Type 0} (explains : List ℕ → Result ℕ E → Type 0) (r : Option ℕ) (id : Text) → id ≡ id_of option
@@ -155,8 +123,8 @@ module _ (m : ArgMatches) (kind : Kind) (words : List Text) (read : AreReadWords
   value_read option has explains r id same none some =
       value_there kind words read.shaped option has read.in_range (GivesNumber explains) (λ u x gives. gives.0) r (λ e. none (text ∙ e)) (λ t e. some t (text ∙ e))
     where
-      text : one_text (found_of m) id ≡ one_of (id_of option) (matches_of (app_of_kind kind) words)
-      text = one_text-rows (found_of m) id ∙ ap (one_of id) rows_are ∙ ap (λ (i : Text). one_of i (matches_of (app_of_kind kind) words)) same
+      text : one_text (found_of m) id ≡ one_of (id_of option) (matches_of (app_of_kind kind) given)
+      text = one_text-rows (found_of m) id ∙ ap (one_of id) rows_are ∙ ap (λ (i : Text). one_of i (matches_of (app_of_kind kind) given)) same
 
 -- an option with a default always has a value
 pub some_value : (form : OptionForm) (ps : List (List ℕ × List ℕ)) → IsSome form.unless_given → (r : Option ℕ) → value_for form ps ≡ r → IsSome r
@@ -167,41 +135,20 @@ some_value form ps default None is = step (find (λ given. bytes_eq given.0 form
     step None h has = subst (λ (o : Option ℕ). IsSome o) h has
     step (Some given) h has = cc
 
-pub some_text : (r : Option (Bor (List ℕ))) (t : Text) → option_map (λ s. s.now) r ≡ Some t → IsSome r
-some_text None t e = cc
-some_text (Some s) t e = refl
-
--- ---- a name that is called as the command calls it
-
-pub below_names : (kind : Kind) (place : ℕ) {X : Type 0} (f : X → Text) (xs : List X) → map f xs ≡ names_of kind → place < (form_of kind).names → place < length xs
-below_names kind place f xs are below = omega (arith, name_count kind f xs are, below)
-
-called_at : {X : Type 0} (f : X → Text) (xs : List X) (place : ℕ) (d : X) → place < length xs → slice_get (map f xs) place ≡ Some (f (slice_index_or xs place d))
-called_at f [] place d below = absurd (omega arith)
-called_at f (x ∷ xs) zero d below = refl
-called_at f (x ∷ xs) (suc place) d below = called_at f xs place d (omega (arith, below))
-
-pub name_called : (m : ArgMatches) (kind : Kind) (words : List Text) → AreReadWords kind words (rows_of (found_of m)) → (place : ℕ) (called : List (Bor Text)) (d : Bor Text)
-    → map (λ name. name.now) called ≡ names_of kind → place < (form_of kind).names
-    → (t : Text) × (first_value (found_of m) (slice_index_or called place d).now ≡ Some t) × (slice_get (names_in (form_of kind) words) place ≡ Some t)
-name_called m kind words read place called d are below =
-    name_read m kind words read place _ (ap (λ (ids : List Text). slice_get ids place) (sym are)
-    ∙ called_at (λ (name : Bor Text). name.now) called place d (below_names kind place (λ (name : Bor Text). name.now) called are below))
-
 -- ---- the names as a list
 
-pub names_counted : (form : CommandForm) (words : List Text) → has_shape form words ≡ true → length (names_in form words) ≡ form.names
-names_counted form words shaped =
-    let outer = parts_true (begins_with form.word words) (are_names form (names_in form words) && are_options form (option_words form words)) shaped in
-    let inner = parts_true (are_names form (names_in form words)) (are_options form (option_words form words)) outer.1 in
-    let counted : (length (names_in form words) == form.names) ≡ true =
-    (parts_true (length (names_in form words) == form.names) (list_all form.is_name (names_in form words) && all_differ (names_in form words)) inner.0).0 in
-    grind (arith, nat_tests)
+slice_get-front : (n place : ℕ) (xs : List Text) → place < n → slice_get (take n xs) place ≡ slice_get xs place
+slice_get-front zero place xs below = absurd (omega arith)
+slice_get-front (suc n) place [] below = refl
+slice_get-front (suc n) zero (x ∷ xs) below = refl
+slice_get-front (suc n) (suc place) (x ∷ xs) below = slice_get-front n place xs (omega (arith, below))
 
-pub one_name : (xs : List Text) (a : Text) → length xs ≡ 1 → slice_get xs 0 ≡ Some a → xs ≡ a ∷ []
-one_name [] a count first = cc
-one_name (x ∷ []) a count first = cc
-one_name (x ∷ y ∷ xs) a count first = absurd (omega (arith, count))
+-- a name is the word behind as many words
+pub name_is : (form : CommandForm) (words : List Text) (place : ℕ) (t : Text) → place < form.names → slice_get words (place + 1) ≡ Some t → slice_get (names_in form words) place ≡ Some t
+name_is form [] place t below is = absurd (cc)
+name_is form (word ∷ words) place t below is =
+    let next : suc place ≡ place + 1 = omega arith in
+    slice_get-front form.names place words below ∙ ap (slice_get (word ∷ words)) next ∙ is
 
 pub two_names : (xs : List Text) (a b : Text) → length xs ≡ 2 → slice_get xs 0 ≡ Some a → slice_get xs 1 ≡ Some b → xs ≡ a ∷ b ∷ []
 two_names [] a b count first second = cc

@@ -6,7 +6,7 @@ use Rattle.std.specs.Str.{bytes_eq}
 use Rattle.std.proofs.lemmas.Slice.Eq.{bytes_eq-Decides}
 use Rattle.clap.specs.Words.{Rule, Text}
 use Rattle.clap.specs.Simple.{Shape}
-use Rattle.clap.specs.Walk.{Held, Waiting, Walk, after_flag, after_step, arg_by_id, arg_by_long, flag_met, idle, long_met, long_or_other, most_values, next, option, option_met, option_word, plain_word, settled, short_or_plain, takes_values, trailing, value, walked, word_met}
+use Rattle.clap.specs.Walk.{Held, Waiting, Walk, after_flag, after_step, arg_by_id, arg_by_long, flag_met, idle, long_met, long_or_other, most_values, next, option, option_met, option_word, plain_word, settled, short_or_plain, takes_values, trailing, walked, word_met}
 use Rattle.clap.specs.Lexer.{long_of, long_of_rest, short_of, short_of_rest, strip_byte}
 use Rattle.clap.specs.Facts.{unwrap_or_range}
 use Rattle.clap.specs.Faults.{flag_word_fault, long_fault, settle_fault, step_fault, turn_fault, word_fault, bundle_fault, option_fault, react_fault}
@@ -43,10 +43,6 @@ module _ (x : ℕ) (xs : Text) (e : eqb x 45 ≡ false) where
   dashes_is : bytes_eq (x ∷ xs) (45 ∷ 45 ∷ []) ≡ false
   dashes_is = rw e refl
 
-  pub plain_met : (c : List Rule) (p : ℕ) (h : Held) → word_met c [] false idle p (x ∷ xs) h ≡ plain_word c idle (x ∷ xs) h
-  plain_met c p h = ap (λ b. cond b (h, trailing p) (long_or_other c idle (x ∷ xs) (long_of (x ∷ xs)) h)) dashes_is
-      ∙ ap (λ o. long_or_other c idle (x ∷ xs) o h) long_is ∙ ap (λ o. short_or_plain c idle (x ∷ xs) o h) short_is
-
   pub value_met : (c : List Rule) (p : ℕ) (id : Text) (h : Held) → word_met c [] false (option id) p (x ∷ xs) h ≡ plain_word c (option id) (x ∷ xs) h
   value_met c p id h = ap (λ b. cond b (h, trailing p) (long_or_other c (option id) (x ∷ xs) (long_of (x ∷ xs)) h)) dashes_is
       ∙ ap (λ o. long_or_other c (option id) (x ∷ xs) o h) long_is ∙ ap (λ o. short_or_plain c (option id) (x ∷ xs) o h) short_is
@@ -56,10 +52,6 @@ module _ (x : ℕ) (xs : Text) (e : eqb x 45 ≡ false) where
   no_flag_fault s h = ap (λ b. cond b [] (flag_word_fault s.rules s.args_override_self (long_of (x ∷ xs)) (x ∷ xs) h)) dashes_is
       ∙ ap (λ o. flag_word_fault s.rules s.args_override_self o (x ∷ xs) h) long_is
       ∙ ap (λ o. option_map_or (λ flags. bundle_fault s.rules s.args_override_self flags h) o []) short_is
-
-  pub plain_fault : (s : Shape) (p : ℕ) (h : Held) → turn_fault s [] (at p idle h) (x ∷ xs) ≡ step_fault s p h value
-  plain_fault s p h = ap (λ k. or_else k (step_fault s p (word_met s.rules [] false idle p (x ∷ xs) h).0 (word_met s.rules [] false idle p (x ∷ xs) h).1)) (no_flag_fault s h)
-      ∙ ap (λ m. step_fault s p m.0 m.1) (plain_met s.rules p h)
 
   pub value_fault : (s : Shape) (p : ℕ) (id : Text) (h : Held) → turn_fault s [] (at p (option id) h) (x ∷ xs) ≡ []
   value_fault s p id h = ap (λ k. or_else k (step_fault s p (word_met s.rules [] false (option id) p (x ∷ xs) h).0 (word_met s.rules [] false (option id) p (x ∷ xs) h).1)) (no_flag_fault s h)

@@ -1,5 +1,5 @@
 -- The commands as clap's definitions see them.
-use Rattle.std.specs.Prelude.{◌≡◌, ℕ, List, [], ◌∷◌, ◌++◌, Option, Some, None, codes, true, map}
+use Rattle.std.specs.Prelude.{◌≡◌, ℕ, List, [], ◌∷◌, Option, Some, None, codes, true, drop, map}
 use Rattle.clap.specs.Words.{App, Row, Rule, matches_of, new_app, new_rule}
 use Rattle.clap.specs.declared.builder.action.ArgAction.TheVariants.{Set}
 use Rattle.clap.specs.declared.builder.value_parser.ValueParser.{ValueParser}
@@ -9,11 +9,7 @@ use Rattle.command_words.specs.declared.option_name.OptionName.{OptionName}
 use Rattle.command_words.specs.declared.option_name.OptionName.TheVariants.{Workers, Phases, Rounds, Seed, Budget}
 use Rattle.command_words.specs.declared.option_name.OptionName.TheVariants.{Cols, Rows, Layers, Nets}
 use Rattle.command_words.specs.CommandLine.{has_shape, has_values_in_range}
-use Rattle.command_words.specs.Kinds.{form_of, id_of, names_of, option_of, options_of}
-
--- a name that has to be there
-abbrev pub name_rule : List ℕ → Rule
-name_rule id = record (new_rule id) { action = Some Set; required = true }
+use Rattle.command_words.specs.Kinds.{form_of, id_of, option_of, options_of}
 
 -- an option with one value
 abbrev pub value_rule : List ℕ → ValueParser → Rule
@@ -44,12 +40,13 @@ option_rule option = record (value_rule (id_of option) (vp.Unsigned (option_of o
 abbrev pub app_with : List ℕ → List Rule → App
 app_with word rules = record (new_app word) { top = record (new_app word).top { rules = rules } }
 
+-- the options of the command; its names are no part of it
 abbrev pub app_of_kind : Kind → App
-app_of_kind kind = app_with (form_of kind).word (map name_rule (names_of kind) ++ map option_rule (options_of kind))
+app_of_kind kind = app_with (codes "grouter") (map option_rule (options_of kind))
 
--- what clap finds in the words
+-- what clap finds of the options in the words behind the names, before which one more word stands
 unfoldable pub found_in : Kind → List (List ℕ) → List Row
-found_in kind words = matches_of (app_of_kind kind) words
+found_in kind words = matches_of (app_of_kind kind) (drop (form_of kind).names words)
 
 -- the words have the command's shape and values in range, and this was found in them
 pub record AreReadWords (kind : Kind) (words : List (List ℕ)) (rows : List Row) : Type 0 where

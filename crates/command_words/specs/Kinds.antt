@@ -1,5 +1,5 @@
 -- The commands and options that the program knows by name.
-use Rattle.std.specs.Prelude.{ℕ, List, [], ◌∷◌, codes, drop}
+use Rattle.std.specs.Prelude.{ℕ, List, [], ◌∷◌, drop}
 use Rattle.command_words.specs.declared.kind.Kind.{Kind}
 use Rattle.command_words.specs.declared.kind.Kind.TheVariants.{Route, Measure, Judge, Make, Trial}
 use Rattle.command_words.specs.declared.option_name.OptionName.{OptionName}
@@ -38,11 +38,3 @@ options_of Measure = []
 options_of Judge = []
 options_of Make = Seed ∷ Cols ∷ Rows ∷ Layers ∷ Nets ∷ []
 options_of Trial = Cols ∷ Rows ∷ Layers ∷ Nets ∷ []
-
--- what each name of the command is called
-abbrev pub names_of : Kind → List (List ℕ)
-names_of Route = codes "IN" ∷ codes "ROUTES" ∷ codes "CERT" ∷ []
-names_of Measure = codes "IN" ∷ codes "ROUTES" ∷ []
-names_of Judge = codes "IN" ∷ codes "ROUTES" ∷ codes "CERT" ∷ []
-names_of Make = codes "OUT" ∷ []
-names_of Trial = codes "SEED" ∷ []

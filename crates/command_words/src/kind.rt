@@ -1,10 +1,10 @@
 //! The commands, before their words are read.
 
-ghost use Rattle.std.specs.Prelude.{◌≡◌, MatchOption, map, false, true};
+ghost use Rattle.std.specs.Prelude.{◌≡◌, MatchOption, false, true};
 ghost use Rattle.std.specs.Str.{bytes_eq};
 ghost use Rattle.command_words.specs.declared.kind.Kind.{Kind};
 ghost use Rattle.command_words.specs.CommandLine.{has_option};
-ghost use Rattle.command_words.specs.Kinds.{form_of, names_of, options_of};
+ghost use Rattle.command_words.specs.Kinds.{form_of, options_of};
 
 use crate::option_name::{OptionName, is_word_among};
 use crate::word::{is_file_name, seed_of};
@@ -35,36 +35,15 @@ impl Kind {
         }
     }
 
-    /// The command's word.
-    pub(crate) fn word<'a>(self) -> &'a str
-        ensures { result.now ≡ (form_of self).word }
-    {
-        match self {
-            Kind::Route => "route",
-            Kind::Measure => "measure",
-            Kind::Judge => "judge",
-            Kind::Make => "make",
-            Kind::Trial => "trial",
-        }
-    }
-
-    /// What each of the names that follow is called.
-    pub(crate) fn names<'a>(self) -> &'a [&'a str]
-        ensures { map (λ name. name.now) result.now ≡ names_of self }
-    {
-        match self {
-            Kind::Route | Kind::Judge => &["IN", "ROUTES", "CERT"],
-            Kind::Measure => &["IN", "ROUTES"],
-            Kind::Make => &["OUT"],
-            Kind::Trial => &["SEED"],
-        }
-    }
-
     /// How many names follow.
     pub(crate) fn name_count(self) -> usize
         ensures { result ≡ (form_of self).names }
     {
-        self.names().len()
+        match self {
+            Kind::Route | Kind::Judge => 3,
+            Kind::Measure => 2,
+            Kind::Make | Kind::Trial => 1,
+        }
     }
 
     /// The options that the command has.

@@ -30,38 +30,39 @@ pub(crate) enum OptionName {
 }
 
 impl OptionName {
+    /// The table of options: the word, the same without its two hyphens, the values, and the text that stands for the option
+    /// where it isn't given.
+    fn row<'a>(self) -> (&'a str, &'a str, ValueParser<'a>, Option<&'a str>)
+        ensures word { result.0.now ≡ (option_of self).word }
+        ensures id { result.1.now ≡ id_of self }
+        ensures values { result.2 ≡ vp.Unsigned (option_of self).least (option_of self).most }
+        ensures default { option_map (λ text. text.now) result.3 ≡ default_text self }
+    {
+        match self {
+            OptionName::Workers => ("--workers", "workers", between(1, 8), Some("1")),
+            OptionName::Phases => ("--phases", "phases", between(1, 16), Some("4")),
+            OptionName::Rounds => ("--rounds", "rounds", between(0, 16), Some("4")),
+            OptionName::Seed => ("--seed", "seed", value_parser!(u64), Some("0")),
+            OptionName::Budget => ("--budget", "budget", between(1, MOST_BUDGET), None),
+            OptionName::Cols => ("--cols", "cols", between(2, 1024), Some("16")),
+            OptionName::Rows => ("--rows", "rows", between(2, 1024), Some("16")),
+            OptionName::Layers => ("--layers", "layers", between(2, 8), Some("4")),
+            OptionName::Nets => ("--nets", "nets", between(0, 1_048_576), Some("200")),
+        }
+    }
+
     /// Whether this is the option's word.
     pub(crate) fn is_word(self, word: &str) -> bool
         ensures { result ≡ bytes_eq word.now (option_of self).word }
     {
-        match self {
-            OptionName::Workers => word == "--workers",
-            OptionName::Phases => word == "--phases",
-            OptionName::Rounds => word == "--rounds",
-            OptionName::Seed => word == "--seed",
-            OptionName::Budget => word == "--budget",
-            OptionName::Cols => word == "--cols",
-            OptionName::Rows => word == "--rows",
-            OptionName::Layers => word == "--layers",
-            OptionName::Nets => word == "--nets",
-        }
+        word == self.row().0
     }
 
     /// The option's word without its two hyphens.
     pub(crate) fn id<'a>(self) -> &'a str
         ensures { result.now ≡ id_of self }
     {
-        match self {
-            OptionName::Workers => "workers",
-            OptionName::Phases => "phases",
-            OptionName::Rounds => "rounds",
-            OptionName::Seed => "seed",
-            OptionName::Budget => "budget",
-            OptionName::Cols => "cols",
-            OptionName::Rows => "rows",
-            OptionName::Layers => "layers",
-            OptionName::Nets => "nets",
-        }
+        self.row().1
     }
 
     /// The option as clap knows it.
@@ -69,40 +70,11 @@ impl OptionName {
         ensures rule { rule_of result ≡ option_rule self }
         ensures local { result.global ≡ false }
     {
-        let arg = option(alloc, self.id(), self.values());
-        match self.unless_given() {
+        let (_, id, values, unless_given) = self.row();
+        let arg = option(alloc, id, values);
+        match unless_given {
             Some(text) => arg.default_value(text),
             None => arg,
-        }
-    }
-
-    /// The text that stands for the option where it isn't given.
-    fn unless_given<'a>(self) -> Option<&'a str>
-        ensures { option_map (λ text. text.now) result ≡ default_text self }
-    {
-        match self {
-            OptionName::Workers => Some("1"),
-            OptionName::Phases | OptionName::Rounds | OptionName::Layers => Some("4"),
-            OptionName::Seed => Some("0"),
-            OptionName::Budget => None,
-            OptionName::Cols | OptionName::Rows => Some("16"),
-            OptionName::Nets => Some("200"),
-        }
-    }
-
-    /// The values that the option may have.
-    fn values<'a>(self) -> ValueParser<'a>
-        ensures { result ≡ vp.Unsigned (option_of self).least (option_of self).most }
-    {
-        match self {
-            OptionName::Workers => between(1, 8),
-            OptionName::Phases => between(1, 16),
-            OptionName::Rounds => between(0, 16),
-            OptionName::Seed => value_parser!(u64),
-            OptionName::Budget => between(1, MOST_BUDGET),
-            OptionName::Cols | OptionName::Rows => between(2, 1024),
-            OptionName::Layers => between(2, 8),
-            OptionName::Nets => between(0, 1_048_576),
         }
     }
 }

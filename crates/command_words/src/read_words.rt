@@ -1,6 +1,6 @@
 //! The words of a command, read by clap.
 
-ghost use Rattle.std.specs.Prelude.{◌≡◌, ◌<◌, ◌^◌, IfErr, IfOk, IfSome, IsSome, Some, map, slice_get, string_bytes};
+ghost use Rattle.std.specs.Prelude.{◌≡◌, ◌≤◌, ◌<◌, ◌^◌, IfErr, IfOk, IfSome, IsSome, Some, drop, length, map, slice_get, string_bytes};
 ghost use Rattle.std.specs.Prelude.{true, false};
 ghost use Rattle.clap.specs.Words.{found_of, rows_of};
 ghost use Rattle.command_words.specs.Apps.{AreReadWords};
@@ -16,7 +16,7 @@ use crate::words_error::WordsError;
 use clap::ArgMatches;
 use std::alloc::Global;
 
-/// Words of a command's shape whose values are in range, and what clap found in them.
+/// Words of a command's shape whose values are in range, and what clap found in its options.
 #[derive(Drop)]
 pub(crate) struct ReadWords<'a> {
     kind: Kind,
@@ -26,7 +26,8 @@ pub(crate) struct ReadWords<'a> {
 }
 
 impl<'a> ReadWords<'a> {
-    /// Has clap read words of the command's shape. They are refused where a value is out of its range.
+    /// Has clap read the options in words of the command's shape; the word before them stands where clap looks for the
+    /// program's name. The words are refused where a value is out of its range.
     pub(crate) fn of(
         alloc: Global,
         kind: Kind,
@@ -37,7 +38,8 @@ impl<'a> ReadWords<'a> {
         ensures refused { IfErr result (λ e. e ≡ Refused
             → has_values_in_range (form_of kind) (map string_bytes words.now) ≡ false) }
     {
-        let matches = clap_command(alloc, kind)?.try_get_matches_from(words)?;
+        let given = words_from(words, kind.name_count());
+        let matches = clap_command(alloc, kind)?.try_get_matches_from(given)?;
         Ok(ReadWords {
             kind,
             words,
@@ -51,7 +53,7 @@ impl<'a> ReadWords<'a> {
         ensures { slice_get (names_in (form_of self.now.kind) (map string_bytes self.now.words.now)) place
             ≡ Some result.now }
     {
-        self.matches.get_str(self.kind.names()[place]).unwrap()
+        self.words[place + 1].as_str()
     }
 
     /// The value of an option of the command.
@@ -86,4 +88,12 @@ impl<'a> ReadWords<'a> {
     {
         self.number(option) as u32
     }
+}
+
+/// The words from this place on.
+fn words_from(words: &[String], place: usize) -> &[String]
+    requires { place ≤ length words.now }
+    ensures { result.now ≡ drop place words.now }
+{
+    &words[place..]
 }

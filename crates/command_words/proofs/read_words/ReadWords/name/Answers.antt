@@ -1,20 +1,22 @@
-use Rattle.std.proofs.Common.{◌∙◌, ℕ, List, ap, map, sym}
-use Rattle.std.specs.Borrow.{Bor}
+use Rattle.std.proofs.Common.{◌∙◌, ◌+◌, ◌<◌, Some, ap, arith, length, map, sym}
 use Rattle.std.specs.Prelude.{option_map, string_bytes}
-use Rattle.command_words.proofs.Parts.{below_names, name_called, some_text}
+use Rattle.std.proofs.lemmas.List.{length-map}
+use Rattle.std.proofs.lemmas.Option.{slice_get-get_or, slice_get-map}
+use Rattle.command_words.specs.Kinds.{form_of}
+use Rattle.command_words.proofs.Parts.{name_is, parted}
 use Rattle.command_words.proofs.read_words.ReadWords.name.Goals as goal
 
-pub bounds-names-place : goal.bounds-names-place
-bounds-names-place c = below_names c.args.self.now.kind c.args.place (λ (name : Bor (List ℕ)). name.now) c.names.result.now c.names.ensures c.requires
-
-pub unwrap-requires : goal.unwrap-requires
-unwrap-requires c =
+pub bounds-self-place : goal.bounds-self-place
+bounds-self-place c =
     let s = c.args.self.now in
-    let name = name_called s.matches s.kind (map string_bytes s.words.now) s.read c.args.place c.names.result.now _ c.names.ensures c.requires in
-    some_text c.get_str.result name.0 (c.get_str.ensures ∙ name.1)
+    omega (arith, (parted s.kind (map string_bytes s.words.now) s.read.shaped).within, length-map s.words.now string_bytes, c.requires)
 
 pub returns : goal.returns
 returns c =
     let s = c.args.self.now in
-    let name = name_called s.matches s.kind (map string_bytes s.words.now) s.read c.args.place c.names.result.now _ c.names.ensures c.requires in
-    name.2 ∙ sym (c.get_str.ensures ∙ name.1) ∙ ap (option_map (λ (t : Bor (List ℕ)). t.now)) c.unwrap.ensures
+    let words = s.words.now in
+    let within : c.args.place + 1 < length words =
+    omega (arith, (parted s.kind (map string_bytes words) s.read.shaped).within, length-map words string_bytes, c.requires) in
+    name_is (form_of s.kind) (map string_bytes words) c.args.place _ c.requires
+    (slice_get-map string_bytes words (c.args.place + 1) ∙ ap (option_map string_bytes) (slice_get-get_or words (c.args.place + 1) c.index-self-place.result within)
+    ∙ ap (λ t. Some t) (sym c.as_str.ensures.value))

@@ -1,4 +1,5 @@
-use Rattle.std.proofs.Common.{◌≡◌, ◌∙◌, Bool, Result, Ok, Err, IfErr, [], inl, inr, map, ap, sym, subst, true, false, refl}
+use Rattle.std.proofs.Common.{◌≡◌, ◌∙◌, ℕ, Bool, List, String, Result, Ok, Err, IfErr, [], inl, inr, drop, map, ap, ap₂, sym, subst, true, false, refl, arith}
+use Rattle.std.proofs.lemmas.List.{drop-map, length-map}
 use Rattle.std.specs.Prelude.{string_bytes}
 use Rattle.std.specs.Result.{IsErrAnd}
 use Rattle.clap.specs.Kinds.{HasKind, Kinds}
@@ -12,8 +13,8 @@ use Rattle.command_words.specs.Kinds.{form_of}
 use Rattle.command_words.specs.Apps.{app_of_kind}
 use Rattle.command_words.specs.declared.words_error.WordsError.{WordsError}
 use Rattle.command_words.specs.declared.words_error.WordsError.TheVariants.{NoMemory, Refused}
-use Rattle.command_words.proofs.Parts.{fails, found_is, passes}
-use Rattle.command_words.proofs.Rules.{simple, simple_and_free}
+use Rattle.command_words.proofs.Parts.{fails, found_is, parted, passes}
+use Rattle.command_words.proofs.Rules.{known}
 use Rattle.command_words.proofs.read_words.ReadWords.of.Goals as goal
 
 -- where the values are in range a parse fails for want of memory alone
@@ -30,25 +31,36 @@ refused_out_of_range (Err e) fault kinds true has none gives = λ is.
       | inr never ↦ absurd never
     ]
 
+pub words_from-given-requires : goal.words_from-given-requires
+words_from-given-requires c =
+    let p = parted c.args.kind (map string_bytes c.args.words.now) c.requires in
+    omega (arith, p.within, length-map c.args.words.now string_bytes, c.name_count.ensures)
+
+-- the words that clap sees
+behind : {Z : Type 0} (words seen : List (String Z)) (count names : ℕ) → seen ≡ drop count words → count ≡ names → map string_bytes seen ≡ drop names (map string_bytes words)
+behind words seen count names is same = ap (map string_bytes) is ∙ sym (drop-map string_bytes count words) ∙ ap (λ n. drop n (map string_bytes words)) same
+
 pub returns-in_err-matches-clause-refused : goal.returns-in_err-matches-clause-refused
 returns-in_err-matches-clause-refused c =
     let kind = c.args.kind in
     let words = map string_bytes c.args.words.now in
     let app : app_of c.in_ok-clap_command.field-0 ≡ app_of_kind kind = c.in_ok-clap_command.ensures in
+    let seen = behind c.args.words.now c.words_from-given.result.now _ (form_of kind).names c.words_from-given.ensures c.name_count.ensures in
     refused_out_of_range _ c.in_err-matches.field-0.0 _ (has_values_in_range (form_of kind) words)
-    (c.in_err-matches.ensures.kinds (ap is_simple_and_free app ∙ simple_and_free kind))
-    (λ ranged. ap (λ a. fault_of a words) app ∙ passes kind words c.requires ranged) c.from_residual-in_err-matches.ensures.1
+    (c.in_err-matches.ensures.kinds (ap is_simple_and_free app ∙ (known kind).free))
+    (λ ranged. ap₂ fault_of app seen ∙ passes kind words c.requires ranged) c.from_residual-in_err-matches.ensures.1
 
 pub invariant_of-result : goal.invariant_of-result
 invariant_of-result c =
     let kind = c.args.kind in
     let words = map string_bytes c.args.words.now in
     let app : app_of c.in_ok-clap_command.field-0 ≡ app_of_kind kind = c.in_ok-clap_command.ensures in
-    let none = c.in_ok-matches.ensures.kinds (ap is_simple_and_free app ∙ simple_and_free kind) in
+    let seen = behind c.args.words.now c.words_from-given.result.now _ (form_of kind).names c.words_from-given.ensures c.name_count.ensures in
+    let none = c.in_ok-matches.ensures.kinds (ap is_simple_and_free app ∙ (known kind).free) in
     record {
       read = record {
         shaped = c.requires;
-        in_range = fails kind words c.requires (sym (ap (λ a. fault_of a words) app) ∙ none);
-        found = (c.in_ok-matches.ensures.matches (ap is_simple app ∙ simple kind)).0 ∙ ap (λ a. matches_of a words) app ∙ sym (found_is kind words);
+        in_range = fails kind words c.requires (sym (ap₂ fault_of app seen) ∙ none);
+        found = (c.in_ok-matches.ensures.matches (ap is_simple app ∙ (known kind).simple)).0 ∙ ap₂ matches_of app seen ∙ sym (found_is kind words);
       };
     }
