@@ -1,4 +1,4 @@
--- Boxes of terminals: the columns, rows and layers that they extent.
+-- Boxes of terminals: the columns, rows and layers that they span.
 use Rattle.std.specs.Prelude.{ℕ, zero, suc, ◌+◌, ◌-◌, ◌*◌, ◌^◌, ◌<◌, ◌==◌, cond, min, max, List, length, get_or}
 use Rattle.grid_base.specs.declared.place.Place.{Place}
 use Rattle.grid_base.specs.declared.size.Size.{Size}

@@ -1,4 +1,4 @@
-//! Spans of numbers.
+//! Extents of numbers.
 
 /// The least and the greatest of some columns, rows or layers.
 #[derive(Debug, Drop, Clone, Copy, PartialEq, Eq)]
