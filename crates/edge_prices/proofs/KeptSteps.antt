@@ -3,6 +3,7 @@ use Rattle.std.proofs.Common.{ℕ, Bool, true, false, ◌↔◌, ◌≡◌, ◌�
 use Rattle.std.specs.Prelude.{Option}
 use Rattle.std.proofs.lemmas.Bool.{cases_eq, cases_lt, iff_false}
 use Rattle.std.proofs.lemmas.Grind.{get_or-set_at}
+use Rattle.std.proofs.lemmas.List.{get_or_read}
 use Rattle.std.proofs.lemmas.List.FromFn.{fill_by_all}
 use Rattle.grid_base.specs.declared.axis.Axis.{Axis}
 use Rattle.grid_base.specs.Numbers.{edge_axis}
@@ -126,14 +127,18 @@ stays_below top before after moves means never within = elim (cases_lt top after
   )
 ]
 
-pub KeepsGreatest-by : (g : Grid) (loads : List ℕ) (scale : ℕ) (budget : Option ℕ) (r load top before after : ℕ) (moves : Bool) → r < entries g → top ≡ top_of g loads scale budget →
-    before ≡ index_of g loads scale budget r → after ≡ index_or_zero (capacity_of g budget r) load scale →
+-- a load that moves no greatest index, by what was read and compared
+pub KeepsGreatest-by : (g : Grid) (loads : List ℕ) (scale : ℕ) (budget : Option ℕ) (r load top read before after : ℕ) (moves : Bool) → IsLoadList g loads → r < entries g →
+    top ≡ top_of g loads scale budget → read ≡ get_or loads r read → before ≡ index_or_zero (capacity_of g budget r) read scale →
+    after ≡ index_or_zero (capacity_of g budget r) load scale →
     (moves ≡ true) ↔ ((top < after) ⊎ ((before ≡ top) × (after < before))) → moves ≡ false → KeepsGreatest g loads scale budget r load
-KeepsGreatest-by g loads scale budget r load top before after moves inside greatest was is means never =
+KeepsGreatest-by g loads scale budget r load top read before after moves loaded inside greatest found was is means never =
+    let had : before ≡ index_of g loads scale budget r =
+    was ∙ ap (λ x. index_or_zero (capacity_of g budget r) x scale) (get_or_read loads r read (omega (arith, loaded.long, inside)) found 0) in
     let bound = le-greatest (index_of g loads scale budget) (entries g) r inside in
-    let stays = stays_below top before after moves means never (omega (arith, bound)) in
+    let stays = stays_below top before after moves means never (omega (arith, bound, had)) in
     record {
       inside = inside;
       low = omega (arith, stays.0);
-      other = elim stays.1 [ inl lower ↦ inl (omega arith) | inr same ↦ inr (omega arith) ];
+      other = elim stays.1 [ inl lower ↦ inl (omega (arith, had)) | inr same ↦ inr (omega (arith, had)) ];
     }

@@ -1,8 +1,9 @@
 //! Steps on one word, each an event of the core.
 
-ghost use Rattle.std.specs.Prelude.{◌≡◌, ◌<◌, ◌≤◌, ◌+◌, [], length, true};
+ghost use Rattle.std.specs.Prelude.{◌≡◌, ◌<◌, ◌≤◌, ◌+◌, [], length};
 ghost use Rattle.load_core.specs.Parties.{added, loaded, share_at, taken, whole_allotment};
 ghost use Rattle.load_core.specs.Soundness.{IsCloseTo};
+ghost use Rattle.load_table.specs.Tables.{MayStep};
 
 use crate::rule::Sums;
 use atomic_table::{Play, Seat, Shared};
@@ -42,11 +43,7 @@ pub(crate) fn add(
     word: usize,
     amount: u64,
 )
-    requires table { seat.old.table_id ≡ table.now.table_id }
-    requires word { word < table.now.table_id.words }
-    requires key { table.now.key ≡ table.now.table_id.words }
-    requires free { seat.old.me.1 ≡ [] }
-    requires live { seat.old.me.0.live ≡ true }
+    requires may { MayStep seat.old.table_id table.now.table_id table.now.key seat.old.me word }
     requires wide { word < length seat.old.me.0.shares }
     requires room { share_at word seat.old.me.0 + amount ≤ seat.old.me.0.allot }
     ensures party { seat.new.me ≡ (added seat.old.me.0 word amount, []) }
@@ -61,11 +58,7 @@ pub(crate) fn sub(
     word: usize,
     amount: u64,
 )
-    requires table { seat.old.table_id ≡ table.now.table_id }
-    requires word { word < table.now.table_id.words }
-    requires key { table.now.key ≡ table.now.table_id.words }
-    requires free { seat.old.me.1 ≡ [] }
-    requires live { seat.old.me.0.live ≡ true }
+    requires may { MayStep seat.old.table_id table.now.table_id table.now.key seat.old.me word }
     requires wide { word < length seat.old.me.0.shares }
     requires had { amount ≤ share_at word seat.old.me.0 }
     ensures party { seat.new.me ≡ (taken seat.old.me.0 word amount, []) }
@@ -79,11 +72,7 @@ pub(crate) fn load(
     seat: &mut Seat<u8, Party>,
     word: usize,
 ) -> u64
-    requires table { seat.old.table_id ≡ table.now.table_id }
-    requires word { word < table.now.table_id.words }
-    requires key { table.now.key ≡ table.now.table_id.words }
-    requires free { seat.old.me.1 ≡ [] }
-    requires live { seat.old.me.0.live ≡ true }
+    requires may { MayStep seat.old.table_id table.now.table_id table.now.key seat.old.me word }
     ensures close { IsCloseTo seat.old.me.0 word result }
     ensures party { seat.new.me ≡ (loaded seat.old.me.0 word result, []) }
     ensures table { seat.new.table_id ≡ seat.old.table_id }

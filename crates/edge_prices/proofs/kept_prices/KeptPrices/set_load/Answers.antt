@@ -1,8 +1,8 @@
-use Rattle.std.proofs.Common.{ℕ, slice_index, ◌≡◌, ◌<◌, List, length, ap, sym, subst, set, ◌∙◌, arith, length-set, get_or-set_other}
-use Rattle.std.proofs.lemmas.List.{get_or_read, with_items_is}
+use Rattle.std.proofs.Common.{ℕ, slice_index, List, length, ap, sym, subst, set, ◌∙◌, arith, length-set, get_or-set_other}
+use Rattle.std.proofs.lemmas.List.{with_items_is}
 use Rattle.edge_prices.specs.Prices.{index_or_zero}
 use Rattle.edge_prices.specs.TilePrices.{AreTilePrices}
-use Rattle.edge_prices.specs.Vectors.{capacity_of, index_of}
+use Rattle.edge_prices.specs.Vectors.{capacity_of}
 use Rattle.edge_prices.specs.Weights.{ArePrices}
 use Rattle.edge_prices.proofs.KeptSteps.{AreLeast-set, IsCurrent-set, IsLoadList-set, KeepsGreatest-by, vector-set}
 use Rattle.edge_prices.proofs.PriceVectors.{price_vector-ArePrices}
@@ -19,11 +19,8 @@ write_tile_price-requires-clause-prices c =
     let load = c.args.load in
     let price = c.price-price.result in
     let current = s.kept.fresh c.if-self.false in
-    let inside : r < length loads = omega (arith, s.kept.loaded.long) in
-    let before : c.index-before.result ≡ index_of g loads scale budget r =
-    c.index-before.ensures ∙ ap (λ x. index_or_zero (capacity_of g budget r) x scale) (get_or_read loads r c.index.result.now inside c.index.ensures 0) in
-    let keeps = KeepsGreatest-by g loads scale budget r load s.top c.index-before.result c.index-index.result c.moves_greatest.result
-    c.requires.entry current.greatest before c.index-index.ensures c.moves_greatest.ensures c.if-moves_greatest.false in
+    let keeps = KeepsGreatest-by g loads scale budget r load s.top c.index.result.now c.index-before.result c.index-index.result c.moves_greatest.result
+    s.kept.loaded c.requires.entry current.greatest c.index.ensures c.index-before.ensures c.index-index.ensures c.moves_greatest.ensures c.if-moves_greatest.false in
     let vector = vector-set g loads scale budget s.prices.items s.top r load price s.kept.loaded current.vector current.greatest keeps c.price-price.ensures in
     subst (ArePrices g) (sym (c.as_slice.ensures.value ∙ vector)) (price_vector-ArePrices g (set loads r load) scale budget)
 
@@ -38,11 +35,8 @@ invariant_of-self-2 c =
     let load = c.args.load in
     let price = c.price-price.result in
     let current = s.kept.fresh c.if-self.false in
-    let inside : r < length loads = omega (arith, s.kept.loaded.long) in
-    let before : c.index-before.result ≡ index_of g loads scale budget r =
-    c.index-before.ensures ∙ ap (λ x. index_or_zero (capacity_of g budget r) x scale) (get_or_read loads r c.index.result.now inside c.index.ensures 0) in
-    let keeps = KeepsGreatest-by g loads scale budget r load s.top c.index-before.result c.index-index.result c.moves_greatest.result
-    c.requires.entry current.greatest before c.index-index.ensures c.moves_greatest.ensures c.if-moves_greatest.false in
+    let keeps = KeepsGreatest-by g loads scale budget r load s.top c.index.result.now c.index-before.result c.index-index.result c.moves_greatest.result
+    s.kept.loaded c.requires.entry current.greatest c.index.ensures c.index-before.ensures c.index-index.ensures c.moves_greatest.ensures c.if-moves_greatest.false in
     let lowest = AreLeast-set g budget s.prices.items s.least c.with_entry-self.result r price s.top (index_or_zero (capacity_of g budget r) load scale)
     (omega (arith, s.kept.long)) current.lowest c.price-price.ensures
     (λ edge some. c.with_entry-self.ensures.edge (omega (arith, c.edges.ensures)) some) c.with_entry-self.ensures.others in
