@@ -9,7 +9,6 @@ ghost use Rattle.steiner_tables.specs.Masks.{rooted_masks};
 ghost use Rattle.label_search.specs.Sets.{IsLeastWeight, IsEither};
 ghost use Rattle.lower_bound.specs.HalfWords.{IsHalf, IsSumOfHalves};
 ghost use Rattle.lower_bound.specs.KeptCosts.{AreKeptCosts};
-ghost use Rattle.lower_bound.specs.NetBounds.{IsLeastToOther};
 
 use crate::halves::has_twin;
 use crate::kept_costs::KeptCosts;
@@ -51,38 +50,7 @@ fn another(place: usize) -> usize
     if place == 0 { 1 } else { 0 }
 }
 
-/// The least weight of joining the tile at a place to one other.
-fn nearest_other<W: FlooredWeights>(
-    weights: &W,
-    kept: &mut KeptCosts,
-    tiles: &[Vertex],
-    place: usize,
-    labels: &mut Labels,
-) -> u64
-    requires labels { labels_size labels.old ≡ W.size weights.now }
-    requires room { rooted_masks ≤ masks_of labels.old }
-    requires two { 2 ≤ length tiles.now }
-    requires place { place < length tiles.now }
-    requires vertices { All (λ v. IsVertex (W.size weights.now) v.0) tiles.now }
-    requires joined { Joins (W.size weights.now) (IsAllowed (W.pieces weights.now)) (InVertices tiles.now) }
-    requires kept { AreKeptCosts (W.size weights.now) (W.pieces weights.now) kept.old.entries.items }
-    ensures least { IsLeastToOther (W.size weights.now) (W.pieces weights.now) tiles.now place result }
-    ensures kept { AreKeptCosts (W.size weights.now) (W.pieces weights.now) kept.new.entries.items }
-    ensures size { labels_size labels.new ≡ labels_size labels.old }
-    ensures masks { masks_of labels.new ≡ masks_of labels.old }
-{
-    let first = another(place);
-    let here = tiles[place];
-    let mut least = between(weights, kept, here, tiles[first], labels);
-    for other in 0..tiles.len() {
-        if other != place {
-            least = least.min(between(weights, kept, here, tiles[other], labels));
-        }
-    }
-    least
-}
-
-/// Half of that, rounded down.
+/// Half of the least weight of joining the tile at a place to one other, rounded down.
 fn kept_half<W: FlooredWeights>(
     weights: &W,
     kept: &mut KeptCosts,
@@ -105,7 +73,15 @@ fn kept_half<W: FlooredWeights>(
     if has_twin(tiles, place) {
         return 0;
     }
-    nearest_other(weights, kept, tiles, place, labels) / 2
+    let first = another(place);
+    let here = tiles[place];
+    let mut least = between(weights, kept, here, tiles[first], labels);
+    for other in 0..tiles.len() {
+        if other != place {
+            least = least.min(between(weights, kept, here, tiles[other], labels));
+        }
+    }
+    least / 2
 }
 
 /// The sum of these halves over all tiles.

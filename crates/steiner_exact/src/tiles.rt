@@ -1,7 +1,6 @@
 //! The tiles of terminals.
 
-ghost use Rattle.std.specs.Prelude.{◌≡◌, All, IfOk};
-ghost use Rattle.grid_base.specs.Numbers.{IsVertex};
+ghost use Rattle.std.specs.Prelude.{◌≡◌, IfOk, length};
 ghost use Rattle.grid_graph.specs.TilePieces.{tiles_of};
 
 use grid_base::{NoMemory, Size, Vertex};
@@ -9,7 +8,8 @@ use std::alloc::Global;
 
 /// The tile of each terminal, as a vertex of the flat grid.
 pub fn tiles_of(alloc: Global, size: Size, terminals: &[Vertex]) -> Result<Vec<Vertex>, NoMemory>
-    ensures { IfOk result (λ tiles. tiles.items ≡ tiles_of size terminals.now) }
+    ensures tiles { IfOk result (λ tiles. tiles.items ≡ tiles_of size terminals.now) }
+    ensures long { IfOk result (λ tiles. length tiles.items ≡ length terminals.now) }
 {
     let per_layer = size.cols() * size.rows();
     let mut tiles = Vec::new(alloc);

@@ -80,7 +80,8 @@ fn least_of_several<W: FlooredWeights>(
     Ok((tree, weight))
 }
 
-/// The least weight of a set that joins the terminals, with the table that tells it.
+/// The least weight of a set that joins the terminals, with the table that tells it. Where there are several layers, a table
+/// of the terminals' tiles bounds it.
 fn least_weight<W: FlooredWeights>(
     alloc: Global,
     weights: &W,
@@ -98,7 +99,18 @@ fn least_weight<W: FlooredWeights>(
     if labels.grid.size().layers() == 1 {
         return least_by_boxes(alloc, weights, terminals, &mut labels.grid);
     }
-    least_by_tiles(alloc, weights, terminals, labels)
+    let listed = tiles_of(alloc, labels.grid.size(), terminals)?;
+    let tiles = listed.as_slice();
+    let ground = FlatWeights::new(weights, labels.flat.size(), labels.flat_edges.as_slice());
+    let bounds = BoxFamily::new(&ground, labels.flat.size(), tiles);
+    let guess = tree_guess(alloc, &ground, tiles, &mut labels.flat)?;
+    let limit = (guess + TABLE_SLACK).min(MOST);
+    let last = all_of(tiles.len()) - 1;
+    labels.flat.pruned(&ground, &bounds, tiles, last, limit);
+    let across = root_label(&labels.flat, tiles).unwrap_or(guess) + FIRST_SLACK;
+    let size = labels.grid.size();
+    let family = RowFamily::new(weights, size, terminals, &bounds, &labels.flat, limit);
+    Ok(least_at_root(weights, &family, terminals, across, &mut labels.grid))
 }
 
 /// The same by a search under boxes.
@@ -121,33 +133,4 @@ fn least_by_boxes<W: FlooredWeights>(
     let guess = tree_guess(alloc, weights, terminals, labels)?;
     let family = BoxFamily::new(weights, labels.size(), terminals);
     Ok(least_at_root(weights, &family, terminals, guess, labels))
-}
-
-/// The same by a search under a table of the terminals' tiles.
-fn least_by_tiles<W: FlooredWeights>(
-    alloc: Global,
-    weights: &W,
-    terminals: &[Vertex],
-    labels: &mut TreeLabels,
-) -> Result<u64, NoMemory>
-    requires labels { AreTreeLabels (W.size weights.now) labels.old }
-    requires terminals { All (λ v. IsVertex (W.size weights.now) v.0) terminals.now }
-    requires two { 2 ≤ length terminals.now }
-    requires few { length terminals.now ≤ few_terminals }
-    requires joined { Joins (W.size weights.now) (IsAllowed (W.pieces weights.now)) (InVertices terminals.now) }
-    ensures least { IfOk result (λ least. IsLeastAtRoot (W.size weights.now) (W.pieces weights.now) terminals.now (label_of labels.new.grid) least) }
-    ensures labels { AreTreeLabels (W.size weights.now) labels.new }
-{
-    let listed = tiles_of(alloc, labels.grid.size(), terminals)?;
-    let tiles = listed.as_slice();
-    let ground = FlatWeights::new(weights, labels.flat.size(), labels.flat_edges.as_slice());
-    let bounds = BoxFamily::new(&ground, labels.flat.size(), tiles);
-    let guess = tree_guess(alloc, &ground, tiles, &mut labels.flat)?;
-    let limit = (guess + TABLE_SLACK).min(MOST);
-    let last = all_of(tiles.len()) - 1;
-    labels.flat.pruned(&ground, &bounds, tiles, last, limit);
-    let across = root_label(&labels.flat, tiles).unwrap_or(guess) + FIRST_SLACK;
-    let size = labels.grid.size();
-    let family = RowFamily::new(weights, size, terminals, &bounds, &labels.flat, limit);
-    Ok(least_at_root(weights, &family, terminals, across, &mut labels.grid))
 }

@@ -1,6 +1,6 @@
 -- Numbers in the course of the growth of a tree.
-use Rattle.std.proofs.Common.{◌≡◌, ◌≢◌, ℕ, ◌+◌, ◌<◌, ◌≤◌, ◌⊎◌, List, refl, sym, ◌∙◌, ap, subst, inl, inr, ⊎_elim, arith}
-use Rattle.std.proofs.lemmas.Bool.{cases_eq, cases_lt}
+use Rattle.std.proofs.Common.{◌≡◌, ℕ, ◌+◌, ◌<◌, ◌≤◌, List, refl, sym, ◌∙◌, ap, subst, inl, inr, ⊎_elim, arith}
+use Rattle.std.proofs.lemmas.Bool.{cases_eq}
 use Rattle.grid_base.specs.declared.piece.Piece.{Piece}
 use Rattle.grid_base.specs.declared.size.Size.{Size}
 use Rattle.grid_base.specs.Numbers.{Connects}
@@ -9,14 +9,13 @@ use Rattle.shortest_paths.specs.declared.labels.Labels.{Labels}
 use Rattle.steiner_span.specs.Growths.{AreKeys, AfterOffer, AreBehind, IsGrowing, IsTaken, FallsTo, FallsOn, RelaxesOn}
 use Rattle.label_search.specs.Paths.{NoneWeighsNothing}
 use Rattle.shortest_paths.specs.LabelWords.{labels_number}
-use Rattle.shortest_paths.specs.LedSearches.{HasKey, IsOpen, GoOn, Lowers, IsTakenOut, work_of}
+use Rattle.shortest_paths.specs.LedSearches.{HasKey, IsOpen, GoOn, Lowers, IsTakenOut}
 use Rattle.label_search.specs.Runs.{IsRelaxedWithin}
 use Rattle.shortest_paths.proofs.LedSearches.{number_within}
 use Rattle.label_search.specs.Searches.{IsBehind, IsRelaxed}
 use Rattle.label_search.specs.Stamped.{far}
 use Rattle.grid_base.specs.Walks.{Joins}
 use Rattle.grid_base.proofs.Walks.{walk_vertices}
-use Rattle.grid_base.specs.declared.vertex.Vertex.{Vertex}
 use Rattle.grid_graph.specs.Weighed.{NoPieceTwice, AreWithinLimit}
 use Rattle.label_search.proofs.Forests.{light_part}
 use Rattle.label_search.proofs.Law.{rises_by_weight}

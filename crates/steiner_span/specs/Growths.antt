@@ -4,10 +4,9 @@ use Rattle.std.specs.List.{Contains}
 use Rattle.grid_base.specs.declared.piece.Piece.{Piece}
 use Rattle.grid_base.specs.declared.size.Size.{Size}
 use Rattle.grid_base.specs.declared.vertex.Vertex.{Vertex}
-use Rattle.grid_base.specs.Numbers.{Connects}
 use Rattle.grid_base.specs.Spots.{IsSpot}
 use Rattle.grid_base.specs.Walks.{InPieces, InVertices, WalkBetween}
-use Rattle.grid_graph.specs.Weighed.{Weighs, IsAllowed}
+use Rattle.grid_graph.specs.Weighed.{IsAllowed}
 use Rattle.shortest_paths.specs.declared.labels.Labels.{Labels}
 use Rattle.shortest_paths.specs.LabelWords.{labels_number}
 use Rattle.shortest_paths.specs.LedSearches.{HasKey, IsOpen, GoOn, work_of}

@@ -1,5 +1,4 @@
 use Rattle.std.proofs.Common.{◌∙◌, arith}
-use Rattle.grid_base.specs.Walks.{InVertices}
 use Rattle.shortest_paths.specs.LabelWords.{labels_number}
 use Rattle.steiner_span.proofs.Growing.{falls_to}
 use Rattle.steiner_span.proofs.Reaching.{still_grown}

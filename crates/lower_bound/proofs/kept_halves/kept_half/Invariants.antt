@@ -2,7 +2,7 @@ use Rattle.std.proofs.Common.{◌≡◌}
 use Rattle.shortest_paths.specs.LabelWords.{labels_size, masks_of}
 use Rattle.lower_bound.specs.KeptCosts.{AreKeptCosts}
 use Rattle.lower_bound.proofs.NearestPairs.{IsNearestSoFar}
-use Rattle.lower_bound.proofs.kept_halves.nearest_other.Given as goal
+use Rattle.lower_bound.proofs.kept_halves.kept_half.Given as goal
 
 abbrev pub invariant-loop-other : goal.invariant-loop-other
 invariant-loop-other g l = record {

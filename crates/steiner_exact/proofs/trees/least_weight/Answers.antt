@@ -7,93 +7,54 @@ use Rattle.shortest_paths.specs.LabelWords.{labels_size}
 use Rattle.grid_graph.specs.TilePieces.{tiles_of}
 use Rattle.steiner_exact.proofs.Attempts.{few_masks}
 use Rattle.steiner_exact.proofs.BoxSteps.{few_masks_all, some_masks_all}
-use Rattle.grid_graph.proofs.TileLists.{tiles_vertices, tiles_long}
+use Rattle.grid_graph.proofs.TileLists.{tiles_vertices}
 use Rattle.grid_graph.proofs.TileSteps.{flat_tiles}
 use Rattle.steiner_exact.specs.FlatPieces.{edge_flags}
-use Rattle.steiner_exact.proofs.trees.least_by_tiles.Goals as goal
+use Rattle.steiner_exact.proofs.trees.least_weight.Goals as goal
 
 -- tiles of terminals, however the sizes are called
 vertices_of : (flat s grid : Size) (terminals tiles : List Vertex) → IsFlatOf flat s → grid ≡ s → tiles ≡ tiles_of grid terminals → All (λ (v : Vertex). IsVertex flat v.0) tiles
 vertices_of flat s grid terminals tiles is same made =
     subst (λ (ts : List Vertex). All (λ (v : Vertex). IsVertex flat v.0) ts) (sym (made ∙ ap (λ (x : Size). tiles_of x terminals) same)) (tiles_vertices flat s terminals (flat_tiles flat s is))
 
-many : (terminals tiles : List Vertex) (grid : Size) → tiles ≡ tiles_of grid terminals → length tiles ≡ length terminals
-many terminals tiles grid made = ap (λ (ts : List Vertex). length ts) made ∙ tiles_long grid terminals
-
 pub new-bounds-requires-clause-terminals : goal.new-bounds-requires-clause-terminals
 new-bounds-requires-clause-terminals g c =
     let tiles = c.as_slice-tiles in
-    subst (λ (x : Size). All (λ (v : Vertex). IsVertex x v.0) tiles.result.now) (sym c.size-3.ensures)
-    (vertices_of (labels_size c.args.labels.now.flat) (g.W.Weights.size c.args.weights.now) c.size.result c.args.terminals.now
-    tiles.result.now c.requires.labels.flat (c.size.ensures ∙ c.requires.labels.grid) (tiles.ensures.value ∙ c.in_ok-listed.ensures))
-
-pub tree_guess-requires-clause-some : goal.tree_guess-requires-clause-some
-tree_guess-requires-clause-some g c =
-    omega (
-      arith,
-      many c.args.terminals.now c.as_slice-tiles.result.now c.size.result (c.as_slice-tiles.ensures.value ∙ c.in_ok-listed.ensures),
-      c.requires.two,
-    )
-
-pub tree_guess-requires-clause-few : goal.tree_guess-requires-clause-few
-tree_guess-requires-clause-few g c =
-    omega (
-      arith,
-      many c.args.terminals.now c.as_slice-tiles.result.now c.size.result (c.as_slice-tiles.ensures.value ∙ c.in_ok-listed.ensures),
-      c.requires.few,
-    )
+    subst (λ (x : Size). All (λ (v : Vertex). IsVertex x v.0) tiles.result.now) (sym c.size-4.ensures)
+    (vertices_of (labels_size c.args.labels.now.flat) (g.W.Weights.size c.args.weights.now) c.size-2.result c.args.terminals.now
+    tiles.result.now c.requires.labels.flat (c.size-2.ensures ∙ c.requires.labels.grid) (tiles.ensures.value ∙ c.in_ok-listed.ensures.tiles))
 
 pub overflow_sub-last : goal.overflow_sub-last
 overflow_sub-last g c =
-    let count = many c.args.terminals.now c.as_slice-tiles.result.now c.size.result (c.as_slice-tiles.ensures.value ∙ c.in_ok-listed.ensures) in
-    omega (arith, c.all_of-last.ensures, some_masks_all (length c.as_slice-tiles.result.now) (omega (arith, count, c.requires.two)))
+    omega (arith, c.all_of-last.ensures, some_masks_all (length c.as_slice-tiles.result.now) (omega (arith, c.as_slice-tiles.ensures.len, c.in_ok-listed.ensures.long, c.requires.two)))
 
 pub pruned-requires-clause-room : goal.pruned-requires-clause-room
 pruned-requires-clause-room g c =
-    let count = many c.args.terminals.now c.as_slice-tiles.result.now c.size.result (c.as_slice-tiles.ensures.value ∙ c.in_ok-listed.ensures) in
     omega (
       arith,
       c.all_of-last.ensures,
-      few_masks_all (length c.as_slice-tiles.result.now) (omega (arith, count, c.requires.few)),
+      few_masks_all (length c.as_slice-tiles.result.now) (omega (arith, c.as_slice-tiles.ensures.len, c.in_ok-listed.ensures.long, c.requires.few)),
       c.requires.labels.flat_room,
       c.tree_guess.ensures.masks,
     )
 
 pub pruned-requires-clause-last : goal.pruned-requires-clause-last
 pruned-requires-clause-last g c =
-    let count = many c.args.terminals.now c.as_slice-tiles.result.now c.size.result (c.as_slice-tiles.ensures.value ∙ c.in_ok-listed.ensures) in
-    omega (arith, c.all_of-last.ensures, some_masks_all (length c.as_slice-tiles.result.now) (omega (arith, count, c.requires.two)))
+    omega (arith, c.all_of-last.ensures, some_masks_all (length c.as_slice-tiles.result.now) (omega (arith, c.as_slice-tiles.ensures.len, c.in_ok-listed.ensures.long, c.requires.two)))
 
 pub root_label-requires-clause-terminals : goal.root_label-requires-clause-terminals
 root_label-requires-clause-terminals g c =
     let tiles = c.as_slice-tiles in
     subst (λ (x : Size). All (λ (v : Vertex). IsVertex x v.0) tiles.result.now) (sym (c.pruned.ensures.size ∙ c.tree_guess.ensures.size))
-    (vertices_of (labels_size c.args.labels.now.flat) (g.W.Weights.size c.args.weights.now) c.size.result c.args.terminals.now
-    tiles.result.now c.requires.labels.flat (c.size.ensures ∙ c.requires.labels.grid) (tiles.ensures.value ∙ c.in_ok-listed.ensures))
-
-pub root_label-requires-clause-two : goal.root_label-requires-clause-two
-root_label-requires-clause-two g c =
-    omega (
-      arith,
-      many c.args.terminals.now c.as_slice-tiles.result.now c.size.result (c.as_slice-tiles.ensures.value ∙ c.in_ok-listed.ensures),
-      c.requires.two,
-    )
-
-pub root_label-requires-clause-few : goal.root_label-requires-clause-few
-root_label-requires-clause-few g c =
-    omega (
-      arith,
-      many c.args.terminals.now c.as_slice-tiles.result.now c.size.result (c.as_slice-tiles.ensures.value ∙ c.in_ok-listed.ensures),
-      c.requires.few,
-    )
+    (vertices_of (labels_size c.args.labels.now.flat) (g.W.Weights.size c.args.weights.now) c.size-2.result c.args.terminals.now
+    tiles.result.now c.requires.labels.flat (c.size-2.ensures ∙ c.requires.labels.grid) (tiles.ensures.value ∙ c.in_ok-listed.ensures.tiles))
 
 pub root_label-requires-clause-room : goal.root_label-requires-clause-room
 root_label-requires-clause-room g c =
     let tiles = c.as_slice-tiles.result.now in
-    let count = many c.args.terminals.now tiles c.size.result (c.as_slice-tiles.ensures.value ∙ c.in_ok-listed.ensures) in
     omega (
       arith,
-      few_masks tiles (omega (arith, count, c.requires.few)),
+      few_masks tiles (omega (arith, c.as_slice-tiles.ensures.len, c.in_ok-listed.ensures.long, c.requires.few)),
       c.requires.labels.flat_room,
       c.pruned.ensures.masks,
       c.tree_guess.ensures.masks,
