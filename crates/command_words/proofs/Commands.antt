@@ -5,7 +5,6 @@ use Rattle.std.proofs.Math.Bool.{or-false}
 use Rattle.std.specs.Str.{bytes_eq}
 use Rattle.std.proofs.lemmas.Slice.Eq.{bytes_eq-Decides}
 use Rattle.clap.specs.Words.{Text}
-use Rattle.std.specs.Result.{IsErrAnd}
 use Rattle.command_words.specs.declared.kind.Kind.{Kind}
 use Rattle.command_words.specs.declared.words_error.WordsError.{WordsError}
 use Rattle.command_words.specs.declared.words_error.WordsError.TheVariants.{Refused}
@@ -46,12 +45,6 @@ pub refusals : {T : Type 0} (r : Result T WordsError) (kind : Kind) (words : Lis
     → IfErr r (λ e. e ≡ Refused → is_command_of words (form_of kind) ≡ false) → IfErr r (λ e. e ≡ Refused → is_command words ≡ false)
 refusals (Ok x) kind words shaped none = tt
 refusals (Err e) kind words shaped none = λ is. refused kind words shaped (none is)
-
--- a refusal that is handed on
-pub passed_on : {T : Type 0} (r : Result T WordsError) (fault : WordsError) (kind named : Kind) (words : List Text) → IsErrAnd r (λ e. e ≡ fault) → kind ≡ named
-    → (fault ≡ Refused → is_command_of words (form_of named) ≡ false) → IfErr r (λ e. e ≡ Refused → is_command_of words (form_of kind) ≡ false)
-passed_on (Ok x) fault kind named words is same none = tt
-passed_on (Err e) fault kind named words is same none = λ refusal. ap (λ k. is_command_of words (form_of k)) same ∙ none (sym is ∙ refusal)
 
 pub no_word : (words : List Text) (first : Text) (rest : List Text) → words ≡ first ∷ rest → ((kind : Kind) → bytes_eq first (form_of kind).word ≡ false) → is_command words ≡ false
 no_word words first rest is none = ap is_command is ∙ no_word_of first rest none

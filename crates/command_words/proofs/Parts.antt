@@ -1,5 +1,5 @@
 -- The words of a command taken apart, and what a parse of them gives.
-use Rattle.std.proofs.Common.{◌≡◌, ◌∙◌, ◌==◌, ◌&&◌, ◌+◌, ◌<◌, ℕ, zero, suc, true, refl, sym, ap, ap₂, subst, arith, true≢false, List, [], ◌∷◌, map, length, take, drop, Option, Some, None, Result}
+use Rattle.std.proofs.Common.{◌≡◌, ◌∙◌, ◌==◌, ◌&&◌, ◌+◌, ◌<◌, ℕ, zero, suc, true, refl, sym, ap, subst, arith, true≢false, List, [], ◌∷◌, map, length, take, drop, Option, Some, None, Result}
 use Rattle.std.proofs.lemmas.Bool.{and_parts}
 use Rattle.std.specs.Prelude.{IfSome, IsSome, find, slice_get}
 use Rattle.std.specs.List.{list_all}
@@ -150,28 +150,6 @@ name_is form (word ∷ words) place t below is =
     let next : suc place ≡ place + 1 = omega arith in
     slice_get-front form.names place words below ∙ ap (slice_get (word ∷ words)) next ∙ is
 
-pub two_names : (xs : List Text) (a b : Text) → length xs ≡ 2 → slice_get xs 0 ≡ Some a → slice_get xs 1 ≡ Some b → xs ≡ a ∷ b ∷ []
-two_names [] a b count first second = cc
-two_names (x ∷ []) a b count first second = absurd (omega (arith, count))
-two_names (x ∷ y ∷ []) a b count first second = cc
-two_names (x ∷ y ∷ z ∷ xs) a b count first second = absurd (omega (arith, count))
-
-pub three_names : (xs : List Text) (a b c : Text) → length xs ≡ 3 → slice_get xs 0 ≡ Some a → slice_get xs 1 ≡ Some b → slice_get xs 2 ≡ Some c → xs ≡ a ∷ b ∷ c ∷ []
-three_names [] a b c count first second third = cc
-three_names (x ∷ []) a b c count first second third = absurd (omega (arith, count))
-three_names (x ∷ y ∷ []) a b c count first second third = absurd (omega (arith, count))
-three_names (x ∷ y ∷ z ∷ []) a b c count first second third = cc
-three_names (x ∷ y ∷ z ∷ v ∷ xs) a b c count first second third = absurd (omega (arith, count))
-
--- ---- what was read, as words of a command that is known
-
-pub taken : (kind known : Kind) (ws words : List Text) (rows : List Row) → AreReadWords kind ws rows → kind ≡ known → ws ≡ words → AreReadWords known words rows
-taken kind known ws words rows read same is = subst (λ (k : Kind). AreReadWords k words rows) same (subst (λ (w : List Text). AreReadWords kind w rows) is read)
-
-pub is_command_read : (kind : Kind) (words : List Text) (rows : List Row) → AreReadWords kind words rows → is_command_of words (form_of kind) ≡ true
-is_command_read kind words rows read = rw (read.shaped, read.in_range) refl
-
-pub name_taken : (kind known : Kind) (ws words : List Text) (place : ℕ) (t : Text) → kind ≡ known → ws ≡ words
-    → slice_get (names_in (form_of kind) ws) place ≡ Some t → slice_get (names_in (form_of known) words) place ≡ Some t
-name_taken kind known ws words place t same is at =
-    ap₂ (λ (k : Kind) (w : List Text). slice_get (names_in (form_of k) w) place) (sym same) (sym is) ∙ at
+-- words that were read as a command are this one
+pub is_read : (kind known : Kind) (words : List Text) (rows : List Row) → AreReadWords kind words rows → kind ≡ known → is_command_of words (form_of known) ≡ true
+is_read kind known words rows read same = subst (λ (k : Kind). is_command_of words (form_of k) ≡ true) same (rw (read.shaped, read.in_range) refl)
