@@ -18,7 +18,7 @@
 //! and `cert_text` for the texts, `route_judge` for the verdict on them, `tree_set` for measures, `gr_desk` to read from and
 //! write to, `text_scan`, `grid_base` and `itoa`. It knows nothing of how routes are found, so whoever trusts `judge` alone reads
 //! the definitions of these crates and of those that `route_judge` leads to (`edge_prices`, `dual_bound`, `lower_bound`,
-//! `steiner_tables`, `label_search`), and no others.
+//! `shortest_paths`), and no others.
 //!
 //! Promised, in the words of `specs/MeasureRun.antt`, `specs/JudgeRun.antt` and `specs/CommandRun.antt`: where the status is 0,
 //! nothing can be objected to what was read, and the report says what is measured of it; where it is 1, the report has the first
