@@ -1,17 +1,16 @@
 -- Words begin with the word of one command at most.
 use Rattle.std.proofs.Common.{◌≡◌, ◌∙◌, ◌&&◌, true, false, refl, sym, ap, true≢false, List, [], ◌∷◌, Result, Ok, Err, IfErr}
+use Rattle.std.proofs.lemmas.Bool.{and_parts}
 use Rattle.std.proofs.Math.Bool.{or-false}
 use Rattle.std.specs.Str.{bytes_eq}
 use Rattle.std.proofs.lemmas.Slice.Eq.{bytes_eq-Decides}
 use Rattle.clap.specs.Words.{Text}
-use Rattle.std.specs.Result.{IsErrAnd}
 use Rattle.command_words.specs.declared.kind.Kind.{Kind}
 use Rattle.command_words.specs.declared.words_error.WordsError.{WordsError}
 use Rattle.command_words.specs.declared.words_error.WordsError.TheVariants.{Refused}
 use Rattle.command_words.specs.declared.kind.Kind.TheVariants.{Route, Measure, Judge, Make, Trial}
 use Rattle.command_words.specs.CommandLine.{are_names, are_options, begins_with, has_shape, has_values_in_range, is_command, is_command_of, names_in, option_words}
 use Rattle.command_words.specs.Kinds.{form_of}
-use Rattle.command_words.proofs.Uses.{parts_true}
 
 no_word_of : (first : Text) (rest : List Text) → ((kind : Kind) → bytes_eq first (form_of kind).word ≡ false) → is_command (first ∷ rest) ≡ false
 no_word_of first rest none = rw (none Route, none Measure, none Judge, none Make, none Trial) refl
@@ -39,19 +38,13 @@ refused : (kind : Kind) (words : List Text) → has_shape (form_of kind) words �
 refused kind [] shaped none = absurd (true≢false (sym shaped))
 refused kind (first ∷ rest) shaped none =
     let words = first ∷ rest in
-    no_other kind first rest (parts_true (begins_with (form_of kind).word words)
+    no_other kind first rest (and_parts (begins_with (form_of kind).word words)
     (are_names (form_of kind) (names_in (form_of kind) words) && are_options (form_of kind) (option_words (form_of kind) words)) shaped).0 none
 
 pub refusals : {T : Type 0} (r : Result T WordsError) (kind : Kind) (words : List Text) → has_shape (form_of kind) words ≡ true
     → IfErr r (λ e. e ≡ Refused → is_command_of words (form_of kind) ≡ false) → IfErr r (λ e. e ≡ Refused → is_command words ≡ false)
 refusals (Ok x) kind words shaped none = tt
 refusals (Err e) kind words shaped none = λ is. refused kind words shaped (none is)
-
--- a refusal that is handed on
-pub passed_on : {T : Type 0} (r : Result T WordsError) (fault : WordsError) (kind named : Kind) (words : List Text) → IsErrAnd r (λ e. e ≡ fault) → kind ≡ named
-    → (fault ≡ Refused → is_command_of words (form_of named) ≡ false) → IfErr r (λ e. e ≡ Refused → is_command_of words (form_of kind) ≡ false)
-passed_on (Ok x) fault kind named words is same none = tt
-passed_on (Err e) fault kind named words is same none = λ refusal. ap (λ k. is_command_of words (form_of k)) same ∙ none (sym is ∙ refusal)
 
 pub no_word : (words : List Text) (first : Text) (rest : List Text) → words ≡ first ∷ rest → ((kind : Kind) → bytes_eq first (form_of kind).word ≡ false) → is_command words ≡ false
 no_word words first rest is none = ap is_command is ∙ no_word_of first rest none

@@ -1,5 +1,6 @@
 -- What clap finds in the words of a command, and when it refuses them.
 use Rattle.std.proofs.Common.{◌≡◌, ◌∙◌, ◌&&◌, ◌||◌, ℕ, Bool, true, false, not, refl, sym, ap, subst, arith, true≢false, List, [], ◌∷◌, map, Option, Some, None, Result, nat_le}
+use Rattle.std.proofs.lemmas.Bool.{and_parts}
 use Rattle.std.specs.Prelude.{cond, find, fold, is_some, option_and_then, option_map}
 use Rattle.std.specs.List.{list_all, list_any}
 use Rattle.std.specs.Str.{bytes_eq}
@@ -22,7 +23,7 @@ use Rattle.command_words.specs.CommandLine.{IsOptionValue, OptionForm, all_diffe
 use Rattle.command_words.specs.Kinds.{form_of, id_of, option_of}
 use Rattle.command_words.specs.Apps.{app_of_kind, default_text}
 use Rattle.command_words.proofs.Walks.{at, or_else-nil}
-use Rattle.command_words.proofs.Uses.{AreSingle, AreUses, Use, after_uses, all_faults, all_faults_are, faults_of, ids_of, parts_true, row_for, rows_after_uses, uses_fault, uses_walk}
+use Rattle.command_words.proofs.Uses.{AreSingle, AreUses, Use, after_uses, all_faults, all_faults_are, faults_of, ids_of, row_for, rows_after_uses, uses_fault, uses_walk}
 use Rattle.command_words.proofs.Defaults.{default_is_found, found_stays, no_default_fault, row_at}
 use Rattle.command_words.proofs.Values.{accepts_is, in_range, no_hyphen, reads_number}
 use Rattle.command_words.proofs.Rules.{HasDefault, IsOption, is_given_in_range, known, of_option, option_word, rule_for, rule_is, rules, shape, sound}
@@ -42,15 +43,15 @@ are_uses : (kind : Kind) (words : List Text) → are_pairs words ≡ true → li
 are_uses kind [] even fit = tt
 are_uses kind (word ∷ []) even fit = absurd (true≢false (sym even))
 are_uses kind (word ∷ text ∷ words) even fit =
-    let parts = parts_true (fits kind (word, text)) (list_all (fits kind) (in_pairs words)) fit in
-    let both = parts_true (has_option (form_of kind) word) (is_value_word text) parts.0 in
+    let parts = and_parts (fits kind (word, text)) (list_all (fits kind) (in_pairs words)) fit in
+    let both = and_parts (has_option (form_of kind) word) (is_value_word text) parts.0 in
     (option_word kind word both.0, refl, no_hyphen text both.1, are_uses kind words even parts.1)
 
 are_single : (kind : Kind) (ps : List Given) → list_all (fits kind) ps ≡ true → AreSingle (rules kind) (map use_of ps)
 are_single kind [] fit = tt
 are_single kind (given ∷ ps) fit =
-    let parts = parts_true (fits kind given) (list_all (fits kind) ps) fit in
-    let both = parts_true (has_option (form_of kind) given.0) (is_value_word given.1) parts.0 in
+    let parts = and_parts (fits kind given) (list_all (fits kind) ps) fit in
+    let both = and_parts (has_option (form_of kind) given.0) (is_value_word given.1) parts.0 in
     ((option_word kind given.0 both.0).single, are_single kind ps parts.1)
 
 word_at : (kind : Kind) (word : Text) → has_option (form_of kind) word ≡ true → word ≡ 45 ∷ 45 ∷ (rule_for word).id
@@ -60,8 +61,8 @@ word_at kind = of_option kind (λ word. word ≡ 45 ∷ 45 ∷ (rule_for word).i
 words_are : (kind : Kind) (ps : List Given) → list_all (fits kind) ps ≡ true → map (λ given. given.0) ps ≡ map (λ (id : Text). 45 ∷ 45 ∷ id) (ids_of (map use_of ps))
 words_are kind [] fit = refl
 words_are kind (given ∷ ps) fit =
-    let parts = parts_true (fits kind given) (list_all (fits kind) ps) fit in
-    let both = parts_true (has_option (form_of kind) given.0) (is_value_word given.1) parts.0 in
+    let parts = and_parts (fits kind given) (list_all (fits kind) ps) fit in
+    let both = and_parts (has_option (form_of kind) given.0) (is_value_word given.1) parts.0 in
     ap (λ (word : Text). word ∷ map (λ g. g.0) ps) (word_at kind given.0 both.0) ∙ ap (λ (ws : List Text). (45 ∷ 45 ∷ (rule_for given.0).id) ∷ ws) (words_are kind ps parts.1)
 
 any_dashed : (x : Text) (xs : List Text) → list_any (bytes_eq (45 ∷ 45 ∷ x)) (map (λ (id : Text). 45 ∷ 45 ∷ id) xs) ≡ list_any (bytes_eq x) xs
@@ -95,17 +96,17 @@ value_is_fine false rest e = cc
 pub refused_none : (kind : Kind) (ps : List Given) → list_all (fits kind) ps ≡ true → all_faults (map use_of ps) ≡ [] → list_all (is_given_in_range kind) ps ≡ true
 refused_none kind [] fit none = refl
 refused_none kind (given ∷ ps) fit none =
-    let parts = parts_true (fits kind given) (list_all (fits kind) ps) fit in
-    let both = parts_true (has_option (form_of kind) given.0) (is_value_word given.1) parts.0 in
+    let parts = and_parts (fits kind given) (list_all (fits kind) ps) fit in
+    let both = and_parts (has_option (form_of kind) given.0) (is_value_word given.1) parts.0 in
     let here = value_is_fine (is_given_in_range kind given) (all_faults (map use_of ps)) (ap (λ k. or_else k (all_faults (map use_of ps))) (sym (value_fault_is kind given.0 both.0 given.1 both.1)) ∙ none) in
     rw (here.0, refused_none kind ps parts.1 here.1) refl
 
 pub none_refused : (kind : Kind) (ps : List Given) → list_all (fits kind) ps ≡ true → list_all (is_given_in_range kind) ps ≡ true → all_faults (map use_of ps) ≡ []
 none_refused kind [] fit all = refl
 none_refused kind (given ∷ ps) fit all =
-    let parts = parts_true (fits kind given) (list_all (fits kind) ps) fit in
-    let both = parts_true (has_option (form_of kind) given.0) (is_value_word given.1) parts.0 in
-    let here = parts_true (is_given_in_range kind given) (list_all (is_given_in_range kind) ps) all in
+    let parts = and_parts (fits kind given) (list_all (fits kind) ps) fit in
+    let both = and_parts (has_option (form_of kind) given.0) (is_value_word given.1) parts.0 in
+    let here = and_parts (is_given_in_range kind given) (list_all (is_given_in_range kind) ps) all in
     ap (λ k. or_else k (all_faults (map use_of ps))) (value_fault_is kind given.0 both.0 given.1 both.1 ∙ ap fault_unless here.0) ∙ none_refused kind ps parts.1 here.1
 
 -- ---- rows of options
@@ -127,8 +128,8 @@ row_given given = row_for (use_of given)
 use_found : (kind : Kind) (id : Text) (ps : List Given) → list_all (fits kind) ps ≡ true → row_at id (map row_for (map use_of ps)) ≡ option_map row_given (given_for (45 ∷ 45 ∷ id) ps)
 use_found kind id [] fit = refl
 use_found kind id (given ∷ ps) fit =
-    let parts = parts_true (fits kind given) (list_all (fits kind) ps) fit in
-    let both = parts_true (has_option (form_of kind) given.0) (is_value_word given.1) parts.0 in
+    let parts = and_parts (fits kind given) (list_all (fits kind) ps) fit in
+    let both = and_parts (has_option (form_of kind) given.0) (is_value_word given.1) parts.0 in
     let same : bytes_eq given.0 (45 ∷ 45 ∷ id) ≡ bytes_eq (rule_for given.0).id id = ap (λ (word : Text). bytes_eq word (45 ∷ 45 ∷ id)) (word_at kind given.0 both.0) in
     sym (ap (λ b. cond b (Some (row_given given)) (row_at id (map row_for (map use_of ps)))) same) ∙ step (bytes_eq given.0 (45 ∷ 45 ∷ id)) (use_found kind id ps parts.1)
   where
@@ -140,13 +141,13 @@ use_found kind id (given ∷ ps) fit =
 found_passes : (q : Given → Bool) (word : Text) (ps : List Given) (given : Given) → list_all q ps ≡ true → given_for word ps ≡ Some given
     → (q given ≡ true) × (bytes_eq given.0 word ≡ true)
 found_passes q word [] given all found = cc
-found_passes q word (p ∷ ps) given all found = step (bytes_eq p.0 word) refl found (found_passes q word ps given (parts_true (q p) (list_all q ps) all).1)
+found_passes q word (p ∷ ps) given all found = step (bytes_eq p.0 word) refl found (found_passes q word ps given (and_parts (q p) (list_all q ps) all).1)
   where
     step : (b : Bool) → bytes_eq p.0 word ≡ b → cond b (Some p) (given_for word ps) ≡ Some given
         → (given_for word ps ≡ Some given → (q given ≡ true) × (bytes_eq given.0 word ≡ true)) → (q given ≡ true) × (bytes_eq given.0 word ≡ true)
     step true e f more =
         let same : p ≡ given = cc in
-        (subst (λ (g : Given). q g ≡ true) same (parts_true (q p) (list_all q ps) all).0, subst (λ (g : Given). bytes_eq g.0 word ≡ true) same e)
+        (subst (λ (g : Given). q g ≡ true) same (and_parts (q p) (list_all q ps) all).0, subst (λ (g : Given). bytes_eq g.0 word ≡ true) same e)
     step false e f more = more f
 
 reading_is : (kind : Kind) (word : Text) → has_option (form_of kind) word ≡ true → reading_by (rule_for word) ≡ AsWritten
@@ -244,7 +245,7 @@ module _ (kind : Kind) (w : Text) (ws : List Text)
     row_is (Some given) e =
         let same : row_at id rows ≡ Some (row_given given) = option_row ∙ ap (option_map row_given) e in
         let passes = found_passes (fits kind) (45 ∷ 45 ∷ id) (in_pairs ws) given fit e in
-        let both = parts_true (has_option (form_of kind) given.0) (is_value_word given.1) passes.0 in
+        let both = and_parts (has_option (form_of kind) given.0) (is_value_word given.1) passes.0 in
         ap (option_and_then row_text) (found_stays (rules kind) rows id (has_is rows id ∙ ap is_some same) ∙ same)
         ∙ ap (λ how. Some (read_as how given.1)) (reading_is kind given.0 both.0)
 
@@ -261,7 +262,7 @@ module _ (kind : Kind) (w : Text) (ws : List Text)
           let word : given.0 ≡ form.word = (bytes_eq-Decides given.0 (45 ∷ 45 ∷ id)).0 ranged.1 ∙ sym (sound option).word in
           let here : in_range form.least form.most given.1 ≡ true =
           sym (or-false (in_range form.least form.most given.1)) ∙ sym (is.2 given.1) ∙ subst (λ (t : Text). is_given_in_range kind (t, given.1) ≡ true) word ranged.0 in
-          let parts = parts_true (nat_le form.least (digits_value 10 given.1)) (nat_le (digits_value 10 given.1) form.most) here in
+          let parts = and_parts (nat_le form.least (digits_value 10 given.1)) (nat_le (digits_value 10 given.1) form.most) here in
           let low = parts.0 in
           let high = parts.1 in
           (grind (arith, nat_tests), grind (arith, nat_tests))
@@ -280,7 +281,7 @@ module _ (kind : Kind) (w : Text) (ws : List Text)
           step None e = value_is None e ∙ by_default (default_text option) (sound option).default (one_is None e)
           step (Some given) e =
               let passes = found_passes (fits kind) (45 ∷ 45 ∷ id) (in_pairs ws) given fit e in
-              let both = parts_true (has_option (form_of kind) given.0) (is_value_word given.1) passes.0 in
+              let both = and_parts (has_option (form_of kind) given.0) (is_value_word given.1) passes.0 in
               let range = given_ranged given e in
               value_is (Some given) e ∙ sym (reads_number E G given.1 r both.1 (omega (arith, range.1, (sound option).small)) only (some given.1 (one_is (Some given) e)))
 

@@ -1,5 +1,6 @@
 -- The words of a command taken apart, and what a parse of them gives.
-use Rattle.std.proofs.Common.{◌≡◌, ◌∙◌, ◌==◌, ◌&&◌, ◌+◌, ◌<◌, ℕ, zero, suc, true, refl, sym, ap, ap₂, subst, arith, true≢false, List, [], ◌∷◌, map, length, take, drop, Option, Some, None, Result}
+use Rattle.std.proofs.Common.{◌≡◌, ◌∙◌, ◌==◌, ◌&&◌, ◌+◌, ◌<◌, ℕ, zero, suc, true, refl, sym, ap, subst, arith, true≢false, List, [], ◌∷◌, map, length, take, drop, Option, Some, None, Result}
+use Rattle.std.proofs.lemmas.Bool.{and_parts}
 use Rattle.std.specs.Prelude.{IfSome, IsSome, find, slice_get}
 use Rattle.std.specs.List.{list_all}
 use Rattle.std.specs.Str.{bytes_eq}
@@ -14,7 +15,7 @@ use Rattle.command_words.specs.declared.option_name.OptionName.{OptionName}
 use Rattle.command_words.specs.CommandLine.{CommandForm, IsOptionValue, OptionForm, all_differ, are_names, are_options, are_pairs, begins_with, given_options, has_option, has_shape, has_values_in_range, in_pairs, is_command_of, names_in, option_words, value_for, value_or}
 use Rattle.command_words.specs.Kinds.{form_of, id_of, option_of}
 use Rattle.command_words.specs.Apps.{AreReadWords, app_of_kind, found_in}
-use Rattle.command_words.proofs.Uses.{all_faults, parts_true}
+use Rattle.command_words.proofs.Uses.{all_faults}
 use Rattle.command_words.proofs.Rules.{is_given_in_range, known_option}
 use Rattle.command_words.proofs.Found.{fault_is, fits, none_refused, number_is, number_ranged, refused_none, use_of}
 
@@ -22,10 +23,10 @@ use Rattle.command_words.proofs.Found.{fault_is, fits, none_refused, number_is, 
 
 pub names_counted : (form : CommandForm) (words : List Text) → has_shape form words ≡ true → length (names_in form words) ≡ form.names
 names_counted form words shaped =
-    let outer = parts_true (begins_with form.word words) (are_names form (names_in form words) && are_options form (option_words form words)) shaped in
-    let inner = parts_true (are_names form (names_in form words)) (are_options form (option_words form words)) outer.1 in
+    let outer = and_parts (begins_with form.word words) (are_names form (names_in form words) && are_options form (option_words form words)) shaped in
+    let inner = and_parts (are_names form (names_in form words)) (are_options form (option_words form words)) outer.1 in
     let counted : (length (names_in form words) == form.names) ≡ true =
-    (parts_true (length (names_in form words) == form.names) (list_all form.is_name (names_in form words) && all_differ (names_in form words)) inner.0).0 in
+    (and_parts (length (names_in form words) == form.names) (list_all form.is_name (names_in form words) && all_differ (names_in form words)) inner.0).0 in
     grind (arith, nat_tests)
 
 -- one word stands before those behind n words of more
@@ -52,10 +53,10 @@ parted kind [] shaped = absurd (true≢false (sym shaped))
 parted kind (word ∷ words) shaped =
     let form = form_of kind in
     let rest : List Text = drop form.names words in
-    let outer = parts_true (begins_with form.word (word ∷ words)) (are_names form (take form.names words) && are_options form rest) shaped in
-    let inner = parts_true (are_names form (take form.names words)) (are_options form rest) outer.1 in
-    let even = parts_true (are_pairs rest) (list_all (fits kind) (in_pairs rest) && all_differ (map (λ given. given.0) (in_pairs rest))) inner.1 in
-    let fit = parts_true (list_all (fits kind) (in_pairs rest)) (all_differ (map (λ given. given.0) (in_pairs rest))) even.1 in
+    let outer = and_parts (begins_with form.word (word ∷ words)) (are_names form (take form.names words) && are_options form rest) shaped in
+    let inner = and_parts (are_names form (take form.names words)) (are_options form rest) outer.1 in
+    let even = and_parts (are_pairs rest) (list_all (fits kind) (in_pairs rest) && all_differ (map (λ given. given.0) (in_pairs rest))) inner.1 in
+    let fit = and_parts (list_all (fits kind) (in_pairs rest)) (all_differ (map (λ given. given.0) (in_pairs rest))) even.1 in
     let one = before form.names word words (names_counted form (word ∷ words) shaped) in
     record { first = one.0; rest = rest; is = one.1; within = one.2; given = refl; even = even.0; fit = fit.0; differ = fit.1 }
 
@@ -149,28 +150,6 @@ name_is form (word ∷ words) place t below is =
     let next : suc place ≡ place + 1 = omega arith in
     slice_get-front form.names place words below ∙ ap (slice_get (word ∷ words)) next ∙ is
 
-pub two_names : (xs : List Text) (a b : Text) → length xs ≡ 2 → slice_get xs 0 ≡ Some a → slice_get xs 1 ≡ Some b → xs ≡ a ∷ b ∷ []
-two_names [] a b count first second = cc
-two_names (x ∷ []) a b count first second = absurd (omega (arith, count))
-two_names (x ∷ y ∷ []) a b count first second = cc
-two_names (x ∷ y ∷ z ∷ xs) a b count first second = absurd (omega (arith, count))
-
-pub three_names : (xs : List Text) (a b c : Text) → length xs ≡ 3 → slice_get xs 0 ≡ Some a → slice_get xs 1 ≡ Some b → slice_get xs 2 ≡ Some c → xs ≡ a ∷ b ∷ c ∷ []
-three_names [] a b c count first second third = cc
-three_names (x ∷ []) a b c count first second third = absurd (omega (arith, count))
-three_names (x ∷ y ∷ []) a b c count first second third = absurd (omega (arith, count))
-three_names (x ∷ y ∷ z ∷ []) a b c count first second third = cc
-three_names (x ∷ y ∷ z ∷ v ∷ xs) a b c count first second third = absurd (omega (arith, count))
-
--- ---- what was read, as words of a command that is known
-
-pub taken : (kind known : Kind) (ws words : List Text) (rows : List Row) → AreReadWords kind ws rows → kind ≡ known → ws ≡ words → AreReadWords known words rows
-taken kind known ws words rows read same is = subst (λ (k : Kind). AreReadWords k words rows) same (subst (λ (w : List Text). AreReadWords kind w rows) is read)
-
-pub is_command_read : (kind : Kind) (words : List Text) (rows : List Row) → AreReadWords kind words rows → is_command_of words (form_of kind) ≡ true
-is_command_read kind words rows read = rw (read.shaped, read.in_range) refl
-
-pub name_taken : (kind known : Kind) (ws words : List Text) (place : ℕ) (t : Text) → kind ≡ known → ws ≡ words
-    → slice_get (names_in (form_of kind) ws) place ≡ Some t → slice_get (names_in (form_of known) words) place ≡ Some t
-name_taken kind known ws words place t same is at =
-    ap₂ (λ (k : Kind) (w : List Text). slice_get (names_in (form_of k) w) place) (sym same) (sym is) ∙ at
+-- words that were read as a command are this one
+pub is_read : (kind known : Kind) (words : List Text) (rows : List Row) → AreReadWords kind words rows → kind ≡ known → is_command_of words (form_of known) ≡ true
+is_read kind known words rows read same = subst (λ (k : Kind). is_command_of words (form_of k) ≡ true) same (rw (read.shaped, read.in_range) refl)

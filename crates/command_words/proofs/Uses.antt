@@ -1,5 +1,6 @@
 -- What clap finds of options with their values, and what it refuses of them.
 use Rattle.std.proofs.Common.{◌≡◌, ◌∙◌, ◌++◌, ◌&&◌, ◌||◌, ℕ, Bool, eqb, true, false, not, refl, sym, ap, true≢false, append-nil, List, [], ◌∷◌, map, Some, None}
+use Rattle.std.proofs.lemmas.Bool.{and_parts, or_parts}
 use Rattle.std.specs.Prelude.{⊤, cond, fold, unwrap_or}
 use Rattle.std.specs.Option.{option_map_or}
 use Rattle.clap.specs.declared.error.kind.ErrorKind.TheVariants as kind
@@ -134,31 +135,19 @@ abbrev pub AreSingle : List Rule → List Use → Type 0
 AreSingle c [] = ⊤
 AreSingle c (u ∷ us) = IsSingle c u.0 × AreSingle c us
 
-left_false : (a b : Bool) → (a || b) ≡ false → a ≡ false
-left_false true b e = e
-left_false false b e = refl
-
-right_false : (a b : Bool) → (a || b) ≡ false → b ≡ false
-right_false true b e = absurd (true≢false e)
-right_false false b e = e
-
 pub not_true : (a : Bool) → not a ≡ true → a ≡ false
 not_true true e = sym e
 not_true false e = refl
 
-pub parts_true : (a b : Bool) → (a && b) ≡ true → (a ≡ true) × (b ≡ true)
-parts_true true b e = (refl, e)
-parts_true false b e = absurd (true≢false (sym e))
-
 among : (xs later : List Text) (id x : Text) → list_any (bytes_eq x) (xs ++ id ∷ later) ≡ false → bytes_eq x id ≡ false
-among [] later id x none = left_false (bytes_eq x id) _ none
-among (y ∷ xs) later id x none = among xs later id x (right_false (bytes_eq x y) _ none)
+among [] later id x none = (or_parts (bytes_eq x id) _ none).0
+among (y ∷ xs) later id x none = among xs later id x (or_parts (bytes_eq x y) _ none).1
 
 -- an id that differs from those of the rows before it has no row
 pub fresh : (rows : List Row) (id : Text) (later : List Text) → all_differ (row_ids rows ++ id ∷ later) ≡ true → has_row id rows ≡ false
 fresh [] id later differ = refl
 fresh (r ∷ rows) id later differ =
-    let parts = parts_true _ _ differ in
+    let parts = and_parts _ _ differ in
     let first : bytes_eq r.id id ≡ false = among (row_ids rows) later id r.id (not_true _ parts.0) in
     rw first (fresh rows id later parts.1)
 

@@ -1,5 +1,6 @@
 -- What clap makes of a value of digits alone.
 use Rattle.std.proofs.Common.{◌≡◌, ◌≤◌, ◌<◌, ◌^◌, ◌&&◌, ◌∙◌, ◌-◌, ℕ, Bool, true, false, refl, ap, sym, subst, arith, rules, true≢false, List, [], ◌∷◌, length, Option, Some, None, Result, Ok, Err, nat_le}
+use Rattle.std.proofs.lemmas.Bool.{and_parts}
 use Rattle.std.specs.Bool.{Decides}
 use Rattle.std.specs.Char.{is_ascii_digit}
 use Rattle.std.specs.List.{list_all}
@@ -14,21 +15,21 @@ use Rattle.clap.specs.declared.builder.value_parser.ValueParser.TheVariants as v
 use Rattle.std.specs.Prelude.{MatchOption}
 use Rattle.std.specs.Result.{OkIff, result_ok}
 use Rattle.command_words.specs.CommandLine.{is_seed_name, is_value_word}
-use Rattle.command_words.proofs.Uses.{HasNoHyphen, parts_true}
+use Rattle.command_words.proofs.Uses.{HasNoHyphen}
 
 own : IsNumeralModel (λ ds. list_all is_ascii_digit ds ≡ true) (digits_value 10)
 own = numerals_by_value _ (search rules)
 
 pub digits_are : (t : Text) → is_value_word t ≡ true → list_all is_ascii_digit t ≡ true
-digits_are t is = (parts_true (nat_le (length t) 20) (list_all is_ascii_digit t) (parts_true (nat_le 1 (length t)) (nat_le (length t) 20 && list_all is_ascii_digit t) is).1).1
+digits_are t is = (and_parts (nat_le (length t) 20) (list_all is_ascii_digit t) (and_parts (nat_le 1 (length t)) (nat_le (length t) 20 && list_all is_ascii_digit t) is).1).1
 
 pub not_empty : (t : Text) → is_value_word t ≡ true → 0 < length t
-not_empty t is = let h : nat_le 1 (length t) ≡ true = (parts_true (nat_le 1 (length t)) (nat_le (length t) 20 && list_all is_ascii_digit t) is).0 in grind (arith, nat_tests)
+not_empty t is = let h : nat_le 1 (length t) ≡ true = (and_parts (nat_le 1 (length t)) (nat_le (length t) 20 && list_all is_ascii_digit t) is).0 in grind (arith, nat_tests)
 
 pub no_hyphen : (t : Text) → is_value_word t ≡ true → HasNoHyphen t
 no_hyphen [] is = absurd (true≢false (sym is))
 no_hyphen (x ∷ xs) is =
-    let first : is_ascii_digit x ≡ true = (parts_true (is_ascii_digit x) (list_all is_ascii_digit xs) (digits_are (x ∷ xs) is)).0 in
+    let first : is_ascii_digit x ≡ true = (and_parts (is_ascii_digit x) (list_all is_ascii_digit xs) (digits_are (x ∷ xs) is)).0 in
     grind (arith, nat_tests)
 
 abbrev pub in_range : ℕ → ℕ → Text → Bool

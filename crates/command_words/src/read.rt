@@ -7,7 +7,8 @@ ghost use Rattle.command_words.specs.declared.words_error.WordsError.TheVariants
 
 use crate::command::Command;
 use crate::kind::Kind;
-use crate::requests::{judge_request, make_request, measure_request, route_request, trial_request};
+use crate::read_words::ReadWords;
+use crate::requests::command_in;
 use crate::shape::kind_of;
 use crate::words_error::WordsError;
 use std::alloc::Global;
@@ -36,11 +37,6 @@ fn command_of_kind<'a>(
     ensures refused { IfErr result (λ e. e ≡ Refused
         → is_command_of (map string_bytes words.now) (form_of kind) ≡ false) }
 {
-    match kind {
-        Kind::Route => Ok(Command::Route(route_request(alloc, words)?)),
-        Kind::Measure => Ok(Command::Measure(measure_request(alloc, words)?)),
-        Kind::Judge => Ok(Command::Judge(judge_request(alloc, words)?)),
-        Kind::Make => Ok(Command::Make(make_request(alloc, words)?)),
-        Kind::Trial => Ok(Command::Trial(trial_request(alloc, words)?)),
-    }
+    let read = ReadWords::of(alloc, kind, words)?;
+    Ok(command_in(&read))
 }

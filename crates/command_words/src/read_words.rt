@@ -19,8 +19,8 @@ use std::alloc::Global;
 /// Words of a command's shape whose values are in range, and what clap found in its options.
 #[derive(Drop)]
 pub(crate) struct ReadWords<'a> {
-    kind: Kind,
-    words: &'a [String],
+    pub(crate) kind: Kind,
+    pub(crate) words: &'a [String],
     matches: ArgMatches<'a>,
     ghost read: { AreReadWords kind (map string_bytes words.now) (rows_of (found_of matches)) },
 }

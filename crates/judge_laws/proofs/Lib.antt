@@ -9,5 +9,8 @@ pub mod Resources
 pub mod TrueClaims
 pub mod CertLimits
 pub mod OneVerdict
+pub mod AlikeDesigns
+pub mod OneCert
+pub mod OneTextVerdict
 pub mod OpenPrices
 pub mod OtherPrices

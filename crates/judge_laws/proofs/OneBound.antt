@@ -1,7 +1,7 @@
 -- A design has one bound at a price list.
 use Rattle.std.proofs.Common.{◌≡◌, ℕ, zero, suc, ◌+◌, ◌*◌, ◌/◌, ◌<◌, ◌≤◌, List, [], ◌∷◌, ◌++◌, length, take, Option, Some, None, refl, sym, ◌∙◌, ap, subst, inl, inr, ⊎_elim, arith}
 use Rattle.std.specs.Prelude.{max}
-use Rattle.std.specs.List.{AllZip, sum}
+use Rattle.std.specs.List.{sum}
 use Rattle.std.proofs.lemmas.Bool.{cases_lt}
 use Rattle.std.proofs.lemmas.List.{take_more, take_all}
 use Rattle.std.proofs.lemmas.Option.{same_Some, slice_get_within, get_or_from_slice_get}
@@ -30,6 +30,7 @@ use Rattle.tree_set.proofs.Ratios.{ratio-trans}
 use Rattle.dual_bound.specs.DesignBounds.{IsBoundOfNet, IsDesignBound, IsBoundOrNone}
 use Rattle.dual_bound.specs.Prices.{capacity_cost}
 use Rattle.route_judge.specs.Bounds.{IsAtMostFound}
+use Rattle.judge_laws.proofs.OneMeasure.{one_zip}
 
 -- ---- grounds
 
@@ -41,13 +42,7 @@ one_ground g n WithChoked WithChoked a b = refl
 
 -- nets have one list of grounds
 pub same_grounds : (g : Grid) (nets : List NetSpec) (one other : List Ground) → AreGrounds g nets one → AreGrounds g nets other → one ≡ other
-same_grounds g [] [] [] first second = refl
-same_grounds g [] [] (u ∷ other) first second = absurd second
-same_grounds g [] (t ∷ one) other first second = absurd first
-same_grounds g (n ∷ nets) [] other first second = absurd first
-same_grounds g (n ∷ nets) (t ∷ one) [] first second = absurd second
-same_grounds g (n ∷ nets) (t ∷ one) (u ∷ other) first second =
-    ap (λ y. y ∷ one) (one_ground g n t u first.0 second.0) ∙ ap (λ ys. u ∷ ys) (same_grounds g nets one other first.1 second.1)
+same_grounds g nets one other first second = one_zip (λ n found. IsGround g n.terminals found) (one_ground g) nets one other first second
 
 -- ---- least weights
 
@@ -140,22 +135,13 @@ one_bound_of_net g prices budget n one other first second =
     one_net_bound (size_of g) (costed g n.width second.over prices (price_per_piece budget)) n.terminals one other
     (subst (λ o. IsNetBound (size_of g) (costed g n.width o prices (price_per_piece budget)) n.terminals one) over first.is_bound) second.is_bound
 
-bounds_of_nets : (g : Grid) (prices : List ℕ) (budget : Option Budget) (nets : List NetSpec) (one other : List ℕ) → AllZip (IsBoundOfNet g prices budget) nets one → AllZip (IsBoundOfNet g prices budget) nets other → one ≡ other
-bounds_of_nets g prices budget [] [] [] first second = refl
-bounds_of_nets g prices budget [] [] (u ∷ other) first second = absurd second
-bounds_of_nets g prices budget [] (t ∷ one) other first second = absurd first
-bounds_of_nets g prices budget (n ∷ nets) [] other first second = absurd first
-bounds_of_nets g prices budget (n ∷ nets) (t ∷ one) [] first second = absurd second
-bounds_of_nets g prices budget (n ∷ nets) (t ∷ one) (u ∷ other) first second =
-    ap (λ y. y ∷ one) (one_bound_of_net g prices budget n t u first.0 second.0) ∙ ap (λ ys. u ∷ ys) (bounds_of_nets g prices budget nets one other first.1 second.1)
-
 -- ---- the bound of a design
 
 -- no bound is greater than what was found
 pub at_most_found : (d : Design) (prices : List ℕ) (budget : Option Budget) (f : Fraction) (found : Option Fraction) → IsDesignBound d prices budget f → IsBoundOrNone d prices budget found → IsAtMostFound f found
 at_most_found d prices budget f None is none = absurd (omega (arith, is.exists, none))
 at_most_found d prices budget f (Some g) is other =
-    let totals : is.total ≡ other.total = is.is_total.sums ∙ ap sum (bounds_of_nets d.grid prices budget d.nets is.is_total.bounds other.is_total.bounds is.is_total.each other.is_total.each) ∙ sym other.is_total.sums in
+    let totals : is.total ≡ other.total = is.is_total.sums ∙ ap sum (one_zip (IsBoundOfNet d.grid prices budget) (one_bound_of_net d.grid prices budget) d.nets is.is_total.bounds other.is_total.bounds is.is_total.each other.is_total.each) ∙ sym other.is_total.sums in
     let cost = capacity_cost d.grid prices budget in
     let low : f.num * cost ≤ is.total * f.den = omega (arith, is.ratio) in
     let high : is.total * g.den ≤ g.num * cost = omega (arith, other.ratio, ap (λ (t : ℕ). t * g.den) totals) in

@@ -23,17 +23,17 @@ one_set g blocks n one other first second = same_list one other first.rising sec
   λ held. (first.pieces p).1 ((second.pieces p).0 held),
 ))
 
-one_each : (g : Grid) (blocks : List Block) (nets : List NetSpec) (one other : List (List Piece)) → AllZip (IsSetOfNet g blocks) nets one → AllZip (IsSetOfNet g blocks) nets other → one ≡ other
-one_each g blocks [] [] [] first second = refl
-one_each g blocks [] [] (u ∷ other) first second = absurd second
-one_each g blocks [] (t ∷ one) other first second = absurd first
-one_each g blocks (n ∷ nets) [] other first second = absurd first
-one_each g blocks (n ∷ nets) (t ∷ one) [] first second = absurd second
-one_each g blocks (n ∷ nets) (t ∷ one) (u ∷ other) first second =
-    ap (λ y. y ∷ one) (one_set g blocks n t u first.0 second.0) ∙ ap (λ ys. u ∷ ys) (one_each g blocks nets one other first.1 second.1)
+-- what each element determines, a list determines
+pub one_zip : {X Y : Type 0} (R : X → Y → Type 0) → ((x : X) (y z : Y) → R x y → R x z → y ≡ z) → (xs : List X) (ys zs : List Y) → AllZip R xs ys → AllZip R xs zs → ys ≡ zs
+one_zip R one [] [] [] first second = refl
+one_zip R one [] [] (z ∷ zs) first second = absurd second
+one_zip R one [] (y ∷ ys) zs first second = absurd first
+one_zip R one (x ∷ xs) [] zs first second = absurd first
+one_zip R one (x ∷ xs) (y ∷ ys) [] first second = absurd second
+one_zip R one (x ∷ xs) (y ∷ ys) (z ∷ zs) first second = ap (λ w. w ∷ ys) (one x y z first.0 second.0) ∙ ap (λ ws. z ∷ ws) (one_zip R one xs ys zs first.1 second.1)
 
 pub one_list_of_sets : (d : Design) (blocks : List Block) (one other : List (List Piece)) → AreSetsOf d blocks one → AreSetsOf d blocks other → one ≡ other
-one_list_of_sets d blocks one other first second = one_each d.grid blocks d.nets one other first second
+one_list_of_sets d blocks one other first second = one_zip (IsSetOfNet d.grid blocks) (one_set d.grid blocks) d.nets one other first second
 
 -- no fraction that is a peak is greater than another one
 no_greater : (g : Grid) (load : ℕ → ℕ) (f h : Fraction) → IsGreatest g load f → IsGreatest g load h → IsAtMost f h

@@ -1,10 +1,11 @@
 -- Blocks and a certificate have one verdict.
-use Rattle.std.proofs.Common.{◌≡◌, ℕ, ◌*◌, ◌⊎◌, List, [], ◌∷◌, ◌++◌, Option, Some, None, refl, sym, ◌∙◌, ap, subst, inl, inr, ⊎_elim, arith}
+use Rattle.std.proofs.Common.{◌≡◌, ℕ, ◌*◌, ◌<◌, ◌⊎◌, List, [], ◌∷◌, ◌++◌, Option, Some, None, refl, sym, ◌∙◌, ap, subst, inl, inr, ⊎_elim, arith}
 use Rattle.std.proofs.lemmas.Bool.{cases_eq}
 use Rattle.std.proofs.lemmas.List.{append_assoc}
 use Rattle.cert_text.specs.declared.cert.Cert.{Cert}
 use Rattle.cert_text.proofs.LowestFractions.{only_fraction}
 use Rattle.dual_bound.specs.DesignBounds.{IsBoundOrNone}
+use Rattle.grid_base.specs.declared.piece.Piece.{Piece}
 use Rattle.grid_graph.specs.declared.design.Design.{Design}
 use Rattle.grid_graph.specs.declared.ground.Ground.{Ground}
 use Rattle.route_text.specs.declared.block.Block.{Block}
@@ -16,8 +17,9 @@ use Rattle.tree_set.specs.Loads.{load}
 use Rattle.tree_set.specs.Measures.{wirelength}
 use Rattle.route_judge.specs.declared.reason.Reason.{Reason}
 use Rattle.route_judge.specs.Counts.{listed_prices}
-use Rattle.route_judge.specs.Judgements.{IsJudged, IsMeasureWith}
+use Rattle.route_judge.specs.Judgements.{IsJudged}
 use Rattle.route_judge.specs.Measured.{IsMeasureOf}
+use Rattle.route_judge.specs.NetSets.{AreSetsOf}
 use Rattle.route_judge.specs.Objections.{Objection, Differ, Finds, reason_of}
 use Rattle.route_judge.specs.Orders.{route_objections, measure_objections, count_objections, bound_objections, objections_but_bound}
 use Rattle.route_judge.proofs.Found.{found_behind, found_once}
@@ -47,13 +49,14 @@ abbrev measure_with : ℕ → ℕ → Option Fraction → Measure
 measure_with over wire peak = record { overflow = over; wirelength = wire; peak = peak }
 
 -- blocks have one measure
-one_measure : (d : Design) (blocks : List Block) (cert : Cert) (one other : Measure) → IsWithinLimits cert.budget → IsMeasureWith d blocks cert one → IsMeasureWith d blocks cert other → one ≡ other
-one_measure d blocks cert one other within first second =
+pub one_measure : (d : Design) (blocks : List Block) (budget : Option ℕ) (one other : Measure) → ((most : ℕ) → budget ≡ Some most → 0 < most)
+    → ((trees : List (List Piece)) × AreSetsOf d blocks trees × IsMeasureOf d budget trees one)
+    → ((trees : List (List Piece)) × AreSetsOf d blocks trees × IsMeasureOf d budget trees other) → one ≡ other
+one_measure d blocks budget one other positive first second =
     let trees = second.0 in
-    let budget = most_of cert.budget in
     let is : IsMeasureOf d budget trees one = subst (λ ts. IsMeasureOf d budget ts one) (one_list_of_sets d blocks first.0 trees first.1 second.1) first.2 in
     let again = second.2 in
-    let peaks = same_value one.peak other.peak (one_peak d.grid (load d.grid d.nets trees) (wirelength trees) budget one.peak other.peak (budget_positive cert.budget within) is.of_peak again.of_peak) in
+    let peaks = same_value one.peak other.peak (one_peak d.grid (load d.grid d.nets trees) (wirelength trees) budget one.peak other.peak positive is.of_peak again.of_peak) in
     ap (λ n. measure_with n one.wirelength one.peak) (is.of_overflow ∙ sym again.of_overflow)
     ∙ ap (λ n. measure_with other.overflow n one.peak) (is.of_wirelength ∙ sym again.of_wirelength)
     ∙ ap (measure_with other.overflow other.wirelength) peaks
@@ -115,7 +118,7 @@ verdict_once d over blocks cert one other within first second =
     one_behind d routes (claims first.measure ++ bound first.found) (claims second.measure ++ bound second.found) one other
     (in_turn d over blocks cert one first) (in_turn d over blocks cert other second)
     (λ are_routes one_more other_more.
-    let same : first.measure ≡ second.measure = one_measure d blocks cert first.measure second.measure within (first.is_measure are_routes) (second.is_measure are_routes) in
+    let same : first.measure ≡ second.measure = one_measure d blocks (most_of cert.budget) first.measure second.measure (budget_positive cert.budget within) (first.is_measure are_routes) (second.is_measure are_routes) in
     one_behind d (claims first.measure) (bound first.found) (bound second.found) one other one_more
     (subst (λ m. Finds d (claims m ++ bound second.found) other) (sym same) other_more)
     (λ right one_last other_last.

@@ -5,3 +5,4 @@ pub use Rattle.route_judge.specs.Orders
 pub use Rattle.route_text.specs.Written
 pub mod Meeting
 pub mod OpenPrices
+pub mod TextVerdicts
