@@ -11,8 +11,8 @@ use Rattle.std.proofs.lemmas.List.Folds.{list_all-append}
 use Rattle.std.proofs.lemmas.Slice.Eq.{bytes_eq-Decides}
 use Rattle.text_scan.specs.Reading.{Reading, left, past_token}
 use Rattle.text_scan.specs.Tokens.{is_blank, is_gap, is_word, ends_word}
-use Rattle.text_scan.specs.Within.{within}
 use Rattle.text_scan.proofs.Digits.{numerals}
+use Rattle.text_scan.proofs.Ranges.{within_is}
 use Rattle.text_scan.proofs.Texts.{Leads, word_is_next, left_past_token, number_is_word, word_is_long}
 use Rattle.text_scan.proofs.Words.{printed_number}
 use Rattle.fractions.specs.Limits.{numerator_limit}
@@ -72,9 +72,6 @@ printed n small =
       value = numeral.1;
       word = number_is_word (decimal n) spelled.0;
     }
-
-within_is : (lo hi n : ℕ) → lo ≤ n → n ≤ hi → within lo hi (pos n) ≡ Some n
-within_is lo hi n low high = rw (le-leb lo n low, le-leb n hi high) refl
 
 -- a number within its limits is read
 pub limited_leads : (refusal : ℕ → CertError) (lo hi n : ℕ) (r : Reading) (rest : List ℕ) → lo ≤ n → n ≤ hi → hi < 2 ^ 71 → IsFound r (decimal n) rest → Leads (limited_at refusal lo hi r) n rest

@@ -1,20 +1,11 @@
-//! Numbers and fractions as text.
+//! Fractions as text.
 
 ghost use Rattle.std.specs.Prelude.{◌≡◌};
 ghost use Rattle.gr_desk.specs.Pens.{Puts, pen_told, HasSameDesk};
 ghost use Rattle.cert_text.specs.CertText.{fraction_text};
 
 use gr_desk::{Desk, Pen};
-use itoa::{Buffer, Integer};
 use tree_set::Fraction;
-
-/// Puts a number in decimal digits.
-pub(crate) fn put_number<D: Desk, I: Integer>(pen: &mut Pen<'_, D>, number: I)
-    ensures same_desk { HasSameDesk pen.old pen.new }
-    ensures puts { Puts (pen_told D.told pen.old) (pen_told D.told pen.new) (I.text number) }
-{
-    pen.put(Buffer::new().format(number).as_bytes());
-}
 
 /// Puts a fraction as numerator, `/` and denominator, or the word `none`.
 pub fn put_fraction<D: Desk>(pen: &mut Pen<'_, D>, fraction: Option<Fraction>)
@@ -23,9 +14,9 @@ pub fn put_fraction<D: Desk>(pen: &mut Pen<'_, D>, fraction: Option<Fraction>)
 {
     match fraction {
         Some(fraction) => {
-            put_number(pen, fraction.num);
+            pen.put_number(fraction.num);
             pen.put(b"/");
-            put_number(pen, fraction.den);
+            pen.put_number(fraction.den);
         }
         None => pen.put(b"none"),
     }

@@ -6,7 +6,7 @@ ghost use Rattle.cert_text.specs.Versions.{version_text};
 ghost use Rattle.cert_text.specs.CertText.{labelled, fraction_text, budget_text, price_text, cert_text};
 
 use crate::cert::Cert;
-use crate::fractions::{put_fraction, put_number};
+use crate::fractions::put_fraction;
 use crate::version::Version;
 use gr_desk::{Desk, Failed, Pen, Port};
 use itoa::Integer;
@@ -57,7 +57,7 @@ fn put_labelled<D: Desk, I: Integer>(pen: &mut Pen<'_, D>, label: &[u8], number:
 {
     pen.put(label);
     pen.put(b" ");
-    put_number(pen, number);
+    pen.put_number(number);
     pen.put(b"\n");
 }
 
@@ -83,9 +83,9 @@ fn put_budget<D: Desk>(pen: &mut Pen<'_, D>, budget: Option<Budget>)
 {
     if let Some(budget) = budget {
         pen.put(b"budget ");
-        put_number(pen, budget.most);
+        pen.put_number(budget.most);
         pen.put(b" ");
-        put_number(pen, budget.price);
+        pen.put_number(budget.price);
         pen.put(b"\n");
     }
 }
@@ -105,6 +105,6 @@ fn put_price<D: Desk>(pen: &mut Pen<'_, D>, price: u32)
     ensures same_desk { HasSameDesk pen.old pen.new }
     ensures puts { Puts (pen_told D.told pen.old) (pen_told D.told pen.new) (price_text price) }
 {
-    put_number(pen, price);
+    pen.put_number(price);
     pen.put(b"\n");
 }

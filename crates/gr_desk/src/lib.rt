@@ -8,9 +8,9 @@
 //! write_all(desk, Port::Report, b"nets 1\n")?;
 //! ```
 //!
-//! It stands on std and `thiserror`. It promises that the bytes moved are those that were left or given, in order,
-//! that a call fails only where a count of faults rose and leaves the counts where it is Ok, and that nothing else
-//! about the desk changes.
+//! It stands on std, on `thiserror`, and on `itoa` for numbers as text. It promises that the bytes moved are those that
+//! were left or given, in order, that a call fails only where a count of faults rose and leaves the counts where it is
+//! Ok, and that nothing else about the desk changes.
 #![tactic(auto)]
 
 mod desk;

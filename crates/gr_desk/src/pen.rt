@@ -9,6 +9,7 @@ use crate::failed::Failed;
 use crate::held::{Held, ROOM};
 use crate::port::Port;
 use crate::whole::write_all;
+use itoa::{Buffer, Integer};
 
 /// Writes a text to one port of a desk in turns, and takes no memory: bytes are held back in a fixed array until there
 /// are enough for a call of the desk. Only `finish` writes the last of them.
@@ -51,6 +52,14 @@ impl<'a, D: Desk> Pen<'a, D> {
         } else {
             self.held.add(bytes);
         }
+    }
+
+    /// Puts a number in decimal digits.
+    pub fn put_number<I: Integer>(&mut self, number: I)
+        ensures same_desk { HasSameDesk self.old self.new }
+        ensures puts { Puts (pen_told D.told self.old) (pen_told D.told self.new) (I.text number) }
+    {
+        self.put(Buffer::new().format(number).as_bytes());
     }
 
     /// Writes all that was put, and says whether it could.

@@ -21,7 +21,7 @@
 //! // 0
 //! ```
 //!
-//! It stands on `gr_desk` to write to, on `seed_streams` for the words that a design is drawn from, and on `itoa`.
+//! It stands on `gr_desk` to write to, and on `seed_streams` for the words that a design is drawn from.
 //!
 //! Promised: `make` writes exactly the text that `specs/MadeText.antt` gives for the seed and the shape, or some part from
 //! its front where a write failed. It keeps no list and takes no memory: each word is drawn where it is written.

@@ -5,7 +5,6 @@ ghost use Rattle.gr_desk.specs.Pens.{Puts, pen_told, HasSameDesk};
 ghost use Rattle.gr_make.specs.MadeText.{line_text};
 
 use gr_desk::{Desk, Pen};
-use itoa::{Buffer, Integer};
 
 /// Puts a line: words, and numbers behind them.
 pub(crate) fn put_line<D: Desk>(pen: &mut Pen<'_, D>, words: &[u8], numbers: &[u32])
@@ -22,7 +21,7 @@ pub(crate) fn put_numbers<D: Desk>(pen: &mut Pen<'_, D>, first: u32, others: &[u
     ensures same_desk { HasSameDesk pen.old pen.new }
     ensures puts { Puts (pen_told D.told pen.old) (pen_told D.told pen.new) (line_text (map decimal (first ∷ others.now))) }
 {
-    put_number(pen, first);
+    pen.put_number(first);
     put_fields(pen, others);
     pen.put(b"\n");
 }
@@ -42,13 +41,5 @@ fn put_field<D: Desk>(pen: &mut Pen<'_, D>, number: u32)
     ensures puts { Puts (pen_told D.told pen.old) (pen_told D.told pen.new) (codes " " ++ decimal number) }
 {
     pen.put(b" ");
-    put_number(pen, number);
-}
-
-/// Puts a number in decimal digits.
-pub(crate) fn put_number<D: Desk, I: Integer>(pen: &mut Pen<'_, D>, number: I)
-    ensures same_desk { HasSameDesk pen.old pen.new }
-    ensures puts { Puts (pen_told D.told pen.old) (pen_told D.told pen.new) (I.text number) }
-{
-    pen.put(Buffer::new().format(number).as_bytes());
+    pen.put_number(number);
 }

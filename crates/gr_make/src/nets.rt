@@ -7,7 +7,7 @@ ghost use Rattle.gr_make.specs.MadeNets.{pin_count, made_pin, made_pins, made_ne
 ghost use Rattle.gr_make.specs.MadeText.{line_text, pin_line, net_lines};
 ghost use Rattle.gr_make.specs.Shapes.{IsShape};
 
-use crate::lines::{put_fields, put_number, put_numbers};
+use crate::lines::{put_fields, put_numbers};
 use crate::random_words::RandomWords;
 use crate::shape::Shape;
 use gr_desk::{Desk, Pen};
@@ -44,7 +44,7 @@ fn put_net<D: Desk>(pen: &mut Pen<'_, D>, words: &mut RandomWords, shape: Shape,
 {
     let pins = MIN_PINS + words.draw(PIN_COUNTS);
     pen.put(b"n");
-    put_number(pen, number);
+    pen.put_number(number);
     put_fields(pen, &[number, pins, 1]);
     pen.put(b"\n");
     put_pins(pen, words, shape, pins);

@@ -14,10 +14,11 @@ use Rattle.gr_make.specs.Shapes.{IsShape}
 use Rattle.ispd_reader.specs.declared.input_fault.InputFault.TheVariants.{CapacityLimit, NetLimit}
 use Rattle.ispd_reader.specs.Adjustments.{place_in, edge_between, step_between, tile_place_at, adjustment_at, adjustments_at}
 use Rattle.ispd_reader.specs.Limits.{max_adjustments}
+use Rattle.text_scan.proofs.Ranges.{within_is}
 use Rattle.made_designs.specs.MadeContents.{made_extent, adjustment_made}
 use Rattle.made_designs.proofs.LineWords.{words_of, words_left}
 use Rattle.made_designs.proofs.Parts.{parts_read}
-use Rattle.made_designs.proofs.Tokens.{Reads, reads-then, ReadsNumber, number_read, within_read, within_is}
+use Rattle.made_designs.proofs.Tokens.{Reads, reads-then, ReadsNumber, number_read, within_read}
 
 -- the edge goes from a tile of the grid to the next column, and its level is a capacity of the format
 pub record IsMadeAdjustment (shape : Shape) (a : MadeAdjustment) : Type 0 where

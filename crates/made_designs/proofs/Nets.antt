@@ -11,10 +11,11 @@ use Rattle.gr_make.specs.Shapes.{IsShape, max_made_nets}
 use Rattle.ispd_reader.specs.declared.input_fault.InputFault.TheVariants.{WidthLimit, NetLimit}
 use Rattle.ispd_reader.specs.declared.wanted.Wanted.TheVariants as wanted
 use Rattle.ispd_reader.specs.Nets.{widest_spacing, id_at, net_width_at, net_at, more_nets_at, nets_at}
+use Rattle.text_scan.proofs.Ranges.{within_is}
 use Rattle.made_designs.specs.MadeContents.{for_layers, made_header, net_made}
 use Rattle.made_designs.proofs.LineWords.{words_left}
 use Rattle.made_designs.proofs.Pins.{IsOnGrid, pins_read}
-use Rattle.made_designs.proofs.Tokens.{Reads, reads-then, word_read, name_read, number_read, within_read, within_is}
+use Rattle.made_designs.proofs.Tokens.{Reads, reads-then, word_read, name_read, number_read, within_read}
 
 -- at most seven pins, each on the grid
 pub record HasPinsOnGrid (shape : Shape) (net : MadeNet) : Type 0 where

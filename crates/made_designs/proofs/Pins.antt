@@ -9,10 +9,11 @@ use Rattle.gr_make.specs.MadeNets.{tile_side}
 use Rattle.gr_make.specs.MadeText.{pin_line}
 use Rattle.gr_make.specs.Shapes.{IsShape}
 use Rattle.ispd_reader.specs.Nets.{tile_along, pin_at, pins_at}
+use Rattle.text_scan.proofs.Ranges.{within_is}
 use Rattle.made_designs.specs.MadeContents.{made_header, pin_vertex}
 use Rattle.made_designs.proofs.LineWords.{words_left}
 use Rattle.made_designs.proofs.Parts.{parts_read}
-use Rattle.made_designs.proofs.Tokens.{Reads, reads-then, number_read, within_is}
+use Rattle.made_designs.proofs.Tokens.{Reads, reads-then, number_read}
 
 -- the pin lies on the grid
 pub record IsOnGrid (shape : Shape) (pin : ℕ × ℕ) : Type 0 where

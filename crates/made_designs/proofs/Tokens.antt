@@ -7,7 +7,7 @@ use Rattle.std.proofs.lemmas.Slice.Eq.{bytes_eq-Decides}
 use Rattle.text_scan.specs.Parts.{Read, ◌>>=◌}
 use Rattle.text_scan.specs.Reading.{Reading, tokens_left, past_token}
 use Rattle.text_scan.specs.Tokens.{Token, is_word}
-use Rattle.text_scan.specs.Within.{within}
+use Rattle.text_scan.proofs.Ranges.{within_is}
 use Rattle.text_scan.proofs.Texts.{number_is_word, within_them}
 use Rattle.text_scan.proofs.Words.{printed_number}
 use Rattle.grid_graph.specs.Limits.{max_number}
@@ -87,9 +87,6 @@ number_read n r words below here =
       place = next.place;
       read = record { after = past_token r; reads = rw (next.tokens, spelled.0, spelled.1, inside) refl; leaves = next.leaves };
     }
-
-pub within_is : (lo hi n : ℕ) → lo ≤ n → n ≤ hi → within lo hi (pos n) ≡ Some n
-within_is lo hi n low high = rw (le-leb lo n low, le-leb n hi high) refl
 
 -- a printed number within its limits is read
 pub within_read : (lo hi n : ℕ) (refusal : ℕ → InputFault) (r : Reading) (words : List (List ℕ)) → lo ≤ n → n ≤ hi → n ≤ max_number →

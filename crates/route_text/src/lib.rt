@@ -10,8 +10,8 @@
 //! blocks[0].segments.list();                // a wire from (5,25,1) to (45,25,1), and a via
 //! ```
 //!
-//! It stands on `tree_set`, `grid_graph` and `grid_base` for the routes, on `gr_desk` to write to, on `text_scan` to
-//! read, and on `itoa`.
+//! It stands on `tree_set`, `grid_graph` and `grid_base` for the routes, on `gr_desk` to write to, and on `text_scan` to
+//! read.
 //!
 //! Promised: `write_routes` writes exactly the text of the nets with their sets, or some part from its front where a
 //! write failed, and takes no memory. `read_routes` answers the blocks that a text names, or the first place at which

@@ -10,7 +10,7 @@ ghost use Rattle.gr_desk.specs.Pens.{Puts, pen_told, HasSameDesk};
 ghost use Rattle.route_text.specs.RouteText.{segment_text, net_text};
 ghost use Rattle.route_text.specs.Pieces.{run_text, via_text};
 
-use crate::points::{put_number, put_segment};
+use crate::points::put_segment;
 use crate::runs::{begins_run, is_along, run_end};
 use gr_desk::{Desk, Pen};
 use grid_base::{Axis, Piece};
@@ -25,7 +25,7 @@ pub(crate) fn put_net<D: Desk>(pen: &mut Pen<'_, D>, grid: &Grid, net: &NetSpec,
 {
     pen.put(net.name.list());
     pen.put(b" ");
-    put_number(pen, net.id);
+    pen.put_number(net.id);
     pen.put(b"\n");
     put_runs(pen, grid, tree, Axis::X);
     put_runs(pen, grid, tree, Axis::Y);

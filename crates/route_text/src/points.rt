@@ -10,15 +10,6 @@ use crate::position::{x_of, y_of};
 use gr_desk::{Desk, Pen};
 use grid_base::Vertex;
 use grid_graph::Grid;
-use itoa::{Buffer, Integer};
-
-/// Puts a number in decimal digits.
-pub(crate) fn put_number<D: Desk, I: Integer>(pen: &mut Pen<'_, D>, number: I)
-    ensures same_desk { HasSameDesk pen.old pen.new }
-    ensures puts { Puts (pen_told D.told pen.old) (pen_told D.told pen.new) (I.text number) }
-{
-    pen.put(Buffer::new().format(number).as_bytes());
-}
 
 /// Puts a vertex as a point.
 pub fn put_point<D: Desk>(pen: &mut Pen<'_, D>, grid: &Grid, v: Vertex)
@@ -28,11 +19,11 @@ pub fn put_point<D: Desk>(pen: &mut Pen<'_, D>, grid: &Grid, v: Vertex)
 {
     let place = grid.size().place_of(v);
     pen.put(b"(");
-    put_number(pen, x_of(grid, place.col));
+    pen.put_number(x_of(grid, place.col));
     pen.put(b",");
-    put_number(pen, y_of(grid, place.row));
+    pen.put_number(y_of(grid, place.row));
     pen.put(b",");
-    put_number(pen, place.layer + 1);
+    pen.put_number(place.layer + 1);
     pen.put(b")");
 }
 

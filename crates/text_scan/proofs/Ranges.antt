@@ -1,5 +1,5 @@
 -- A number that was read is in the range that was asked for.
-use Rattle.std.proofs.Common.{◌≡◌, ℕ, ◌≤◌, List, [], ◌∷◌, ℤ, pos, negsuc, ◌≤ℤ◌, Some, Ok, ap, arith}
+use Rattle.std.proofs.Common.{◌≡◌, ℕ, ◌≤◌, List, [], ◌∷◌, ℤ, pos, negsuc, ◌≤ℤ◌, Some, Ok, refl, ap, arith, le-leb}
 use Rattle.std.proofs.lemmas.Bool.Decides.{nat_tests}
 use Rattle.std.proofs.lemmas.Option.{none-some, cond_some}
 use Rattle.text_scan.specs.declared.number_fault.NumberFault.TheVariants.{End}
@@ -11,7 +11,11 @@ use Rattle.text_scan.specs.Parts.{◌>>=◌}
 use Rattle.text_scan.proofs.Parts.{parts_of_ok}
 use Rattle.text_scan.proofs.Numbers.{read_is_within}
 
--- a number within its limits
+-- a number within its limits is the one that is found
+pub within_is : (lo hi n : ℕ) → lo ≤ n → n ≤ hi → within lo hi (pos n) ≡ Some n
+within_is lo hi n low high = rw (le-leb lo n low, le-leb n hi high) refl
+
+-- and the one that is found is within them
 pub within_bounds : (lo hi : ℕ) (z : ℤ) (n : ℕ) → within lo hi z ≡ Some n → (z ≡ pos n) × (lo ≤ n) × (n ≤ hi)
 within_bounds lo hi (pos m) n h = let p = cond_some _ m n h in (ap pos p.1, grind (arith, nat_tests), grind (arith, nat_tests))
 within_bounds lo hi (negsuc m) n h = absurd (none-some n h)
