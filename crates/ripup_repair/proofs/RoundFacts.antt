@@ -16,7 +16,7 @@ use Rattle.grid_graph.specs.declared.net_spec.NetSpec.{NetSpec}
 use Rattle.grid_graph.specs.Grids.{edge_numbers, entries, size_of}
 use Rattle.grid_graph.specs.Grounds.{AreGrounds}
 use Rattle.edge_prices.specs.Limits.{IsBudget}
-use Rattle.price_workers.specs.Limits.{max_workers}
+use Rattle.routing_stages.specs.Limits.{max_workers}
 use Rattle.load_table.specs.Holdings.{Holding}
 use Rattle.tree_set.specs.Loads.{load_on, tree_load}
 use Rattle.tree_set.specs.Order.{IsRising}

@@ -13,7 +13,7 @@ use Rattle.load_core.specs.Parties.{share_at, whole_allotment}
 use Rattle.load_table.specs.Holdings.{Holding}
 use Rattle.tree_set.specs.Loads.{load_between, load_on}
 use Rattle.tree_set.specs.Routings.{IsRouting}
-use Rattle.price_workers.specs.Limits.{max_workers}
+use Rattle.routing_stages.specs.Limits.{max_workers}
 use Rattle.sharing_runs.specs.Parts.{part_start}
 use Rattle.sharing_runs.specs.RepairRuns.{at_positions}
 use Rattle.sharing_phases.specs.PhaseWords.{least_allotment, max_phase_load}

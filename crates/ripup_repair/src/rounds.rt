@@ -1,12 +1,11 @@
 //! Rounds, one after another.
 
-ghost use Rattle.std.specs.Prelude.{◌≡◌, ◌≤◌, ◌<◌, ℕ, length, slice_index, All, AllPairs, IfOk};
+ghost use Rattle.std.specs.Prelude.{◌≡◌, ◌≤◌, ◌<◌, length, All, AllPairs, IfOk};
 ghost use Rattle.grid_graph.specs.Grids.{entries};
 ghost use Rattle.grid_graph.specs.Grounds.{AreGrounds};
 ghost use Rattle.edge_prices.specs.Limits.{IsBudget};
-ghost use Rattle.load_core.specs.Parties.{share_at};
 ghost use Rattle.tree_set.specs.Routings.{IsRouting};
-ghost use Rattle.price_workers.specs.Limits.{max_workers};
+ghost use Rattle.routing_stages.specs.Limits.{max_workers};
 ghost use Rattle.sharing_runs.specs.RepairRuns.{routing_overflow};
 ghost use Rattle.ripup_repair.specs.RoundsDone.{AreRoundsDone, HasLoadOf, IsRoundDone};
 ghost use Rattle.ripup_repair.specs.Exchanged.{with_elements};
@@ -20,7 +19,7 @@ use grid_base::NoMemory;
 use grid_graph::{Design, Ground};
 use load_core::WHOLE_ALLOTMENT;
 use load_table::{LoadTable, Share};
-use price_workers::Gate;
+use routing_stages::{Gate, write_shares};
 use std::alloc::Global;
 use std::thread::Threads;
 use tree_set::{Tree, measure_of};
@@ -126,16 +125,4 @@ fn repair_round<R: Threads + Sync, G: Gate>(
     )?;
     exchange(trees, &positions, &mut sets);
     Ok((share, Replaced { positions, sets }))
-}
-
-/// Writes down what a share has of each word.
-fn write_shares(share: &Share, words: u32, loads: &mut [u64])
-    requires words { share.now.table.words ≡ words }
-    requires long { length loads.old ≡ words }
-    ensures shares { (r : ℕ) → r < words → slice_index loads.new r ≡ share_at r share.now.party }
-    ensures long { length loads.new ≡ words }
-{
-    for word in 0..words {
-        loads[word as usize] = share.share_of(word);
-    }
 }

@@ -11,7 +11,7 @@ use crate::part::repair_part;
 use grid_base::NoMemory;
 use grid_graph::{Design, Ground};
 use load_table::{LoadTable, Share};
-use price_workers::Gate;
+use routing_stages::Gate;
 use sharing_phases::{LEAST_ALLOTMENT, part_start};
 use std::alloc::Global;
 use std::thread::{Threads, join};

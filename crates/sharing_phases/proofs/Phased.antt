@@ -22,9 +22,9 @@ use Rattle.tree_set.specs.Loads.{load_on, load_between}
 use Rattle.sharing_runs.specs.Parts.{part_start, stretch_start, IsInPart}
 use Rattle.sharing_runs.specs.SharingRuns.{IsSharingRun, IsTurn}
 use Rattle.tree_set.specs.Routings.{IsRoute, IsRouting}
-use Rattle.price_workers.specs.Phases.{phases_load}
+use Rattle.routing_stages.specs.Phases.{phases_load}
 use Rattle.sharing_phases.specs.Histories.{run_history, parts_history}
-use Rattle.price_workers.specs.Limits.{max_workers, max_phases}
+use Rattle.routing_stages.specs.Limits.{max_workers, max_phases}
 use Rattle.sharing_phases.specs.PhaseWords.{Phase, IsRunSoFar, ServesParts}
 use Rattle.sharing_phases.specs.Turns.{ArePartsRouted, earlier_load, load_from}
 use Rattle.sharing_phases.proofs.Parts.{part_start-le}

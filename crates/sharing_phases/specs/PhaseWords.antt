@@ -10,12 +10,12 @@ use Rattle.grid_graph.specs.Grids.{entries}
 use Rattle.load_core.specs.Parties.{share_at, whole_allotment}
 use Rattle.load_table.specs.Holdings.{Holding, held}
 use Rattle.tree_set.specs.Routings.{IsRouting}
-use Rattle.price_workers.specs.Limits.{max_workers, max_phases}
+use Rattle.routing_stages.specs.Limits.{max_workers, max_phases}
 use Rattle.price_workers.specs.Readings.{after_reading, AreCloseTo}
 use Rattle.price_workers.specs.declared.worker.Worker.{Worker}
 use Rattle.price_workers.specs.Workers.{held_share, party_of, trees_of, seen_loads, is_refreshed, nets_since}
 use Rattle.sharing_runs.specs.Parts.{part_start}
-use Rattle.price_workers.specs.Phases.{phases_load}
+use Rattle.routing_stages.specs.Phases.{phases_load}
 use Rattle.sharing_phases.specs.Histories.{IsRecordedRun}
 use Rattle.sharing_phases.specs.Turns.{earlier_load, ArePartsRouted}
 

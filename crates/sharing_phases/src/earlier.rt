@@ -5,13 +5,13 @@ ghost use Rattle.grid_graph.specs.Limits.{max_load};
 ghost use Rattle.grid_graph.specs.Grids.{entries, size_of, IsNetWidth};
 ghost use Rattle.tree_set.specs.Loads.{tree_load, load_between, max_tree_load, net_load};
 ghost use Rattle.tree_set.specs.Routings.{ArePieces, IsRouting};
-ghost use Rattle.price_workers.specs.Limits.{max_phases};
+ghost use Rattle.routing_stages.specs.Limits.{max_phases};
 ghost use Rattle.sharing_phases.specs.PhaseWords.{max_phase_load};
 ghost use Rattle.sharing_phases.specs.Turns.{earlier_load};
 
 use grid_base::{NoMemory, Piece};
 use grid_graph::{Design, Grid};
-use price_workers::Trees;
+use routing_stages::Trees;
 use std::alloc::Global;
 use tree_set::Tree;
 

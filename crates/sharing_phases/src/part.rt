@@ -2,7 +2,7 @@
 
 ghost use Rattle.std.specs.Prelude.{◌≡◌, ◌+◌, ◌≤◌, ◌<◌, true, false, length, IfOk};
 ghost use Rattle.grid_graph.specs.Limits.{max_nets};
-ghost use Rattle.price_workers.specs.Limits.{max_workers};
+ghost use Rattle.routing_stages.specs.Limits.{max_workers};
 ghost use Rattle.price_workers.specs.Workers.{WorksOn, KeepsWork, IsUnchanged};
 ghost use Rattle.sharing_phases.specs.PhaseWords.{phase_of, IsPhase, ServesParts, RoutesParts, HasRead};
 ghost use Rattle.sharing_runs.specs.Parts.{part_start};
@@ -10,7 +10,8 @@ ghost use Rattle.sharing_runs.specs.Parts.{part_start};
 use grid_base::NoMemory;
 use grid_graph::{Design, Ground};
 use load_table::{LoadTable, Share};
-use price_workers::{Gate, Trees, Worker};
+use price_workers::Worker;
+use routing_stages::{Gate, Trees};
 use std::alloc::Global;
 use tree_set::Tree;
 

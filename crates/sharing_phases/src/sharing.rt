@@ -9,9 +9,9 @@ ghost use Rattle.edge_prices.specs.Limits.{IsBudget};
 ghost use Rattle.edge_prices.specs.Vectors.{price_vector};
 ghost use Rattle.load_core.specs.Parties.{first_party};
 ghost use Rattle.load_table.specs.Holdings.{held};
-ghost use Rattle.price_workers.specs.Limits.{max_workers, max_phases};
-ghost use Rattle.price_workers.specs.Settings.{AreSettings, workers_in_use};
-ghost use Rattle.price_workers.specs.Whole.{IsWholeShared};
+ghost use Rattle.routing_stages.specs.Limits.{max_workers, max_phases};
+ghost use Rattle.routing_stages.specs.Settings.{AreSettings, workers_in_use};
+ghost use Rattle.routing_stages.specs.Whole.{IsWholeShared};
 ghost use Rattle.sharing_phases.specs.Histories.{IsRecordedRun};
 ghost use Rattle.sharing_phases.specs.PhaseWords.{IsRunSoFar};
 
@@ -20,7 +20,7 @@ use edge_prices::prices;
 use grid_base::NoMemory;
 use grid_graph::{Design, Ground};
 use load_table::{LoadTable, Share};
-use price_workers::{Gate, Phases, Settings, Shared, Trees};
+use routing_stages::{Gate, Phases, Settings, Shared, Trees, write_shares};
 use std::alloc::Global;
 use std::thread::Threads;
 
@@ -62,7 +62,8 @@ pub fn share<R: Threads + Sync, G: Gate>(
         settings.budget,
         gate,
     )?;
-    let loads = shares_of(alloc, &share, words)?;
+    let mut loads = vec![in alloc; 0u64; words as usize]?;
+    write_shares(&share, words, &mut loads);
     let mut list = vec![in alloc; 0u32; words as usize]?;
     prices(&design.grid, &loads, 1, settings.budget, &mut list);
     Ok(Shared {
@@ -117,18 +118,4 @@ fn route_phases<R: Threads + Sync, G: Gate>(
         phases.push(Trees::of(sets))?;
     }
     Ok((share, phases))
-}
-
-/// What a share has of each word.
-fn shares_of(alloc: Global, share: &Share, words: u32) -> Result<Vec<u64>, NoMemory>
-    requires words { share.now.table.words ≡ words }
-    requires some { 0 < words }
-    ensures shares { IfOk result (λ loads. loads.items ≡ share.now.party.shares) }
-    ensures long { IfOk result (λ loads. length loads.items ≡ words) }
-{
-    let mut loads = Vec::new(alloc);
-    for word in 0..words {
-        loads.push(share.share_of(word))?;
-    }
-    Ok(loads)
 }

@@ -9,7 +9,7 @@ use crate::part::{part_start, route_part};
 use grid_base::NoMemory;
 use grid_graph::{Design, Ground};
 use load_table::{LoadTable, Share};
-use price_workers::{Gate, Trees};
+use routing_stages::{Gate, Trees};
 use std::alloc::Global;
 use std::thread::{Threads, join};
 use tree_set::Tree;

@@ -8,7 +8,7 @@ use Rattle.load_table.specs.Holdings.{IsShare}
 use Rattle.tree_set.specs.Loads.{load_list}
 use Rattle.tree_set.specs.Routings.{ArePieces, IsRoute, IsRouting}
 use Rattle.sharing_runs.proofs.Between.{load_list-at, load_list-long}
-use Rattle.price_workers.specs.Settings.{workers_in_use}
+use Rattle.routing_stages.specs.Settings.{workers_in_use}
 use Rattle.sharing_runs.specs.RepairRuns.{routing_overflow}
 use Rattle.ripup_repair.specs.RoundsDone.{AreRoundsDone, HasLoadOf}
 use Rattle.ripup_repair.proofs.RoundFacts.{routing_pieces, written_over}

@@ -1,7 +1,7 @@
 use Rattle.std.proofs.Common.{◌<◌, ◌∷◌, [], List, length, refl, sym, ◌∙◌, ap, subst, arith}
 use Rattle.std.proofs.lemmas.List.{length-append}
 use Rattle.grid_base.specs.declared.piece.Piece.{Piece}
-use Rattle.price_workers.specs.Limits.{max_phases}
+use Rattle.routing_stages.specs.Limits.{max_phases}
 use Rattle.sharing_phases.specs.PhaseWords.{Phase, phase_of, IsRunSoFar}
 use Rattle.sharing_phases.specs.Turns.{ArePartsRouted}
 use Rattle.sharing_phases.proofs.Phased.{IsRunSoFar-push, run_begins, serves_all}

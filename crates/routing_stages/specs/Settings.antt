@@ -1,8 +1,8 @@
 -- Settings of a run.
 use Rattle.std.specs.Prelude.{ℕ, ◌/◌, ◌≤◌, min}
 use Rattle.edge_prices.specs.Limits.{IsBudget}
-use Rattle.price_workers.specs.declared.settings.Settings.{Settings}
-use Rattle.price_workers.specs.Limits.{max_workers, max_phases, max_rounds, max_labelled}
+use Rattle.routing_stages.specs.declared.settings.Settings.{Settings}
+use Rattle.routing_stages.specs.Limits.{max_workers, max_phases, max_rounds, max_labelled}
 
 -- each number is within its limits
 pub record AreSettings (s : Settings) : Type 0 where

@@ -1,5 +1,5 @@
 use Rattle.std.proofs.Common.{◌≡◌, ◌<◌, ℕ, length, slice_index}
-use Rattle.rounding_pick.proofs.rounding.write_shares.Given as goal
+use Rattle.routing_stages.proofs.shares.write_shares.Given as goal
 
 -- the words so far are written
 abbrev pub invariant-loop-word : goal.invariant-loop-word

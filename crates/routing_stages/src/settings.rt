@@ -2,8 +2,8 @@
 
 ghost use Rattle.std.specs.Prelude.{◌≡◌, ◌≤◌};
 ghost use Rattle.grid_base.specs.Numbers.{vertices};
-ghost use Rattle.price_workers.specs.Limits.{max_workers};
-ghost use Rattle.price_workers.specs.Settings.{AreSettings, workers_in_use};
+ghost use Rattle.routing_stages.specs.Limits.{max_workers};
+ghost use Rattle.routing_stages.specs.Settings.{AreSettings, workers_in_use};
 
 use grid_base::Size;
 

@@ -7,10 +7,10 @@ use Rattle.load_core.specs.Parties.{whole_allotment}
 use Rattle.load_table.specs.Holdings.{Holding}
 use Rattle.tree_set.specs.Loads.{load_list}
 use Rattle.tree_set.specs.Routings.{IsRouting}
-use Rattle.price_workers.specs.declared.chosen.Chosen.{Chosen}
-use Rattle.price_workers.specs.declared.shared.Shared.{Shared}
-use Rattle.price_workers.specs.Limits.{max_phases}
-use Rattle.price_workers.specs.Phases.{phases_loads}
+use Rattle.routing_stages.specs.declared.chosen.Chosen.{Chosen}
+use Rattle.routing_stages.specs.declared.shared.Shared.{Shared}
+use Rattle.routing_stages.specs.Limits.{max_phases}
+use Rattle.routing_stages.specs.Phases.{phases_loads}
 
 -- the one share of the table: it has the whole allotment, and these loads are its shares
 pub record IsWholeShare (table : TableId) (loads : List ℕ) (share : Holding) : Type 0 where
