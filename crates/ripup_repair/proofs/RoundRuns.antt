@@ -22,7 +22,7 @@ use Rattle.routing_stages.specs.declared.routed.Routed.{Routed}
 use Rattle.routing_stages.specs.declared.settings.Settings.{Settings}
 use Rattle.routing_stages.specs.Whole.{IsWholeShare}
 use Rattle.price_workers.proofs.TurnFacts.{stands}
-use Rattle.sharing_phases.proofs.WorkerSteps.{zeros_are_loads}
+use Rattle.routing_passes.proofs.WorkerSteps.{zeros_are_loads}
 use Rattle.ripup_repair.specs.declared.repaired.Repaired.{Repaired}
 use Rattle.ripup_repair.specs.RepairHistories.{IsRepaired, repair_history, round_history}
 use Rattle.ripup_repair.specs.RoundsDone.{AreRoundsDone, HasLoadOf, IsRoundDone}

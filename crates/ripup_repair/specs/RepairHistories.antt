@@ -10,7 +10,7 @@ use Rattle.routing_stages.specs.declared.chosen.Chosen.{Chosen}
 use Rattle.routing_stages.specs.declared.routed.Routed.{Routed}
 use Rattle.routing_stages.specs.declared.settings.Settings.{Settings}
 use Rattle.routing_stages.specs.Whole.{IsWholeShare}
-use Rattle.sharing_phases.specs.Histories.{parts_history}
+use Rattle.routing_passes.specs.Histories.{parts_history}
 use Rattle.sharing_runs.specs.RepairRuns.{nets_to_repair, IsRepairRun, IsRepairResult}
 
 -- the readings of a round of so many workers that begins with these sets
