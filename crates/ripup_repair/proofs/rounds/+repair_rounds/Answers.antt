@@ -9,7 +9,7 @@ use Rattle.tree_set.specs.Routings.{IsRoute}
 use Rattle.sharing_runs.specs.RepairRuns.{routing_overflow}
 use Rattle.ripup_repair.specs.Exchanged.{with_elements}
 use Rattle.ripup_repair.specs.RoundsDone.{AreRoundsDone}
-use Rattle.ripup_repair.proofs.RoundFacts.{routing_pieces}
+use Rattle.routing_passes.proofs.PartSteps.{routing_pieces}
 use Rattle.ripup_repair.proofs.RoundRuns.{listed, more_done, none_done}
 use Rattle.ripup_repair.proofs.rounds.+repair_rounds.Goals as goal
 use Rattle.ripup_repair.proofs.rounds.+repair_rounds.Goals.{then-overflow-eq0-via-then-overflow-eq0}

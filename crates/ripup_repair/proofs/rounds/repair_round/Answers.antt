@@ -34,7 +34,8 @@ route_parts-requires-clause-pass g c κs within =
     let trees : List (List Piece) = c.args.trees.now in
     let round = begins_round d c.args.grounds.now c.args.table.now trees c.args.workers c.args.budget c.requires.grounds
     c.requires.words c.requires.workers c.requires.budget c.requires.routing in
-    let same = plan_of_round d c.args.grounds.now c.args.table.now c.as_slice.result.now trees (nets_to_repair d trees) c.plan
+    let same = plan_of_round d c.args.grounds.now c.args.table.now c.as_slice.result.now trees (nets_to_repair d trees)
+    (record { positions = c.in_ok-positions.positions; scale = repair_scale; workers = c.args.workers; budget = c.args.budget })
     (c.as_slice.ensures.value ∙ c.new-others.ensures.items) c.in_ok-positions.ensures.positions refl in
     subst IsPass (sym same) round
 
@@ -44,7 +45,8 @@ route_parts-requires-clause-share g c κs within =
     let trees : List (List Piece) = c.args.trees.now in
     let round = begins_round d c.args.grounds.now c.args.table.now trees c.args.workers c.args.budget c.requires.grounds
     c.requires.words c.requires.workers c.requires.budget c.requires.routing in
-    let same = plan_of_round d c.args.grounds.now c.args.table.now c.as_slice.result.now trees (nets_to_repair d trees) c.plan
+    let same = plan_of_round d c.args.grounds.now c.args.table.now c.as_slice.result.now trees (nets_to_repair d trees)
+    (record { positions = c.in_ok-positions.positions; scale = repair_scale; workers = c.args.workers; budget = c.args.budget })
     (c.as_slice.ensures.value ∙ c.new-others.ensures.items) c.in_ok-positions.ensures.positions refl in
     subst (λ (p : Pass). ServesTurns p 0 c.args.workers c.args.share) (sym same)
     (serves_all (round_of d c.args.grounds.now c.args.table.now trees (nets_to_repair d trees) c.args.workers c.args.budget)
@@ -69,7 +71,8 @@ exchange-requires-clause-long g c =
     let trees : List (List Piece) = c.args.trees.now in
     let round = begins_round d c.args.grounds.now c.args.table.now trees c.args.workers c.args.budget c.requires.grounds
     c.requires.words c.requires.workers c.requires.budget c.requires.routing in
-    let same = plan_of_round d c.args.grounds.now c.args.table.now c.as_slice.result.now trees (nets_to_repair d trees) c.plan
+    let same = plan_of_round d c.args.grounds.now c.args.table.now c.as_slice.result.now trees (nets_to_repair d trees)
+    (record { positions = c.in_ok-positions.positions; scale = repair_scale; workers = c.args.workers; budget = c.args.budget })
     (c.as_slice.ensures.value ∙ c.new-others.ensures.items) c.in_ok-positions.ensures.positions refl in
     let had = subst (λ (p : Pass). HadTurns p 0 c.args.workers c.args.share c.in_ok-share.share c.in_ok-share.sets.items) same
     c.in_ok-share.ensures.turns in
@@ -85,7 +88,8 @@ returns-clause-done g c =
     let sets : List (List Piece) = c.in_ok-share.sets.items in
     let round = begins_round d c.args.grounds.now c.args.table.now trees c.args.workers c.args.budget c.requires.grounds
     c.requires.words c.requires.workers c.requires.budget c.requires.routing in
-    let same = plan_of_round d c.args.grounds.now c.args.table.now c.as_slice.result.now trees (nets_to_repair d trees) c.plan
+    let same = plan_of_round d c.args.grounds.now c.args.table.now c.as_slice.result.now trees (nets_to_repair d trees)
+    (record { positions = c.in_ok-positions.positions; scale = repair_scale; workers = c.args.workers; budget = c.args.budget })
     (c.as_slice.ensures.value ∙ c.new-others.ensures.items) c.in_ok-positions.ensures.positions refl in
     let had = subst (λ (p : Pass). HadTurns p 0 c.args.workers c.args.share c.in_ok-share.share sets) same
     c.in_ok-share.ensures.turns in
@@ -123,7 +127,8 @@ returns-clause-back g c =
     let ks : List ℕ = nets_to_repair d trees in
     let round = begins_round d c.args.grounds.now c.args.table.now trees c.args.workers c.args.budget c.requires.grounds
     c.requires.words c.requires.workers c.requires.budget c.requires.routing in
-    let same = plan_of_round d c.args.grounds.now c.args.table.now c.as_slice.result.now trees (nets_to_repair d trees) c.plan
+    let same = plan_of_round d c.args.grounds.now c.args.table.now c.as_slice.result.now trees (nets_to_repair d trees)
+    (record { positions = c.in_ok-positions.positions; scale = repair_scale; workers = c.args.workers; budget = c.args.budget })
     (c.as_slice.ensures.value ∙ c.new-others.ensures.items) c.in_ok-positions.ensures.positions refl in
     let had = subst (λ (p : Pass). HadTurns p 0 c.args.workers c.args.share c.in_ok-share.share sets) same
     c.in_ok-share.ensures.turns in

@@ -1,4 +1,4 @@
-use Rattle.std.proofs.Common.{◌≡◌, ◌+◌, ◌∷◌, ◌++◌, [], ◌∙◌, ap, arith}
+use Rattle.std.proofs.Common.{◌≡◌, ◌+◌, ◌∷◌, ◌++◌, [], ◌∙◌, ap}
 use Rattle.std.proofs.lemmas.List.{replicate_more}
 use Rattle.sharing_phases.specs.PhaseWords.{empty_sets}
 use Rattle.sharing_phases.proofs.sharing.no_sets.Goals as goal
@@ -7,6 +7,5 @@ pub loop-preserved : goal.loop-preserved
 loop-preserved c =
     c.in_ok-push.ensures.items
     ∙ ap (λ xs. xs ++ c.empty.result ∷ []) c.loop.invariant
-    ∙ ap (λ t. empty_sets c.loop.counter ++ t ∷ []) c.empty.ensures
+    ∙ ap (λ t. empty_sets c.loop.counter ++ t ∷ []) c.empty.ensures.none
     ∙ replicate_more c.loop.counter []
-    ∙ ap empty_sets (omega arith)

@@ -79,8 +79,8 @@ loop-init g c =
 pub route_parts-requires-clause-pass : goal.route_parts-requires-clause-pass
 route_parts-requires-clause-pass g c κs within =
     let d = c.args.design.now in
-    let phase = phase_of_plan d c.args.grounds.now c.args.table.now c.as_slice.result.now c.as_slice-2.result.now c.args.plan.now
-    c.requires.plan (c.as_slice-2.ensures.value ∙ c.in_ok-none.ensures.sets ∙ ap (λ ns. empty_sets (length ns)) c.list.ensures.nets)
+    let phase = phase_of_plan d c.args.grounds.now c.args.table.now c.as_slice.result.now c.as_slice-in-loop.result.now c.args.plan.now
+    c.requires.plan (c.as_slice-in-loop.ensures.value ∙ c.in_ok-none.ensures.sets ∙ ap (λ ns. empty_sets (length ns)) c.list.ensures.nets)
     c.requires.grounds c.requires.words c.requires.workers c.requires.budget
     (subst (All (IsRouting d.grid d.nets)) (sym c.as_slice.ensures.value) c.loop.invariant.run.routings)
     (omega (
@@ -97,8 +97,8 @@ pub route_parts-requires-clause-share : goal.route_parts-requires-clause-share
 route_parts-requires-clause-share g c κs within =
     let d = c.args.design.now in
     let plan = c.args.plan.now in
-    let phase = phase_of_plan d c.args.grounds.now c.args.table.now c.as_slice.result.now c.as_slice-2.result.now c.args.plan.now
-    c.requires.plan (c.as_slice-2.ensures.value ∙ c.in_ok-none.ensures.sets ∙ ap (λ ns. empty_sets (length ns)) c.list.ensures.nets)
+    let phase = phase_of_plan d c.args.grounds.now c.args.table.now c.as_slice.result.now c.as_slice-in-loop.result.now c.args.plan.now
+    c.requires.plan (c.as_slice-in-loop.ensures.value ∙ c.in_ok-none.ensures.sets ∙ ap (λ ns. empty_sets (length ns)) c.list.ensures.nets)
     c.requires.grounds c.requires.words c.requires.workers c.requires.budget
     (subst (All (IsRouting d.grid d.nets)) (sym c.as_slice.ensures.value) c.loop.invariant.run.routings)
     (omega (
@@ -109,7 +109,7 @@ route_parts-requires-clause-share g c κs within =
       c.loop.auto.counter-end,
       c.requires.count,
     )) in
-    serves_all (pass_of d c.args.grounds.now c.args.table.now c.as_slice.result.now c.as_slice-2.result.now plan) c.loop.share
+    serves_all (pass_of d c.args.grounds.now c.args.table.now c.as_slice.result.now c.as_slice-in-loop.result.now plan) c.loop.share
     phase (subst (IsRunSoFar d plan.workers plan.budget c.args.table.now c.loop.share) (sym c.as_slice.ensures.value)
     c.loop.invariant.run)
 
@@ -119,8 +119,8 @@ loop-preserved g c =
     let plan = c.args.plan.now in
     let table = c.args.table.now in
     let sets = c.in_ok-next.sets.items in
-    let phase = phase_of_plan d c.args.grounds.now c.args.table.now c.as_slice.result.now c.as_slice-2.result.now c.args.plan.now
-    c.requires.plan (c.as_slice-2.ensures.value ∙ c.in_ok-none.ensures.sets ∙ ap (λ ns. empty_sets (length ns)) c.list.ensures.nets)
+    let phase = phase_of_plan d c.args.grounds.now c.args.table.now c.as_slice.result.now c.as_slice-in-loop.result.now c.args.plan.now
+    c.requires.plan (c.as_slice-in-loop.ensures.value ∙ c.in_ok-none.ensures.sets ∙ ap (λ ns. empty_sets (length ns)) c.list.ensures.nets)
     c.requires.grounds c.requires.words c.requires.workers c.requires.budget
     (subst (All (IsRouting d.grid d.nets)) (sym c.as_slice.ensures.value) c.loop.invariant.run.routings)
     (omega (
@@ -134,7 +134,7 @@ loop-preserved g c =
     rw (c.in_ok-push.ensures.items, c.of.ensures) (record {
       run = subst (λ (phases : List (List (List Piece))). IsRunSoFar d plan.workers plan.budget table c.in_ok-next.next
           (phases ++ sets ∷ [])) c.as_slice.ensures.value
-          (IsRunSoFar-push (pass_of d c.args.grounds.now table c.as_slice.result.now c.as_slice-2.result.now plan) sets c.loop.share
+          (IsRunSoFar-push (pass_of d c.args.grounds.now table c.as_slice.result.now c.as_slice-in-loop.result.now plan) sets c.loop.share
           c.in_ok-next.next phase
           (subst (IsRunSoFar d plan.workers plan.budget table c.loop.share) (sym c.as_slice.ensures.value) c.loop.invariant.run)
           c.in_ok-next.ensures.turns);

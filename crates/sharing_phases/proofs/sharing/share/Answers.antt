@@ -1,4 +1,4 @@
-use Rattle.std.proofs.Common.{◌≡◌, ◌<◌, ◌+◌, ◌*◌, ◌++◌, length, take, drop, slice_index, sym, ◌∙◌, ap, arith}
+use Rattle.std.proofs.Common.{◌≡◌, ◌<◌, ◌+◌, ◌*◌, ◌++◌, ℕ, List, length, take, drop, slice_index, sym, ◌∙◌, ap, arith}
 use Rattle.std.proofs.lemmas.List.{ext_get_or}
 use Rattle.std.proofs.lemmas.List.FromFn.{get_or-map-range_with_len, length-map-range_with_len}
 use Rattle.grid_base.specs.Numbers.{vertices}
@@ -40,3 +40,21 @@ returns-clause-whole g c =
           ∙ c.prices.ensures.list.long;
       share = record { of_table = run.of_table; allot = run.allot; shares = sym (listed ∙ c.write_shares.ensures.shares) };
     })
+
+pub prices-requires-clause-loads : goal.prices-requires-clause-loads
+prices-requires-clause-loads g c =
+    let d = c.args.design.now in
+    let loads = c.write_shares.new.loads in
+    let same : c.deref.result.now ≡ loads = c.deref.ensures.value
+    ∙ written c.in_ok-loads.loads.len loads c.in_ok-loads.loads.items
+    (omega (arith, c.in_ok-loads.ensures.len, c.write_shares.ensures.long)) in
+    record {
+      long = ap length same ∙ c.write_shares.ensures.long ∙ omega (arith, c.vertices.ensures, ap (λ s. vertices s) c.size.ensures);
+      within = λ r. omega (
+        arith,
+        ap (λ (l : List ℕ). slice_index l r) (same ∙ c.write_shares.ensures.shares),
+        c.in_ok-share.ensures.run.few r,
+        c.in_ok-share.ensures.count,
+        c.requires.settings.phases,
+      );
+    }
