@@ -1,14 +1,14 @@
 -- The elements at some positions of a list, and lists in which others stand there.
-use Rattle.std.proofs.Common.{◌≡◌, ◌≢◌, ℕ, zero, suc, ◌+◌, ◌-◌, ◌≤◌, ◌<◌, List, [], ◌∷◌, ◌++◌, length, take, drop, get_or}
-use Rattle.std.proofs.Common.{slice_get, slice_set, slice_range, Some, All, AllPairs, refl, sym, ◌∙◌, ap, subst, arith}
-use Rattle.std.proofs.lemmas.List.{get_or-set_same, get_or-set_other, length-set, length-take, get_or-drop, get_or-take}
-use Rattle.std.proofs.lemmas.List.{length-drop, set-get_or, append-nil, take_more}
+use Rattle.std.proofs.Common.{◌≡◌, ◌≢◌, ℕ, zero, suc, ◌+◌, ◌<◌, List, [], ◌∷◌, ◌++◌, length, take, get_or}
+use Rattle.std.proofs.Common.{slice_set, slice_range, Some, All, AllPairs, refl, sym, ◌∙◌, ap, arith}
+use Rattle.std.proofs.lemmas.List.{get_or-set_same, get_or-set_other, length-set, length-take, get_or-take}
+use Rattle.std.proofs.lemmas.List.{set-get_or, append-nil}
 use Rattle.std.proofs.lemmas.List.Elements.{All-nil, All-cons, All-tail}
 use Rattle.std.proofs.lemmas.Grind.{flat_map-append}
 use Rattle.std.proofs.lemmas.Option.{slice_get_within, get_or_from_slice_get, slice_get-get_or}
 use Rattle.grid_base.specs.Lists.{At}
 use Rattle.price_workers.proofs.TurnFacts.{stands}
-use Rattle.routing_passes.proofs.Positions.{AreWithin, at_positions-cons, at_positions-long, first_within, one_here, rest_within}
+use Rattle.routing_passes.proofs.Positions.{AreWithin, at_positions-cons, first_within, one_here, rest_within}
 use Rattle.sharing_runs.specs.RepairRuns.{at_positions}
 use Rattle.ripup_repair.specs.Exchanged.{with_elements}
 

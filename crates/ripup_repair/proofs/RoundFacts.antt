@@ -1,6 +1,6 @@
 -- A round of repair as a whole: what its workers begin with, and what they leave.
-use Rattle.std.proofs.Common.{◌≡◌, ◌==◌, Bool, true, false, cond, ℕ, ◌+◌, ◌-◌, ◌≤◌, ◌<◌, List, [], ◌∷◌, ◌++◌, length, replicate, take}
-use Rattle.std.proofs.Common.{drop, get_or, slice_range, Option, All, refl, sym, ◌∙◌, ap, subst, arith, ⊎_elim}
+use Rattle.std.proofs.Common.{◌≡◌, ℕ, ◌+◌, ◌-◌, ◌≤◌, ◌<◌, List, [], ◌++◌, length, replicate, take}
+use Rattle.std.proofs.Common.{drop, get_or, slice_range, Option, sym, ◌∙◌, ap, subst, arith, ⊎_elim}
 use Rattle.std.proofs.Math.Seq.{take-append_seam}
 use Rattle.std.proofs.lemmas.Bool.{cases_lt}
 use Rattle.std.proofs.lemmas.List.{get_or_past, length-replicate}
@@ -14,17 +14,14 @@ use Rattle.grid_graph.specs.declared.design.Design.{Design}
 use Rattle.grid_graph.specs.declared.grid.Grid.{Grid}
 use Rattle.grid_graph.specs.declared.ground.Ground.{Ground}
 use Rattle.grid_graph.specs.declared.net_spec.NetSpec.{NetSpec}
-use Rattle.grid_graph.specs.Grids.{edge_numbers, entries, size_of}
+use Rattle.grid_graph.specs.Grids.{entries}
 use Rattle.grid_graph.specs.Grounds.{AreGrounds}
 use Rattle.edge_prices.specs.Limits.{IsBudget}
 use Rattle.routing_stages.specs.Limits.{max_workers}
 use Rattle.load_table.specs.Holdings.{Holding}
-use Rattle.tree_set.specs.Loads.{load_on, tree_load}
+use Rattle.tree_set.specs.Loads.{load_on}
 use Rattle.tree_set.specs.Order.{IsRising}
-use Rattle.tree_set.specs.Routings.{ArePieces, IsRoute, IsRouting}
-use Rattle.grid_base.proofs.Lists.{AllZip-at}
-use Rattle.price_workers.proofs.TurnFacts.{route_pieces, stands}
-use Rattle.sharing_runs.proofs.Between.{load_on-none}
+use Rattle.tree_set.specs.Routings.{IsRoute, IsRouting}
 use Rattle.sharing_runs.specs.Parts.{IsInPart}
 use Rattle.sharing_runs.specs.RepairRuns.{IsRepairTurn, at_positions, nets_to_repair}
 use Rattle.routing_passes.specs.Histories.{parts_history}

@@ -1,6 +1,6 @@
 -- Sums over lists, and loads of nets between two positions.
 use Rattle.std.proofs.Common.{◌≡◌, ℕ, ◌+◌, ◌-◌, ◌≤◌, List, [], ◌∷◌, ◌++◌, length, take, drop, slice_get, slice_range, refl, sym}
-use Rattle.std.proofs.Common.{◌∙◌, ap, arith, zero, suc, ◌*◌, ◌==◌, Bool, true, false, cond, replicate}
+use Rattle.std.proofs.Common.{◌∙◌, ap, arith, zero, suc, ◌==◌, Bool, true, false, cond, replicate}
 use Rattle.std.specs.List.{sum_by, zip}
 use Rattle.std.proofs.Math.Seq.{take-append_seam, drop-append_seam, drop-drop}
 use Rattle.std.proofs.lemmas.List.{take_all, length-append}

@@ -9,7 +9,7 @@ use Rattle.grid_graph.specs.declared.net_spec.NetSpec.{NetSpec}
 use Rattle.grid_graph.specs.Grids.{entries}
 use Rattle.edge_prices.specs.Vectors.{IsLoadList}
 use Rattle.sharing_runs.specs.NetSteps.{IsStep}
-use Rattle.sharing_runs.specs.Parts.{part_start, stretch_start, IsInPart}
+use Rattle.sharing_runs.specs.Parts.{part_start, IsInPart}
 use Rattle.routing_passes.proofs.Parts.{not_earlier, one_part, part_start-le, stretch_start-from, stretch_start-le}
 use Rattle.routing_passes.proofs.Ranges.{until, until-below, until-from, until-all}
 use Rattle.routing_passes.proofs.Parts.{first_start}

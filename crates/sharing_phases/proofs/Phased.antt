@@ -1,7 +1,7 @@
 -- One phase after another.
 use Rattle.std.proofs.Common.{◌≡◌, ℕ, ◌+◌, ◌≤◌, ◌<◌, List, [], ◌∷◌, ◌++◌, ◌-◌, length, get_or, take, drop, slice_index, slice_range}
 use Rattle.std.proofs.Common.{replicate, Option, All, refl, sym, ◌∙◌, ap, subst, arith, ⊎_elim}
-use Rattle.std.specs.List.{flat_map, range_with_len, sum_by}
+use Rattle.std.specs.List.{range_with_len, sum_by}
 use Rattle.std.proofs.Math.Seq.{take-append_seam}
 use Rattle.std.proofs.lemmas.List.{take_all, take-append-le, length-append, length-replicate, drop-replicate, take-replicate}
 use Rattle.std.proofs.lemmas.List.Elements.{All-push, All-nil, All-head, All-tail}
@@ -25,13 +25,12 @@ use Rattle.sharing_runs.specs.Parts.{part_start, stretch_start, IsInPart}
 use Rattle.sharing_runs.specs.RepairRuns.{at_positions}
 use Rattle.sharing_runs.specs.SharingRuns.{IsSharingRun, IsTurn}
 use Rattle.tree_set.specs.Routings.{IsRoute, IsRouting}
-use Rattle.routing_stages.specs.Limits.{max_phases}
 use Rattle.routing_stages.specs.Phases.{phases_load}
 use Rattle.routing_passes.specs.Histories.{parts_history}
 use Rattle.routing_passes.specs.Passes.{AreSets, IsPass, Pass, ServesTurns, all_load, old_load, old_sets, pass_nets}
 use Rattle.routing_passes.specs.Passes.{positions_load, staying_load, turns_start}
 use Rattle.routing_passes.specs.PassTurns.{HadTurns, IsPassTurn, new_load}
-use Rattle.routing_passes.proofs.Parts.{all_parts, find_part, first_start, in_design, last_start, part_start-le}
+use Rattle.routing_passes.proofs.Parts.{all_parts, find_part, first_start, in_design, last_start}
 use Rattle.routing_passes.proofs.PartSteps.{routing_pieces}
 use Rattle.routing_passes.proofs.Positions.{at_positions-all}
 use Rattle.routing_passes.proofs.Ranges.{flat_map-more, flat_map-same, until, until-below, until-from, until-all}

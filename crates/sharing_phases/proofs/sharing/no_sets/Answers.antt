@@ -1,4 +1,4 @@
-use Rattle.std.proofs.Common.{◌≡◌, ◌+◌, ◌∷◌, ◌++◌, [], ◌∙◌, ap}
+use Rattle.std.proofs.Common.{◌∷◌, ◌++◌, [], ◌∙◌, ap}
 use Rattle.std.proofs.lemmas.List.{replicate_more}
 use Rattle.sharing_phases.specs.PhaseWords.{empty_sets}
 use Rattle.sharing_phases.proofs.sharing.no_sets.Goals as goal
