@@ -1,7 +1,7 @@
 //! A run on some words, over a desk that has no files.
 
 use gr_desk::{CallKind, Fail as FailedCall, MemDesk, Port};
-use price_workers::OpenGate;
+use routing_stages::OpenGate;
 use router_cli::run;
 use std::alloc::{AllocError, Global};
 use std::thread::Threads;

@@ -6,7 +6,7 @@
 //! written. `;` is a line end within a text.
 
 use gr_desk::{CallKind, Fail as FailedCall, MemDesk, Port};
-use price_workers::OpenGate;
+use routing_stages::OpenGate;
 use router_cli::run;
 use std::alloc::{AllocError, Global};
 use std::test::Fail;

@@ -9,7 +9,7 @@ ghost use Rattle.router_cli.specs.Runs.{IsRun};
 
 use command_words::words_of;
 use gr_desk::{Desk, RealDesk};
-use price_workers::{Gate, OpenGate};
+use routing_stages::{Gate, OpenGate};
 use router_cli::run;
 use std::alloc::{AllocError, Global};
 use std::env;

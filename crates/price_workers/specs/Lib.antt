@@ -5,11 +5,7 @@ pub use Rattle.sharing_runs.specs.NetSteps
 pub use Rattle.tree_set.specs.Loads
 pub use Rattle.sharing_runs.specs.Parts
 pub use Rattle.tree_set.specs.Routings
-pub mod Limits
 pub mod Readings
 pub mod TreeLoads
 pub mod Working
 pub mod Workers
-pub mod Phases
-pub mod Whole
-pub mod Settings

@@ -1,4 +1,4 @@
-//! Workers that route nets at prices of loads which they share, and what the stages of a run hand on.
+//! Workers that route nets at prices of loads which they share.
 //!
 //! A [`Worker`] has a share of a `LoadTable` and sets for nets. It reads all loads now and then, and between two readings it
 //! knows of its own changes alone:
@@ -10,6 +10,8 @@
 //! let (share, trees) = worker.finish();
 //! ```
 //!
+//! What the stages of a run hand on is that of `routing_stages`, and named here once more.
+//!
 //! It stands on `load_table` for the shared loads, on `edge_prices` for the prices that follow them, on `steiner_exact`,
 //! `steiner_span` and `shortest_paths` for the sets, on `sharing_runs` for what a step is, and on `tree_set`, `load_core`,
 //! `grid_graph` and `grid_base`.
@@ -19,26 +21,13 @@
 //! The load of a set is taken off a share at one place, [`take_load`], for a worker as for whoever gives a set up.
 #![tactic(auto)]
 
-mod chosen;
-mod gate;
 mod loads;
 mod net_route;
-mod phases;
 mod reading;
-mod routed;
-mod settings;
-mod shared;
 mod taking;
-mod trees;
 mod worker;
 
-pub use chosen::Chosen;
-pub use gate::{Gate, OpenGate};
 pub use net_route::{prices_without_loads, route_net};
-pub use phases::Phases;
-pub use routed::Routed;
-pub use settings::Settings;
-pub use shared::Shared;
+pub use routing_stages::{Chosen, Gate, OpenGate, Routed, Settings, Shared};
 pub use taking::take_load;
-pub use trees::Trees;
 pub use worker::Worker;

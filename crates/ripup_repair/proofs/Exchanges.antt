@@ -1,5 +1,5 @@
 -- Routings in which the nets at some positions have other sets.
-use Rattle.std.proofs.Common.{◌≡◌, ℕ, suc, ◌+◌, ◌-◌, ◌*◌, ◌≤◌, List, [], ◌∷◌, length, slice_set, refl, ◌∙◌, ap, arith}
+use Rattle.std.proofs.Common.{◌≡◌, ℕ, suc, ◌+◌, ◌*◌, ◌≤◌, List, [], ◌∷◌, length, slice_set, refl, ◌∙◌, ap, arith}
 use Rattle.std.proofs.lemmas.List.{length-set}
 use Rattle.grid_base.specs.declared.piece.Piece.{Piece}
 use Rattle.grid_base.specs.Lists.{At}
@@ -13,22 +13,11 @@ use Rattle.sharing_runs.specs.RepairRuns.{at_positions}
 use Rattle.sharing_runs.proofs.Between.{load_on-none}
 use Rattle.sharing_runs.proofs.Exchanges.{AllZip-set, load_on-set}
 use Rattle.price_workers.proofs.TurnFacts.{route_pieces, stands}
-use Rattle.sharing_phases.proofs.Sums.{load_on-behind_append, load_on-behind_push}
-use Rattle.sharing_phases.proofs.TreeLimits.{tree_load-within}
+use Rattle.routing_passes.proofs.Sums.{load_on-cons}
+use Rattle.routing_passes.proofs.TreeLimits.{tree_load-within}
 use Rattle.ripup_repair.specs.Exchanged.{with_elements}
-use Rattle.ripup_repair.proofs.Positions.{AreRising, AreWithin, at_positions-cons, at_positions-elsewhere, first_within}
-use Rattle.ripup_repair.proofs.Positions.{none_is_first, rest_rising, rest_within}
-
--- the load of a first net and of the others
-pub load_on-cons : (g : Grid) (n : NetSpec) (nets : List NetSpec) (t : List Piece) (trees : List (List Piece)) (r : ℕ)
-    → load_on g (n ∷ nets) (t ∷ trees) r ≡ tree_load g n.width t r + load_on g nets trees r
-load_on-cons g n nets t trees r =
-    omega (
-      arith,
-      load_on-behind_append g (n ∷ nets) 0 1 (t ∷ []) trees r (omega arith) refl,
-      load_on-behind_push g (n ∷ nets) 0 0 [] n t r refl (omega arith) refl,
-      load_on-none g (n ∷ nets) r,
-    )
+use Rattle.routing_passes.proofs.Positions.{AreWithin, at_positions-cons, first_within, rest_within}
+use Rattle.ripup_repair.proofs.Positions.{AreRising, at_positions-elsewhere, none_is_first, rest_rising}
 
 -- the load with the new sets is that with the old ones, where the new ones' load stands in place of that of the old ones
 pub load_on-with : (g : Grid) (nets : List NetSpec) (trees : List (List Piece)) (ks : List ℕ) (sets : List (List Piece)) (r : ℕ)

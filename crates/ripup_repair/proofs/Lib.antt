@@ -1,9 +1,5 @@
 pub mod Positions
 pub mod Exchanges
 pub mod RepairNets
-pub mod TurnSteps
-pub mod WorkerSteps
-pub mod PartSteps
-pub mod RoundSplits
 pub mod RoundFacts
 pub mod RoundRuns

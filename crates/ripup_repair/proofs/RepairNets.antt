@@ -17,7 +17,8 @@ use Rattle.tree_set.specs.Loads.{load, load_on}
 use Rattle.tree_set.specs.Measures.{wirelength}
 use Rattle.tree_set.specs.Routings.{ArePieces}
 use Rattle.sharing_runs.specs.RepairRuns.{holds_overfull, is_overfull, is_overfull_edge, nets_to_repair}
-use Rattle.ripup_repair.proofs.Positions.{AreRising, AreWithin}
+use Rattle.routing_passes.proofs.Positions.{AreWithin}
+use Rattle.ripup_repair.proofs.Positions.{AreRising}
 
 -- the load of a routing on an edge
 pub load_on-edge : (g : Grid) (nets : List NetSpec) (trees : List (List Piece)) (e : ℕ) → e < edge_numbers g

@@ -17,12 +17,12 @@ use Rattle.tree_set.specs.Loads.{load_list, load_on}
 use Rattle.tree_set.specs.Routings.{IsRouting}
 use Rattle.sharing_runs.proofs.Between.{load_list-at, load_list-long}
 use Rattle.sharing_runs.specs.RepairRuns.{IsRepairResult, IsRepairRound, IsRepairRun, routing_overflow}
-use Rattle.price_workers.specs.declared.chosen.Chosen.{Chosen}
-use Rattle.price_workers.specs.declared.routed.Routed.{Routed}
-use Rattle.price_workers.specs.declared.settings.Settings.{Settings}
-use Rattle.price_workers.specs.Whole.{IsWholeShare}
+use Rattle.routing_stages.specs.declared.chosen.Chosen.{Chosen}
+use Rattle.routing_stages.specs.declared.routed.Routed.{Routed}
+use Rattle.routing_stages.specs.declared.settings.Settings.{Settings}
+use Rattle.routing_stages.specs.Whole.{IsWholeShare}
 use Rattle.price_workers.proofs.TurnFacts.{stands}
-use Rattle.sharing_phases.proofs.WorkerSteps.{zeros_are_loads}
+use Rattle.routing_passes.proofs.WorkerSteps.{zeros_are_loads}
 use Rattle.ripup_repair.specs.declared.repaired.Repaired.{Repaired}
 use Rattle.ripup_repair.specs.RepairHistories.{IsRepaired, repair_history, round_history}
 use Rattle.ripup_repair.specs.RoundsDone.{AreRoundsDone, HasLoadOf, IsRoundDone}

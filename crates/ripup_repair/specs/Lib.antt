@@ -2,6 +2,5 @@ pub use Rattle.sharing_runs.specs.Parts
 pub use Rattle.sharing_runs.specs.RepairRuns
 pub mod Exchanged
 pub mod Rounds
-pub mod RepairTurns
 pub mod RepairHistories
 pub mod RoundsDone

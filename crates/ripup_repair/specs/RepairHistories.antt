@@ -6,11 +6,11 @@ use Rattle.grid_base.specs.Lists.{At}
 use Rattle.grid_graph.specs.declared.design.Design.{Design}
 use Rattle.load_core.specs.declared.loaded.Loaded.{Loaded}
 use Rattle.tree_set.specs.Loads.{load_list}
-use Rattle.price_workers.specs.declared.chosen.Chosen.{Chosen}
-use Rattle.price_workers.specs.declared.routed.Routed.{Routed}
-use Rattle.price_workers.specs.declared.settings.Settings.{Settings}
-use Rattle.price_workers.specs.Whole.{IsWholeShare}
-use Rattle.sharing_phases.specs.Histories.{parts_history}
+use Rattle.routing_stages.specs.declared.chosen.Chosen.{Chosen}
+use Rattle.routing_stages.specs.declared.routed.Routed.{Routed}
+use Rattle.routing_stages.specs.declared.settings.Settings.{Settings}
+use Rattle.routing_stages.specs.Whole.{IsWholeShare}
+use Rattle.routing_passes.specs.Histories.{parts_history}
 use Rattle.sharing_runs.specs.RepairRuns.{nets_to_repair, IsRepairRun, IsRepairResult}
 
 -- the readings of a round of so many workers that begins with these sets

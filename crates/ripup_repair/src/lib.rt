@@ -4,9 +4,9 @@
 //! let routed = repair(&rt, alloc, &design, &grounds, chosen, &settings, &OpenGate)?;
 //! ```
 //!
-//! It stands on `price_workers` for a worker and what the stages of a run hand on, on `sharing_phases` for parts and
-//! readings, on `load_table` and `load_core` for the shared loads, on `sharing_runs` for what a repair run is, and on
-//! `edge_prices`, `tree_set`, `grid_graph` and `grid_base`.
+//! A round is a pass over the nets whose sets hold overfull edges. It stands on `routing_passes` for passes, on `routing_stages`
+//! for what the stages of a run hand on, on `load_table` and `load_core` for the shared loads, on `sharing_runs` for what a
+//! repair run is, and on `price_workers`, `edge_prices`, `tree_set`, `grid_graph` and `grid_base`.
 //!
 //! Promised: the answer is the result of a repair run of the workers in use that starts with the chosen sets, which is its
 //! first routing of least overflow. The loads are those of the result, the share has those of the last routing, and its
@@ -14,13 +14,10 @@
 #![tactic(auto)]
 
 mod exchange;
-mod old_sets;
 mod overfull;
-mod part;
 mod repaired;
 mod repairing;
 mod replaced;
 mod rounds;
-mod workers;
 
 pub use repairing::repair;

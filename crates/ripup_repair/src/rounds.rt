@@ -1,12 +1,11 @@
 //! Rounds, one after another.
 
-ghost use Rattle.std.specs.Prelude.{◌≡◌, ◌≤◌, ◌<◌, ℕ, length, slice_index, All, AllPairs, IfOk};
+ghost use Rattle.std.specs.Prelude.{◌≡◌, ◌≤◌, ◌<◌, length, All, AllPairs, IfOk};
 ghost use Rattle.grid_graph.specs.Grids.{entries};
 ghost use Rattle.grid_graph.specs.Grounds.{AreGrounds};
 ghost use Rattle.edge_prices.specs.Limits.{IsBudget};
-ghost use Rattle.load_core.specs.Parties.{share_at};
 ghost use Rattle.tree_set.specs.Routings.{IsRouting};
-ghost use Rattle.price_workers.specs.Limits.{max_workers};
+ghost use Rattle.routing_stages.specs.Limits.{max_workers};
 ghost use Rattle.sharing_runs.specs.RepairRuns.{routing_overflow};
 ghost use Rattle.ripup_repair.specs.RoundsDone.{AreRoundsDone, HasLoadOf, IsRoundDone};
 ghost use Rattle.ripup_repair.specs.Exchanged.{with_elements};
@@ -15,15 +14,18 @@ use crate::exchange::exchange;
 use crate::overfull::nets_to_repair;
 use crate::repaired::Repaired;
 use crate::replaced::Replaced;
-use crate::workers::repair_parts;
 use grid_base::NoMemory;
 use grid_graph::{Design, Ground};
 use load_core::WHOLE_ALLOTMENT;
 use load_table::{LoadTable, Share};
-use price_workers::Gate;
+use routing_passes::{Plan, route_parts};
+use routing_stages::{Gate, Trees, write_shares};
 use std::alloc::Global;
 use std::thread::Threads;
 use tree_set::{Tree, measure_of};
+
+/// The scale of the prices in repair.
+const REPAIR_SCALE: u32 = 16;
 
 /// At most so many rounds, while there is overflow. Where one of them has less than the least so far, the first of least
 /// overflow is what `trees` and `loads` are left with; else both are left as they were.
@@ -120,22 +122,32 @@ fn repair_round<R: Threads + Sync, G: Gate>(
     let positions = nets_to_repair(alloc, design, &share, trees)?;
     // It is the one share of the table; by this call the proof knows that it has an entry for each word.
     prove_eq!(share.allotment(), WHOLE_ALLOTMENT);
-    let (share, mut sets) = repair_parts(
-        rt, alloc, design, grounds, table, trees, &positions, workers, budget, gate, share, 0,
+    let plan = Plan {
+        positions,
+        scale: REPAIR_SCALE,
+        workers,
+        budget,
+    };
+    let others: Vec<Trees> = Vec::new(alloc);
+    let (share, mut sets) = route_parts(
+        rt,
+        design,
+        grounds,
+        table,
+        others.as_slice(),
+        trees,
+        &plan,
+        gate,
+        share,
+        0,
         workers,
     )?;
-    exchange(trees, &positions, &mut sets);
-    Ok((share, Replaced { positions, sets }))
-}
-
-/// Writes down what a share has of each word.
-fn write_shares(share: &Share, words: u32, loads: &mut [u64])
-    requires words { share.now.table.words ≡ words }
-    requires long { length loads.old ≡ words }
-    ensures shares { (r : ℕ) → r < words → slice_index loads.new r ≡ share_at r share.now.party }
-    ensures long { length loads.new ≡ words }
-{
-    for word in 0..words {
-        loads[word as usize] = share.share_of(word);
-    }
+    exchange(trees, &plan.positions, &mut sets);
+    Ok((
+        share,
+        Replaced {
+            positions: plan.positions,
+            sets,
+        },
+    ))
 }

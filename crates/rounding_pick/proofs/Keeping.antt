@@ -15,7 +15,7 @@ use Rattle.grid_graph.specs.declared.design.Design.{Design}
 use Rattle.grid_graph.specs.declared.net_spec.NetSpec.{NetSpec}
 use Rattle.tree_set.specs.Loads.{load_on}
 use Rattle.tree_set.specs.Routings.{IsRoute, IsRouting}
-use Rattle.price_workers.specs.Phases.{phases_load}
+use Rattle.routing_stages.specs.Phases.{phases_load}
 use Rattle.price_workers.proofs.TurnFacts.{stands}
 use Rattle.rounding_pick.specs.ChosenRoutings.{set_in_phase, chosen_routing}
 use Rattle.rounding_pick.specs.Picks.{pick}

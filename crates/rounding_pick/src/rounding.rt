@@ -1,20 +1,18 @@
 //! One set for each net out of those of all phases.
 
 ghost use Rattle.std.specs.Prelude.{◌≡◌, ◌+◌, ◌<◌, ◌∷◌, ℕ, length, All};
-ghost use Rattle.load_table.specs.Holdings.{IsShare};
 ghost use Rattle.tree_set.specs.Loads.{load_on};
 ghost use Rattle.tree_set.specs.Routings.{IsRouting};
-ghost use Rattle.price_workers.specs.Limits.{max_phases};
-ghost use Rattle.price_workers.specs.Phases.{phases_load};
-ghost use Rattle.price_workers.specs.Whole.{IsWholeShared, IsWholeChosen};
+ghost use Rattle.routing_stages.specs.Limits.{max_phases};
+ghost use Rattle.routing_stages.specs.Phases.{phases_load};
+ghost use Rattle.routing_stages.specs.Whole.{IsWholeShared, IsWholeChosen};
 ghost use Rattle.rounding_pick.specs.ChosenRoutings.{chosen_routing};
 
 use crate::picks::pick;
 use crate::taking::take_phases;
 use grid_graph::Design;
 use load_core::WHOLE_ALLOTMENT;
-use load_table::Share;
-use price_workers::{Chosen, Shared, Trees};
+use routing_stages::{Chosen, Shared, Trees, write_shares};
 
 /// Each net keeps its set of one phase, which is picked for its position under the seed. The sets of all other phases
 /// are given up, and their load is taken off the share. This is randomised rounding after Raghavan and Thompson,
@@ -67,17 +65,5 @@ fn keep_picked(design: &Design, seed: u64, first: &mut Trees, others: &mut [Tree
         if phase > 0 {
             first.exchange(&mut others[phase - 1], position);
         }
-    }
-}
-
-/// Writes down what a share has of each word.
-fn write_shares(share: &Share, words: u32, loads: &mut [u64])
-    requires share { IsShare share.now }
-    requires words { share.now.table.words ≡ words }
-    requires long { length loads.old ≡ words }
-    ensures shares { loads.new ≡ share.now.party.shares }
-{
-    for word in 0..words {
-        loads[word as usize] = share.share_of(word);
     }
 }

@@ -6,12 +6,13 @@ ghost use Rattle.load_core.specs.Parties.{share_at};
 ghost use Rattle.load_table.specs.Holdings.{IsShare};
 ghost use Rattle.tree_set.specs.Loads.{load_on};
 ghost use Rattle.tree_set.specs.Routings.{IsRouting};
-ghost use Rattle.price_workers.specs.Phases.{phases_load};
+ghost use Rattle.routing_stages.specs.Phases.{phases_load};
 ghost use Rattle.price_workers.specs.TreeLoads.{DiffersInShares};
 
 use grid_graph::Design;
 use load_table::{LoadTable, Share};
-use price_workers::{Trees, take_load};
+use price_workers::take_load;
+use routing_stages::Trees;
 use tree_set::Tree;
 
 /// Takes the load of the sets of some phases off a share.

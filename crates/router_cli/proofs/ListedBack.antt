@@ -7,7 +7,7 @@ use Rattle.std.proofs.lemmas.List.{ext_get_or, get_or-append-add, get_or-take, l
 use Rattle.std.proofs.lemmas.List.Elements.{All-map, filter-append}
 use Rattle.std.proofs.lemmas.List.FromFn.{length-map-range_with_len, get_or-map-range_with_len}
 use Rattle.std.proofs.lemmas.List.Sums.{length-filter}
-use Rattle.sharing_phases.proofs.Ranges.{range-append}
+use Rattle.routing_passes.proofs.Ranges.{range-append}
 use Rattle.edge_prices.specs.Limits.{max_price}
 use Rattle.edge_prices.specs.Weights.{is_open, ArePrices}
 use Rattle.grid_graph.specs.declared.grid.Grid.{Grid}

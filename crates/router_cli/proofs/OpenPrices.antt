@@ -5,7 +5,7 @@ use Rattle.std.specs.List.{range_with_len}
 use Rattle.std.proofs.lemmas.List.{append-nil, map-append}
 use Rattle.std.proofs.lemmas.List.Elements.{filter-append}
 use Rattle.std.proofs.lemmas.Bool.{lt-ltb}
-use Rattle.sharing_phases.proofs.Ranges.{range-append}
+use Rattle.routing_passes.proofs.Ranges.{range-append}
 use Rattle.edge_prices.specs.Weights.{is_open}
 use Rattle.grid_graph.specs.declared.grid.Grid.{Grid}
 use Rattle.grid_graph.specs.Grids.{capacity}

@@ -5,7 +5,7 @@ use Rattle.std.proofs.lemmas.Option.{slice_get-get_or}
 use Rattle.grid_base.specs.declared.piece.Piece.{Piece}
 use Rattle.grid_base.specs.Lists.{At}
 use Rattle.grid_graph.specs.declared.design.Design.{Design}
-use Rattle.price_workers.specs.declared.settings.Settings.{Settings}
+use Rattle.routing_stages.specs.declared.settings.Settings.{Settings}
 use Rattle.sharing_runs.specs.RepairRuns.{routing_overflow}
 use Rattle.router_cli.specs.RouterRuns.{IsRouterRun}
 

@@ -13,12 +13,12 @@ use Rattle.grid_base.proofs.Chosen.{Contains-filter, left_by_filter}
 use Rattle.grid_base.proofs.Lists.{At-from_member}
 use Rattle.grid_graph.specs.declared.design.Design.{Design}
 use Rattle.grid_graph.proofs.Grounds.{at_place}
-use Rattle.price_workers.specs.declared.settings.Settings.{Settings}
+use Rattle.routing_stages.specs.declared.settings.Settings.{Settings}
 use Rattle.rounding_pick.specs.ChosenRoutings.{set_in_phase, chosen_routing}
 use Rattle.rounding_pick.specs.Picks.{pick}
-use Rattle.ripup_repair.proofs.Positions.{AreWithin, at_positions-at, at_positions-long}
+use Rattle.routing_passes.proofs.Positions.{AreWithin, at_positions-at, at_positions-long}
 use Rattle.ripup_repair.proofs.RepairNets.{repair-within}
-use Rattle.sharing_phases.proofs.Phased.{find_part, last_start}
+use Rattle.routing_passes.proofs.Parts.{find_part, last_start}
 use Rattle.sharing_runs.specs.Parts.{part_start}
 use Rattle.sharing_runs.specs.RepairRuns.{at_positions, holds_overfull, nets_to_repair, IsRepairRound, IsRepairRun}
 use Rattle.sharing_runs.specs.SharingRuns.{IsSharingRun}

@@ -9,7 +9,7 @@ use Rattle.command_words.specs.CommandLine.{workers_option, phases_option, round
 use Rattle.std.specs.Option.{ForSome}
 use Rattle.gr_make.specs.declared.shape.Shape.{Shape}
 use Rattle.grid_graph.specs.Limits.{max_budget}
-use Rattle.price_workers.specs.Settings.{AreSettings}
+use Rattle.routing_stages.specs.Settings.{AreSettings}
 use Rattle.router_cli.specs.Tasks.{RouteTask, settings_of, task_of, task_of_words}
 use Rattle.router_cli.specs.MakeRun.{MakeTask, make_task_of, make_task_of_words}
 use Rattle.router_cli.specs.OptionValues.{shape_in, value_in}

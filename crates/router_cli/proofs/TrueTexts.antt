@@ -22,9 +22,9 @@ use Rattle.grid_graph.specs.Grids.{Allows, edge_numbers}
 use Rattle.grid_graph.specs.Grounds.{AreGrounds}
 use Rattle.grid_graph.proofs.Grounds.{Allows-choked}
 use Rattle.ispd_reader.specs.Designs.{IsDesignOfText}
-use Rattle.price_workers.specs.declared.settings.Settings.{Settings}
-use Rattle.price_workers.specs.Phases.{phases_loads}
-use Rattle.price_workers.specs.Settings.{AreSettings}
+use Rattle.routing_stages.specs.declared.settings.Settings.{Settings}
+use Rattle.routing_stages.specs.Phases.{phases_loads}
+use Rattle.routing_stages.specs.Settings.{AreSettings}
 use Rattle.route_text.specs.RouteText.{routes_text}
 use Rattle.route_text.specs.Written.{written_blocks}
 use Rattle.route_text.proofs.ReadBackBlocks.{text_reads_back}

@@ -10,7 +10,7 @@ use Rattle.grid_base.specs.declared.piece.Piece.{Piece}
 use Rattle.gr_desk.specs.Told.{Told}
 use Rattle.grid_graph.specs.declared.design.Design.{Design}
 use Rattle.ispd_reader.specs.Designs.{IsDesignOfText}
-use Rattle.price_workers.specs.declared.settings.Settings.{Settings}
+use Rattle.routing_stages.specs.declared.settings.Settings.{Settings}
 use Rattle.cert_text.specs.declared.cert.Cert.{Cert}
 use Rattle.cert_text.specs.CertText.{cert_text}
 use Rattle.dual_bound.specs.Bounds.{BoundsDesign, IsResource}

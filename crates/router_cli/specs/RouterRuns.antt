@@ -6,9 +6,9 @@ use Rattle.grid_base.specs.Numbers.{vertices}
 use Rattle.grid_graph.specs.declared.design.Design.{Design}
 use Rattle.grid_graph.specs.Grids.{size_of}
 use Rattle.edge_prices.specs.Vectors.{price_vector}
-use Rattle.price_workers.specs.declared.settings.Settings.{Settings}
-use Rattle.price_workers.specs.Phases.{phases_loads}
-use Rattle.price_workers.specs.Settings.{workers_in_use}
+use Rattle.routing_stages.specs.declared.settings.Settings.{Settings}
+use Rattle.routing_stages.specs.Phases.{phases_loads}
+use Rattle.routing_stages.specs.Settings.{workers_in_use}
 use Rattle.rounding_pick.specs.ChosenRoutings.{chosen_routing}
 use Rattle.sharing_runs.specs.RepairRuns.{IsRepairRun, IsRepairResult, routing_overflow}
 use Rattle.sharing_runs.specs.SharingRuns.{IsSharingRun}

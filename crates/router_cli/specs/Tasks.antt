@@ -2,7 +2,7 @@
 use Rattle.std.specs.Prelude.{ℕ, List, [], unwrap_or, slice_index_or}
 use Rattle.command_words.specs.CommandLine.{names_in, route_form, workers_option, phases_option, rounds_option, seed_option, budget_option}
 use Rattle.command_words.specs.declared.route_request.RouteRequest.{RouteRequest}
-use Rattle.price_workers.specs.declared.settings.Settings.{Settings}
+use Rattle.routing_stages.specs.declared.settings.Settings.{Settings}
 use Rattle.router_cli.specs.OptionValues.{value_in}
 
 -- the names of the input and of the two files to be made, and the settings

@@ -11,7 +11,7 @@ use Rattle.gr_make.specs.MadeText.{made_text}
 use Rattle.grid_graph.specs.declared.ground.Ground.{Ground}
 use Rattle.grid_graph.specs.Grounds.{AreGrounds}
 use Rattle.ispd_reader.specs.Designs.{IsDesignOfText}
-use Rattle.price_workers.specs.declared.settings.Settings.{Settings}
+use Rattle.routing_stages.specs.declared.settings.Settings.{Settings}
 use Rattle.route_text.specs.RouteText.{routes_text}
 use Rattle.judge_cli.specs.CommandRun.{RunOutcome, IsCommandRun}
 use Rattle.router_cli.specs.declared.routed_design.RoutedDesign.{RoutedDesign}

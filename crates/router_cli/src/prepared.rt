@@ -3,7 +3,7 @@
 ghost use Rattle.std.specs.Prelude.{◌≡◌, ℕ, List, Some, IfOk};
 ghost use Rattle.grid_graph.specs.Grounds.{AreGrounds};
 ghost use Rattle.ispd_reader.specs.Designs.{IsDesignOfText};
-ghost use Rattle.price_workers.specs.Settings.{AreSettings};
+ghost use Rattle.routing_stages.specs.Settings.{AreSettings};
 ghost use Rattle.router_cli.specs.Headline.{IsRoutedDesign};
 ghost use Rattle.judge_cli.specs.Sources.{design_source};
 ghost use Rattle.judge_cli.specs.Steps.{ReadsSources};
@@ -14,7 +14,7 @@ use gr_desk::Desk;
 use grid_base::NoMemory;
 use grid_graph::{Design, Ground};
 use judge_cli::{GroundedDesign, Refusal, read_grounded};
-use price_workers::{Gate, Settings};
+use routing_stages::{Gate, Settings};
 use ripup_repair::repair;
 use rounding_pick::round;
 use sharing_phases::share;

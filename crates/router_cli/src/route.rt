@@ -4,7 +4,7 @@ ghost use Rattle.std.specs.Prelude.{◌≡◌, [], ◌∷◌};
 ghost use Rattle.cert_text.specs.CertText.{cert_text};
 ghost use Rattle.gr_desk.specs.declared.port.Port.TheVariants.{CertOut};
 ghost use Rattle.judge_cli.specs.Saying.{Leaves, SaysDone};
-ghost use Rattle.price_workers.specs.Settings.{AreSettings};
+ghost use Rattle.routing_stages.specs.Settings.{AreSettings};
 ghost use Rattle.router_cli.specs.Headline.{IsRoutedDesign, routed_outcome};
 ghost use Rattle.router_cli.specs.RouteRun.{IsRouteRun, route_files};
 ghost use Rattle.router_cli.specs.Tasks.{settings_of, task_of};
@@ -16,7 +16,7 @@ use crate::routed_design::RoutedDesign;
 use command_words::RouteRequest;
 use gr_desk::{Desk, Failed};
 use judge_cli::{DONE, UNWRITTEN, make_cert, refuse, say_unwritten};
-use price_workers::{Gate, Settings};
+use routing_stages::{Gate, Settings};
 use std::alloc::Global;
 use std::thread::Threads;
 

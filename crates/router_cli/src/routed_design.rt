@@ -2,7 +2,7 @@
 
 use cert_text::Cert;
 use grid_graph::Design;
-use price_workers::Trees;
+use routing_stages::Trees;
 
 /// A design, one set per net in file order, the prices of the loads of all phases, the overflow of the picked sets, how many
 /// rounds of repair there were, and what is said of the sets.

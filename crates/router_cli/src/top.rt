@@ -8,7 +8,7 @@ use crate::trial::trial;
 use command_words::{Command, WordsError, command_of};
 use gr_desk::Desk;
 use judge_cli::{Refusal, judge, measure, refuse};
-use price_workers::Gate;
+use routing_stages::Gate;
 use std::alloc::Global;
 use std::thread::Threads;
 

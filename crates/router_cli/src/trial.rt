@@ -5,7 +5,7 @@ ghost use Rattle.command_words.specs.CommandLine.{HasTrialRanges};
 ghost use Rattle.gr_desk.specs.declared.port.Port.TheVariants.{Report};
 ghost use Rattle.gr_desk.specs.Pens.{Ends, Puts, pen_told, HasSameDesk};
 ghost use Rattle.gr_make.specs.Shapes.{IsShape};
-ghost use Rattle.price_workers.specs.Settings.{AreSettings};
+ghost use Rattle.routing_stages.specs.Settings.{AreSettings};
 ghost use Rattle.judge_cli.specs.declared.refusal.Refusal.{Refusal};
 ghost use Rattle.judge_cli.specs.Saying.{SaysDone};
 ghost use Rattle.router_cli.specs.TrialRun.{IsTrialRun, IsTrialOutcome, trial_settings, trial_task_of, trial_text, tried_outcome};
@@ -18,7 +18,7 @@ use command_words::TrialRequest;
 use gr_desk::{Desk, Failed, Pen, Port};
 use gr_make::Shape;
 use judge_cli::{DONE, GroundedDesign, Refusal, UNWRITTEN, refuse};
-use price_workers::{Gate, Settings};
+use routing_stages::{Gate, Settings};
 use std::alloc::Global;
 use std::thread::Threads;
 

@@ -1,6 +1,6 @@
 //! A gate at which two workers meet.
 
-use price_workers::Gate;
+use routing_stages::Gate;
 use std::hint::spin_loop;
 use std::sync::atomic::{AtomicU64, Ordering};
 

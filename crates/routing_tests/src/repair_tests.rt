@@ -1,12 +1,12 @@
 //! What repair makes of the chosen sets of the worked designs.
 
-ghost use Rattle.price_workers.specs.Settings.{AreSettings};
+ghost use Rattle.routing_stages.specs.Settings.{AreSettings};
 
 use crate::fields::routing_text;
 use crate::meeting::Meeting;
 use crate::settings::settings_of;
 use grid_graph::Design;
-use price_workers::{Gate, OpenGate, Routed, Settings};
+use routing_stages::{Gate, OpenGate, Routed, Settings};
 use ripup_repair::repair;
 use rounding_pick::round;
 use sharing_phases::share;

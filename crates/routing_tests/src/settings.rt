@@ -1,9 +1,9 @@
 //! Settings of runs as fields of rows.
 
 ghost use Rattle.std.specs.Prelude.{IfOk};
-ghost use Rattle.price_workers.specs.Settings.{AreSettings};
+ghost use Rattle.routing_stages.specs.Settings.{AreSettings};
 
-use price_workers::Settings;
+use routing_stages::Settings;
 use std::test::Fail;
 
 /// The settings that a field stands for: how many workers, phases and rounds, and the seed. There is no budget.

@@ -1,13 +1,13 @@
 //! Loads and prices after all phases of the worked designs.
 
-ghost use Rattle.price_workers.specs.Settings.{AreSettings};
+ghost use Rattle.routing_stages.specs.Settings.{AreSettings};
 
 use crate::fields::{numbers_text, prices_text, sets_text};
 use crate::meeting::Meeting;
 use crate::settings::settings_of;
 use grid_base::{Edge, Piece};
 use grid_graph::{Design, Grid};
-use price_workers::{Gate, OpenGate, Settings, Shared};
+use routing_stages::{Gate, OpenGate, Settings, Shared};
 use sharing_phases::share;
 use std::alloc::{AllocError, Global};
 use std::test::Fail;

@@ -1,11 +1,1 @@
-pub mod Ranges
-pub mod Slices
-pub mod Parts
-pub mod Sums
-pub mod TurnSteps
-pub mod Readings
-pub mod TreeLimits
-pub mod WorkerSteps
-pub mod Splits
-pub mod PhaseSplits
 pub mod Phased

@@ -4,9 +4,9 @@
 //! let shared = share(&rt, alloc, &design, &grounds, &settings, &OpenGate)?;
 //! ```
 //!
-//! It stands on `price_workers` for a worker and what the stages of a run hand on, on `load_table` and `load_core` for the
-//! shared loads, on `sharing_runs` for what a sharing run is, and on `edge_prices`, `tree_set`, `grid_graph` and
-//! `grid_base`.
+//! A phase is a pass over all nets, whose old sets are empty. It stands on `routing_passes` for passes, on `routing_stages` for
+//! what the stages of a run hand on, on `load_table` and `load_core` for the shared loads, on `sharing_runs` for what a sharing
+//! run is, and on `price_workers`, `edge_prices`, `tree_set`, `grid_graph` and `grid_base`.
 //!
 //! Promised: the sets of all phases are a sharing run of the workers in use, whose readings are those that the share's history
 //! has, in order of phase, part and stretch; so each set is a step from loads that its worker really read, with that worker's
@@ -14,12 +14,6 @@
 //! the workers of a phase run at once no clause says.
 #![tactic(auto)]
 
-mod earlier;
-mod part;
 mod sharing;
-mod workers;
 
-pub use earlier::add_tree;
-pub use part::{NETS_PER_READING, part_start, read_if};
 pub use sharing::share;
-pub use workers::LEAST_ALLOTMENT;

@@ -1,28 +1,30 @@
 //! All phases, one after another.
 
 ghost use Rattle.std.specs.Prelude.{◌≡◌, ◌≤◌, ◌<◌, length, IfOk};
+ghost use Rattle.std.specs.List.{range_with_len};
 ghost use Rattle.grid_base.specs.Numbers.{vertices};
-ghost use Rattle.grid_graph.specs.Grids.{entries};
-ghost use Rattle.grid_graph.specs.Grids.{size_of};
+ghost use Rattle.grid_graph.specs.Grids.{entries, size_of};
+ghost use Rattle.grid_graph.specs.Limits.{max_nets};
 ghost use Rattle.grid_graph.specs.Grounds.{AreGrounds};
 ghost use Rattle.edge_prices.specs.Limits.{IsBudget};
 ghost use Rattle.edge_prices.specs.Vectors.{price_vector};
 ghost use Rattle.load_core.specs.Parties.{first_party};
 ghost use Rattle.load_table.specs.Holdings.{held};
-ghost use Rattle.price_workers.specs.Limits.{max_workers, max_phases};
-ghost use Rattle.price_workers.specs.Settings.{AreSettings, workers_in_use};
-ghost use Rattle.price_workers.specs.Whole.{IsWholeShared};
+ghost use Rattle.routing_stages.specs.Limits.{max_workers, max_phases};
+ghost use Rattle.routing_stages.specs.Settings.{AreSettings, workers_in_use};
+ghost use Rattle.routing_stages.specs.Whole.{IsWholeShared};
 ghost use Rattle.sharing_phases.specs.Histories.{IsRecordedRun};
-ghost use Rattle.sharing_phases.specs.PhaseWords.{IsRunSoFar};
+ghost use Rattle.sharing_phases.specs.PhaseWords.{empty_sets, IsPhasePlan, IsRunSoFar};
 
-use crate::workers::route_parts;
 use edge_prices::prices;
 use grid_base::NoMemory;
 use grid_graph::{Design, Ground};
 use load_table::{LoadTable, Share};
-use price_workers::{Gate, Phases, Settings, Shared, Trees};
+use routing_passes::{Plan, route_parts};
+use routing_stages::{Gate, Phases, Settings, Shared, Trees, write_shares};
 use std::alloc::Global;
 use std::thread::Threads;
+use tree_set::Tree;
 
 /// Every net gets a set in each phase, at prices of the loads that its worker read in a table which all share, with that
 /// worker's own changes since. This is min-max resource sharing after Müller, Radke and Vygen, "Faster min-max resource sharing
@@ -49,7 +51,12 @@ pub fn share<R: Threads + Sync, G: Gate>(
 {
     let words = 2 * design.grid.size().vertices() + 1;
     let (table, first) = LoadTable::open(alloc, words)?;
-    let workers = settings.workers_in_use(design.grid.size());
+    let plan = Plan {
+        positions: all_positions(alloc, design.nets.list().len())?,
+        scale: 1,
+        workers: settings.workers_in_use(design.grid.size()),
+        budget: settings.budget,
+    };
     let (share, phases) = route_phases(
         rt,
         alloc,
@@ -57,12 +64,12 @@ pub fn share<R: Threads + Sync, G: Gate>(
         grounds,
         &table,
         first,
-        workers,
+        &plan,
         settings.phases,
-        settings.budget,
         gate,
     )?;
-    let loads = shares_of(alloc, &share, words)?;
+    let mut loads = vec![in alloc; 0u64; words as usize]?;
+    write_shares(&share, words, &mut loads);
     let mut list = vec![in alloc; 0u32; words as usize]?;
     prices(&design.grid, &loads, 1, settings.budget, &mut list);
     Ok(Shared {
@@ -74,7 +81,7 @@ pub fn share<R: Threads + Sync, G: Gate>(
     })
 }
 
-/// So many phases, one after another.
+/// So many phases, one after another. Each is a pass over all nets, whose old sets are empty.
 fn route_phases<R: Threads + Sync, G: Gate>(
     rt: &R,
     alloc: Global,
@@ -82,36 +89,36 @@ fn route_phases<R: Threads + Sync, G: Gate>(
     grounds: &[Ground],
     table: &LoadTable,
     first: Share,
-    workers: u32,
+    plan: &Plan,
     count: u32,
-    budget: Option<u64>,
     gate: &G,
 ) -> Result<(Share, Vec<Trees>), NoMemory>
     requires grounds { AreGrounds design.now.grid design.now.nets grounds.now }
     requires words { table.now.words ≡ entries design.now.grid }
     requires first { first ≡ held table.now (first_party table.now.words) }
-    requires workers { (1 ≤ workers) × (workers ≤ max_workers) }
+    requires plan { IsPhasePlan (length design.now.nets) plan.now }
+    requires workers { (1 ≤ plan.now.workers) × (plan.now.workers ≤ max_workers) }
     requires count { count ≤ max_phases }
-    requires budget { IsBudget budget }
-    ensures run { IfOk result (λ r. IsRunSoFar design.now workers budget table.now r.0 r.1.items) }
+    requires budget { IsBudget plan.now.budget }
+    ensures run { IfOk result (λ r. IsRunSoFar design.now plan.now.workers plan.now.budget table.now r.0 r.1.items) }
     ensures count { IfOk result (λ r. length r.1.items ≡ count) }
 {
     let mut share = first;
     let mut phases = Vec::new(alloc);
+    let none = no_sets(alloc, design.nets.list().len())?;
     for _ in 0..count {
         let (next, sets) = route_parts(
             rt,
-            alloc,
             design,
             grounds,
             table,
             phases.as_slice(),
-            workers,
-            budget,
+            none.as_slice(),
+            plan,
             gate,
             share,
             0,
-            workers,
+            plan.workers,
         )?;
         share = next;
         phases.push(Trees::of(sets))?;
@@ -119,16 +126,25 @@ fn route_phases<R: Threads + Sync, G: Gate>(
     Ok((share, phases))
 }
 
-/// What a share has of each word.
-fn shares_of(alloc: Global, share: &Share, words: u32) -> Result<Vec<u64>, NoMemory>
-    requires words { share.now.table.words ≡ words }
-    requires some { 0 < words }
-    ensures shares { IfOk result (λ loads. loads.items ≡ share.now.party.shares) }
-    ensures long { IfOk result (λ loads. length loads.items ≡ words) }
+/// The positions of so many nets, in rising order.
+fn all_positions(alloc: Global, nets: usize) -> Result<Vec<u32>, NoMemory>
+    requires few { nets ≤ max_nets }
+    ensures positions { IfOk result (λ positions. positions.items ≡ range_with_len 0 nets) }
 {
-    let mut loads = Vec::new(alloc);
-    for word in 0..words {
-        loads.push(share.share_of(word))?;
+    let mut positions = Vec::new(alloc);
+    for position in 0..nets {
+        positions.push(position as u32)?;
     }
-    Ok(loads)
+    Ok(positions)
+}
+
+/// An empty set for each of so many nets.
+fn no_sets(alloc: Global, nets: usize) -> Result<Vec<Tree>, NoMemory>
+    ensures sets { IfOk result (λ sets. sets.items ≡ empty_sets nets) }
+{
+    let mut sets = Vec::new(alloc);
+    for _ in 0..nets {
+        sets.push(Tree::empty(alloc))?;
+    }
+    Ok(sets)
 }

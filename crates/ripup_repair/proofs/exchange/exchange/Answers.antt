@@ -6,7 +6,8 @@ use Rattle.std.proofs.lemmas.Option.{slice_get-get_or}
 use Rattle.grid_base.specs.declared.piece.Piece.{Piece}
 use Rattle.sharing_runs.specs.RepairRuns.{at_positions}
 use Rattle.ripup_repair.specs.Exchanged.{with_elements}
-use Rattle.ripup_repair.proofs.Positions.{at_positions-long, at_positions-push, with_elements-other, with_elements-push}
+use Rattle.routing_passes.proofs.Positions.{at_positions-long}
+use Rattle.ripup_repair.proofs.Positions.{at_positions-push, with_elements-other, with_elements-push}
 use Rattle.ripup_repair.proofs.Positions.{earlier_apart, take_within}
 use Rattle.ripup_repair.proofs.exchange.exchange.Goals as goal
 

@@ -8,10 +8,11 @@ use Rattle.load_table.specs.Holdings.{IsShare}
 use Rattle.tree_set.specs.Loads.{load_list}
 use Rattle.tree_set.specs.Routings.{ArePieces, IsRoute, IsRouting}
 use Rattle.sharing_runs.proofs.Between.{load_list-at, load_list-long}
-use Rattle.price_workers.specs.Settings.{workers_in_use}
+use Rattle.routing_stages.specs.Settings.{workers_in_use}
 use Rattle.sharing_runs.specs.RepairRuns.{routing_overflow}
 use Rattle.ripup_repair.specs.RoundsDone.{AreRoundsDone, HasLoadOf}
-use Rattle.ripup_repair.proofs.RoundFacts.{routing_pieces, written_over}
+use Rattle.routing_passes.proofs.PartSteps.{routing_pieces}
+use Rattle.ripup_repair.proofs.RoundFacts.{written_over}
 use Rattle.ripup_repair.proofs.RoundRuns.{is_repaired, is_result, last_share, result_routing}
 use Rattle.ripup_repair.proofs.repairing.repair.Goals as goal
 

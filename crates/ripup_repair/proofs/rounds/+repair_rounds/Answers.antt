@@ -1,4 +1,4 @@
-use Rattle.std.proofs.Common.{◌≡◌, ◌≢◌, ◌≤◌, ◌<◌, ◌+◌, ◌-◌, ◌*◌, ℕ, List, min, refl, ◌∙◌, ap, subst, arith}
+use Rattle.std.proofs.Common.{◌≡◌, ◌≢◌, ◌≤◌, ◌<◌, ◌+◌, ◌-◌, ◌*◌, ℕ, List, min, slice_index, refl, ◌∙◌, ap, subst, arith}
 use Rattle.std.proofs.lemmas.Bool.{le-ltb, lt-ltb}
 use Rattle.std.proofs.lemmas.Slice.Zip.{AllZip-long}
 use Rattle.grid_base.specs.declared.piece.Piece.{Piece}
@@ -9,7 +9,7 @@ use Rattle.tree_set.specs.Routings.{IsRoute}
 use Rattle.sharing_runs.specs.RepairRuns.{routing_overflow}
 use Rattle.ripup_repair.specs.Exchanged.{with_elements}
 use Rattle.ripup_repair.specs.RoundsDone.{AreRoundsDone}
-use Rattle.ripup_repair.proofs.RoundFacts.{routing_pieces}
+use Rattle.routing_passes.proofs.PartSteps.{routing_pieces}
 use Rattle.ripup_repair.proofs.RoundRuns.{listed, more_done, none_done}
 use Rattle.ripup_repair.proofs.rounds.+repair_rounds.Goals as goal
 use Rattle.ripup_repair.proofs.rounds.+repair_rounds.Goals.{then-overflow-eq0-via-then-overflow-eq0}
@@ -63,7 +63,7 @@ returns g t c =
           let words : 2 * w.vertices.result + 1 ≡ entries d.grid =
           omega (arith, w.vertices.ensures, ap (λ s. vertices s) w.size.ensures) in
           w.loads-is ∙ listed d after w.write_shares.new.loads (w.write_shares.ensures.long ∙ words)
-          (λ r within. w.write_shares.ensures.shares r (omega (arith, within, words))
+          (λ r within. ap (λ (l : List ℕ). slice_index l r) w.write_shares.ensures.shares
           ∙ c.in_ok-share.ensures.done.share.loads r within)
       | else-overflow-least w ↦ absurd (omega (arith, w.if-overflow-least.false, less))
     ] in

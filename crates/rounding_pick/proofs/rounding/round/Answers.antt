@@ -13,9 +13,9 @@ use Rattle.load_core.specs.Parties.{share_at}
 use Rattle.load_table.specs.Holdings.{IsShare}
 use Rattle.tree_set.specs.Loads.{load_on, load_list}
 use Rattle.sharing_runs.proofs.Between.{load_list-at, load_list-long}
-use Rattle.price_workers.specs.declared.shared.Shared.{Shared}
-use Rattle.price_workers.specs.Phases.{phases_load}
-use Rattle.price_workers.specs.Whole.{IsWholeShared}
+use Rattle.routing_stages.specs.declared.shared.Shared.{Shared}
+use Rattle.routing_stages.specs.Phases.{phases_load}
+use Rattle.routing_stages.specs.Whole.{IsWholeShared}
 use Rattle.price_workers.proofs.TurnFacts.{same_allot}
 use Rattle.rounding_pick.proofs.rounding.round.Goals as goal
 

@@ -2,7 +2,7 @@ use Rattle.std.proofs.Common.{◌≡◌, ◌<◌, ◌+◌, ℕ, take}
 use Rattle.grid_graph.specs.Grids.{entries}
 use Rattle.load_core.specs.Parties.{share_at}
 use Rattle.load_table.specs.Holdings.{IsShare}
-use Rattle.price_workers.specs.Phases.{phases_load}
+use Rattle.routing_stages.specs.Phases.{phases_load}
 use Rattle.price_workers.specs.TreeLoads.{DiffersInShares}
 use Rattle.rounding_pick.proofs.taking.take_phases.Given as goal
 

@@ -2,7 +2,7 @@ use Rattle.std.proofs.Common.{◌≡◌, ℕ, List, ◌∙◌, ap}
 use Rattle.std.proofs.lemmas.Slice.Zip.{AllZip-long}
 use Rattle.edge_prices.specs.Vectors.{price_vector}
 use Rattle.edge_prices.proofs.PriceVectors.{price_vector-IsPriceList}
-use Rattle.price_workers.specs.Phases.{phases_loads}
+use Rattle.routing_stages.specs.Phases.{phases_loads}
 use Rattle.tree_set.specs.Routings.{IsRoute}
 use Rattle.router_cli.specs.Certified.{IsCertified}
 use Rattle.router_cli.proofs.Bounded.{states_bound}

@@ -7,7 +7,7 @@ use Rattle.grid_graph.specs.declared.ground.Ground.{Ground}
 use Rattle.grid_graph.specs.Grounds.{AreGrounds}
 use Rattle.ispd_reader.specs.Designs.{IsDesignOfText}
 use Rattle.made_designs.proofs.Generated.{made_design_near}
-use Rattle.price_workers.specs.declared.settings.Settings.{Settings}
+use Rattle.routing_stages.specs.declared.settings.Settings.{Settings}
 use Rattle.tree_set.specs.Routings.{IsRoute}
 use Rattle.router_cli.specs.Headline.{IsRoutedDesign}
 use Rattle.router_cli.specs.TrialRun.{trial_task_of}

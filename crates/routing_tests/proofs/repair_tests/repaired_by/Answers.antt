@@ -3,7 +3,7 @@ use Rattle.std.proofs.lemmas.Slice.Zip.{AllZip-long}
 use Rattle.grid_base.specs.declared.piece.Piece.{Piece}
 use Rattle.grid_graph.specs.Grids.{size_of}
 use Rattle.tree_set.specs.Routings.{ArePieces, IsRoute}
-use Rattle.ripup_repair.proofs.RoundFacts.{routing_pieces}
+use Rattle.routing_passes.proofs.PartSteps.{routing_pieces}
 use Rattle.routing_tests.proofs.repair_tests.repaired_by.Goals as goal
 
 pub measure_of-requires-clause-one_each : goal.measure_of-requires-clause-one_each

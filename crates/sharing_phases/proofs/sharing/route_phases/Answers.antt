@@ -1,44 +1,142 @@
-use Rattle.std.proofs.Common.{◌<◌, ◌∷◌, [], List, length, refl, sym, ◌∙◌, ap, subst, arith}
-use Rattle.std.proofs.lemmas.List.{length-append}
+use Rattle.std.proofs.Common.{◌≡◌, ◌≤◌, ◌<◌, ◌∷◌, ◌++◌, [], ℕ, List, length, All, refl, sym, ◌∙◌, ap, subst, arith}
+use Rattle.std.specs.List.{range_with_len}
+use Rattle.std.proofs.lemmas.List.{length-append, length-replicate}
+use Rattle.std.proofs.lemmas.List.Elements.{All-nil, All-replicate}
+use Rattle.std.proofs.lemmas.List.FromFn.{get_or-range_with_len, length-range_with_len}
 use Rattle.grid_base.specs.declared.piece.Piece.{Piece}
-use Rattle.price_workers.specs.Limits.{max_phases}
-use Rattle.sharing_phases.specs.PhaseWords.{Phase, phase_of, IsRunSoFar}
-use Rattle.sharing_phases.specs.Turns.{ArePartsRouted}
-use Rattle.sharing_phases.proofs.Phased.{IsRunSoFar-push, run_begins, serves_all}
+use Rattle.grid_base.specs.Numbers.{IsPiece}
+use Rattle.atomic_table.specs.Seated.{TableId}
+use Rattle.grid_graph.specs.declared.design.Design.{Design}
+use Rattle.grid_graph.specs.declared.ground.Ground.{Ground}
+use Rattle.grid_graph.specs.Grids.{entries, size_of}
+use Rattle.grid_graph.specs.Grounds.{AreGrounds}
+use Rattle.edge_prices.specs.Limits.{IsBudget}
+use Rattle.tree_set.specs.Routings.{ArePieces, IsRouting}
+use Rattle.routing_stages.specs.Limits.{max_phases, max_workers}
+use Rattle.routing_passes.specs.declared.plan.Plan.{Plan}
+use Rattle.routing_passes.specs.Passes.{Pass, pass_of}
+use Rattle.sharing_phases.specs.PhaseWords.{IsPhasePlan, IsRunSoFar, empty_sets}
+use Rattle.sharing_phases.proofs.Phased.{IsPhase, IsRunSoFar-push, routings_are_sets, run_begins, serves_all}
 use Rattle.sharing_phases.proofs.sharing.route_phases.Goals as goal
+
+-- a pass by the plan of a phase, where no net has a set before, is a phase
+begins_phase : (p : Pass) (plan : Plan) → IsPhasePlan (length p.design.nets) plan → p.positions ≡ plan.positions.items
+    → p.scale ≡ plan.scale → p.before ≡ empty_sets (length p.design.nets)
+    → AreGrounds p.design.grid p.design.nets p.grounds → p.table.words ≡ entries p.design.grid
+    → (1 ≤ p.workers) × (p.workers ≤ max_workers) → IsBudget p.budget
+    → All (IsRouting p.design.grid p.design.nets) p.earlier → length p.earlier < max_phases → IsPhase p
+begins_phase p plan planned positions scale none are words within budget routings few =
+    let n : ℕ = length p.design.nets in
+    let all : p.positions ≡ range_with_len 0 n = positions ∙ planned.positions in
+    let one : p.scale ≡ 1 = scale ∙ planned.scale in
+    record {
+      pass = record {
+        grounds = are;
+        words = words;
+        some = within.0;
+        workers = within.1;
+        scale = (omega (arith, one), omega (arith, one));
+        budget = budget;
+        earlier = routings_are_sets p.design p.earlier routings;
+        lists = few;
+        before = record {
+          long = ap length none ∙ length-replicate n [];
+          pieces = subst (All (ArePieces (size_of p.design.grid))) (sym none)
+              (All-replicate (ArePieces (size_of p.design.grid)) n [] (All-nil (IsPiece (size_of p.design.grid))));
+        };
+        nets = subst (λ (ks : List ℕ). All (λ k. k < n) ks) (sym all)
+            (λ i d short. omega (
+              arith,
+              get_or-range_with_len 0 n i d (omega (arith, short, length-range_with_len 0 n)),
+              short,
+              length-range_with_len 0 n,
+            ));
+        few = omega (arith, ap length all, length-range_with_len 0 n, p.design.limits.count);
+      };
+      all = all;
+      none = none;
+      scale = one;
+    }
+
+phase_of_plan : (d : Design) (grounds : List Ground) (table : TableId) (earlier : List (List (List Piece)))
+    (before : List (List Piece)) (plan : Plan)
+    → IsPhasePlan (length d.nets) plan → before ≡ empty_sets (length d.nets)
+    → AreGrounds d.grid d.nets grounds → table.words ≡ entries d.grid
+    → (1 ≤ plan.workers) × (plan.workers ≤ max_workers) → IsBudget plan.budget
+    → All (IsRouting d.grid d.nets) earlier → length earlier < max_phases
+    → IsPhase (pass_of d grounds table earlier before plan)
+phase_of_plan d grounds table earlier before plan planned none are words within budget routings few =
+    begins_phase (pass_of d grounds table earlier before plan) plan planned refl refl none are words within budget routings few
 
 pub loop-init : goal.loop-init
 loop-init g c =
     rw c.new-phases.ensures.items (record {
-      run = run_begins c.args.design.now c.args.workers c.args.budget c.args.table.now c.args.first c.requires.workers.0
-          c.requires.first;
+      run = run_begins c.args.design.now c.args.plan.now.workers c.args.plan.now.budget c.args.table.now c.args.first
+          c.requires.workers.0 c.requires.first;
       count = refl;
     })
 
-pub route_parts-requires-clause-share : goal.route_parts-requires-clause-share
-route_parts-requires-clause-share g c κs within =
-    let p : Phase = phase_of c.args.design.now c.args.grounds.now c.args.table.now c.as_slice.result.now c.args.workers
-    c.args.budget in
-    let few : length c.as_slice.result.now < max_phases =
-    omega (
+pub route_parts-requires-clause-pass : goal.route_parts-requires-clause-pass
+route_parts-requires-clause-pass g c κs within =
+    let d = c.args.design.now in
+    let phase = phase_of_plan d c.args.grounds.now c.args.table.now c.as_slice.result.now c.as_slice-in-loop.result.now c.args.plan.now
+    c.requires.plan (c.as_slice-in-loop.ensures.value ∙ c.in_ok-none.ensures.sets ∙ ap (λ ns. empty_sets (length ns)) c.list.ensures.items)
+    c.requires.grounds c.requires.words c.requires.workers c.requires.budget
+    (subst (All (IsRouting d.grid d.nets)) (sym c.as_slice.ensures.value) c.loop.invariant.run.routings)
+    (omega (
       arith,
       c.loop.invariant.count,
       ap length c.as_slice.ensures.value,
       c.loop-test.true,
       c.loop.auto.counter-end,
       c.requires.count,
-    ) in
-    serves_all p c.loop.share c.requires.workers.0 c.requires.workers.1 few
-    (subst (λ (phases : List (List (List Piece))). IsRunSoFar c.args.design.now c.args.workers c.args.budget c.args.table.now
-    c.loop.share phases) (sym c.as_slice.ensures.value) c.loop.invariant.run)
+    )) in
+    phase.pass
+
+pub route_parts-requires-clause-share : goal.route_parts-requires-clause-share
+route_parts-requires-clause-share g c κs within =
+    let d = c.args.design.now in
+    let plan = c.args.plan.now in
+    let phase = phase_of_plan d c.args.grounds.now c.args.table.now c.as_slice.result.now c.as_slice-in-loop.result.now c.args.plan.now
+    c.requires.plan (c.as_slice-in-loop.ensures.value ∙ c.in_ok-none.ensures.sets ∙ ap (λ ns. empty_sets (length ns)) c.list.ensures.items)
+    c.requires.grounds c.requires.words c.requires.workers c.requires.budget
+    (subst (All (IsRouting d.grid d.nets)) (sym c.as_slice.ensures.value) c.loop.invariant.run.routings)
+    (omega (
+      arith,
+      c.loop.invariant.count,
+      ap length c.as_slice.ensures.value,
+      c.loop-test.true,
+      c.loop.auto.counter-end,
+      c.requires.count,
+    )) in
+    serves_all (pass_of d c.args.grounds.now c.args.table.now c.as_slice.result.now c.as_slice-in-loop.result.now plan) c.loop.share
+    phase (subst (IsRunSoFar d plan.workers plan.budget c.args.table.now c.loop.share) (sym c.as_slice.ensures.value)
+    c.loop.invariant.run)
 
 pub loop-preserved : goal.loop-preserved
 loop-preserved g c =
     let d = c.args.design.now in
+    let plan = c.args.plan.now in
+    let table = c.args.table.now in
+    let sets = c.in_ok-next.sets.items in
+    let phase = phase_of_plan d c.args.grounds.now c.args.table.now c.as_slice.result.now c.as_slice-in-loop.result.now c.args.plan.now
+    c.requires.plan (c.as_slice-in-loop.ensures.value ∙ c.in_ok-none.ensures.sets ∙ ap (λ ns. empty_sets (length ns)) c.list.ensures.items)
+    c.requires.grounds c.requires.words c.requires.workers c.requires.budget
+    (subst (All (IsRouting d.grid d.nets)) (sym c.as_slice.ensures.value) c.loop.invariant.run.routings)
+    (omega (
+      arith,
+      c.loop.invariant.count,
+      ap length c.as_slice.ensures.value,
+      c.loop-test.true,
+      c.loop.auto.counter-end,
+      c.requires.count,
+    )) in
     rw (c.in_ok-push.ensures.items, c.of.ensures) (record {
-      run = IsRunSoFar-push d c.args.workers c.args.budget c.args.table.now c.loop.phases.items c.in_ok-next.sets.items
-          c.loop.share c.in_ok-next.next c.requires.workers.0 c.loop.invariant.run
-          (subst (λ (phases : List (List (List Piece))). ArePartsRouted d c.args.workers c.args.budget phases 0 c.args.workers
-          c.loop.share c.in_ok-next.next c.in_ok-next.sets.items) c.as_slice.ensures.value c.in_ok-next.ensures.routed);
-      count = length-append c.loop.phases.items (c.in_ok-next.sets.items ∷ []) ∙ omega (arith, c.loop.invariant.count);
+      run = subst (λ (phases : List (List (List Piece))). IsRunSoFar d plan.workers plan.budget table c.in_ok-next.next
+          (phases ++ sets ∷ [])) c.as_slice.ensures.value
+          (IsRunSoFar-push (pass_of d c.args.grounds.now table c.as_slice.result.now c.as_slice-in-loop.result.now plan) sets c.loop.share
+          c.in_ok-next.next phase
+          (subst (IsRunSoFar d plan.workers plan.budget table c.loop.share) (sym c.as_slice.ensures.value) c.loop.invariant.run)
+          c.in_ok-next.ensures.turns);
+      count = length-append c.loop.phases.items (sets ∷ []) ∙ omega (arith, c.loop.invariant.count);
     })

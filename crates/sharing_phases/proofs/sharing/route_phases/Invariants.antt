@@ -5,6 +5,6 @@ use Rattle.sharing_phases.proofs.sharing.route_phases.Given as goal
 -- so many phases have been
 abbrev pub invariant-loop : goal.invariant-loop
 invariant-loop g l = record {
-  run : IsRunSoFar l.design l.workers l.budget l.table l.share l.phases.items;
+  run : IsRunSoFar l.design l.plan.workers l.plan.budget l.table l.share l.phases.items;
   count : length l.phases.items ≡ l.counter;
 }

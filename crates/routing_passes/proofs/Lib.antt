@@ -1,0 +1,12 @@
+pub mod Ranges
+pub mod Slices
+pub mod Parts
+pub mod Sums
+pub mod Positions
+pub mod Readings
+pub mod TreeLimits
+pub mod Splits
+pub mod TurnSteps
+pub mod WorkerSteps
+pub mod PartSteps
+pub mod PassSplits

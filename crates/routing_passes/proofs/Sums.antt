@@ -1,0 +1,125 @@
+-- Sums over lists, and loads of nets between two positions.
+use Rattle.std.proofs.Common.{◌≡◌, ℕ, ◌+◌, ◌-◌, ◌≤◌, List, [], ◌∷◌, ◌++◌, length, take, drop, slice_get, slice_range, refl, sym}
+use Rattle.std.proofs.Common.{◌∙◌, ap, arith, zero, suc, ◌==◌, Bool, true, false, cond, replicate}
+use Rattle.std.specs.List.{sum_by, zip}
+use Rattle.std.proofs.Math.Seq.{take-append_seam, drop-append_seam, drop-drop}
+use Rattle.std.proofs.lemmas.List.{take_all, length-append}
+use Rattle.std.proofs.lemmas.List.Sums.{sum_by-cons}
+use Rattle.grid_base.specs.declared.piece.Piece.{Piece}
+use Rattle.grid_base.specs.Lists.{At}
+use Rattle.grid_graph.specs.declared.grid.Grid.{Grid}
+use Rattle.grid_graph.specs.declared.net_spec.NetSpec.{NetSpec}
+use Rattle.grid_graph.specs.Grids.{edge_numbers}
+use Rattle.tree_set.specs.Loads.{load, load_on, load_between, net_load, tree_load}
+use Rattle.tree_set.specs.Measures.{wirelength}
+use Rattle.std.proofs.lemmas.List.Folds.{sum_by-replicate}
+use Rattle.sharing_runs.proofs.Between.{load_on-split, load_on-between, load_on-none, load_on-push}
+use Rattle.routing_passes.proofs.Slices.{slice_get-drop, take_one}
+
+-- a sum whose terms are sums
+pub sum_by-both : {X : Type 0} (f g h : X → ℕ) (xs : List X) → ((x : X) → f x ≡ g x + h x)
+    → sum_by f xs ≡ sum_by g xs + sum_by h xs
+sum_by-both f g h [] both = refl
+sum_by-both f g h (x ∷ xs) both =
+    omega (arith, sum_by-cons f x xs, sum_by-cons g x xs, sum_by-cons h x xs, both x, sum_by-both f g h xs both)
+
+-- the load between two positions is that up to a position between them and that from there on
+pub load_between-split : (g : Grid) (nets : List NetSpec) (trees : List (List Piece)) (a m b r : ℕ) → a ≤ m → m ≤ b
+    → load_between g nets trees a b r ≡ load_between g nets trees a m r + load_between g nets trees m b r
+load_between-split g nets trees a m b r low high =
+    omega (
+      arith,
+      load_on-between g nets trees a b r (omega (arith, low, high)),
+      load_on-between g nets trees a m r low,
+      load_on-between g nets trees m b r high,
+    )
+
+-- of the nets only those that have a set count
+load_on-first_nets : (g : Grid) (nets : List NetSpec) (trees : List (List Piece)) (m r : ℕ)
+    → load_on g (take m nets) (take m trees) r ≡ load_on g nets (take m trees) r
+load_on-first_nets g nets trees m r =
+    let split : load_on g nets (take (0 + m) trees) r ≡ load_on g nets [] r + load_on g (take m nets) (take m trees) r =
+    load_on-split g nets trees 0 m r in
+    let same : load_on g nets (take (0 + m) trees) r ≡ load_on g nets (take m trees) r =
+    ap (λ k. load_on g nets (take k trees) r) (omega arith) in
+    omega (arith, split, same, load_on-none g nets r)
+
+-- the load between two positions is that of the sets there
+pub load_between-here : (g : Grid) (nets : List NetSpec) (all sets : List (List Piece)) (a b r : ℕ) → slice_range all a b ≡ sets
+    → load_between g nets all a b r ≡ load_on g (drop a nets) sets r
+load_between-here g nets all sets a b r here =
+    load_on-first_nets g (drop a nets) (drop a all) (b - a) r ∙ ap (λ s. load_on g (drop a nets) s r) here
+
+-- one set more, where the first is of the net at a position
+pub load_on-behind_push : (g : Grid) (nets : List NetSpec) (a k : ℕ) (sets : List (List Piece)) (n : NetSpec)
+    (tree : List Piece) (r : ℕ)
+    → At nets k n → a ≤ k → length sets ≡ k - a
+    → load_on g (drop a nets) (sets ++ tree ∷ []) r ≡ load_on g (drop a nets) sets r + tree_load g n.width tree r
+load_on-behind_push g nets a k sets n tree r at low long =
+    load_on-push g (drop a nets) sets n tree r
+    (slice_get-drop nets a (length sets) ∙ ap (slice_get nets) (omega (arith, low, long)) ∙ at)
+
+-- sets, and sets for the nets behind
+pub load_on-behind_append : (g : Grid) (nets' : List NetSpec) (a m : ℕ) (s t : List (List Piece)) (r : ℕ) → a ≤ m
+    → length s ≡ m - a
+    → load_on g (drop a nets') (s ++ t) r ≡ load_on g (drop a nets') s r + load_on g (drop m nets') t r
+load_on-behind_append g nets' a m s t r low long =
+    let nets : List NetSpec = drop a nets' in
+    let behind : drop (length s) nets ≡ drop m nets' =
+    drop-drop (length s) a nets' ∙ ap (λ k. drop k nets') (omega (arith, low, long)) in
+    ap (λ trees. load_on g nets trees r) (sym (take_all (length s + length t) (s ++ t) (omega (arith, length-append s t))))
+    ∙ load_on-split g nets (s ++ t) (length s) (length t) r
+    ∙ ap (λ trees. load_on g nets trees r + load_on g (take (length t) (drop (length s) nets))
+    (take (length t) (drop (length s) (s ++ t))) r) (take-append_seam s t)
+    ∙ ap (λ trees. load_on g nets s r + load_on g (take (length t) (drop (length s) nets)) (take (length t) trees) r)
+    (drop-append_seam s t)
+    ∙ ap (λ load. load_on g nets s r + load) (load_on-first_nets g (drop (length s) nets) t (length t) r)
+    ∙ ap (λ trees. load_on g nets s r + load_on g (drop (length s) nets) trees r) (take_all (length t) t (omega arith))
+    ∙ ap (λ ns. load_on g nets s r + load_on g ns t r) behind
+
+-- a net more
+pub load_between-next : (g : Grid) (nets : List NetSpec) (all : List (List Piece)) (a k : ℕ) (n : NetSpec) (tree : List Piece)
+    (r : ℕ) → At nets k n → At all k tree → a ≤ k
+    → load_between g nets all a (k + 1) r ≡ load_between g nets all a k r + tree_load g n.width tree r
+load_between-next g nets all a k n tree r at stands low =
+    let next : k + 1 - k ≡ 1 = omega arith in
+    let here : slice_range all k (k + 1) ≡ tree ∷ [] = ap (λ m. take m (drop k all)) next ∙ take_one all k tree stands in
+    omega (
+      arith,
+      load_between-split g nets all a k (k + 1) r low (omega arith),
+      load_between-here g nets all (tree ∷ []) k (k + 1) r here,
+      load_on-behind_push g nets k k [] n tree r at (omega arith) (omega arith),
+      load_on-none g (drop k nets) r,
+    )
+
+-- the load of a first net and of the others
+pub load_on-cons : (g : Grid) (n : NetSpec) (nets : List NetSpec) (t : List Piece) (trees : List (List Piece)) (r : ℕ)
+    → load_on g (n ∷ nets) (t ∷ trees) r ≡ tree_load g n.width t r + load_on g nets trees r
+load_on-cons g n nets t trees r =
+    omega (
+      arith,
+      load_on-behind_append g (n ∷ nets) 0 1 (t ∷ []) trees r (omega arith) refl,
+      load_on-behind_push g (n ∷ nets) 0 0 [] n t r refl (omega arith) refl,
+      load_on-none g (n ∷ nets) r,
+    )
+
+-- empty sets have no load, whatever the nets
+no_edges : (g : Grid) (nets : List NetSpec) (m r : ℕ)
+    → sum_by (λ (x : NetSpec × List Piece). net_load g x.0.width x.1 r) (zip nets (replicate m [])) ≡ 0
+no_edges g [] m r = refl
+no_edges g (n ∷ nets) zero r = refl
+no_edges g (n ∷ nets) (suc m) r =
+    omega (
+      arith,
+      sum_by-cons (λ (x : NetSpec × List Piece). net_load g x.0.width x.1 r) (n, []) (zip nets (replicate m [])),
+      no_edges g nets m r,
+    )
+
+either_none : (b : Bool) (x y : ℕ) → x ≡ 0 → y ≡ 0 → cond b x y ≡ 0
+either_none true x y first second = first
+either_none false x y first second = second
+
+pub no_load : (g : Grid) (nets : List NetSpec) (m r : ℕ) → load_on g nets (replicate m []) r ≡ 0
+no_load g nets m r =
+    either_none (r == edge_numbers g) (wirelength (replicate m [])) (load g nets (replicate m []) r)
+    (sum_by-replicate length m [] ∙ omega arith) (no_edges g nets m r)

@@ -1,0 +1,80 @@
+//! The turns of one worker in a pass.
+
+ghost use Rattle.std.specs.Prelude.{◌≡◌, ◌+◌, ◌≤◌, ◌<◌, true, false, length, IfOk};
+ghost use Rattle.grid_graph.specs.Limits.{max_nets};
+ghost use Rattle.routing_stages.specs.Limits.{max_workers};
+ghost use Rattle.price_workers.specs.Workers.{WorksOn, KeepsWork, IsUnchanged};
+ghost use Rattle.sharing_runs.specs.Parts.{part_start};
+ghost use Rattle.routing_passes.specs.Passes.{pass_of, HasRead, IsPass, ServesTurns};
+ghost use Rattle.routing_passes.specs.PassTurns.{HadTurns};
+
+use crate::old_sets::copies;
+use crate::plan::Plan;
+use grid_base::NoMemory;
+use grid_graph::{Design, Ground};
+use load_table::{LoadTable, Share};
+use price_workers::Worker;
+use routing_stages::{Gate, Trees};
+use tree_set::Tree;
+
+/// So many nets a worker routes at most between two readings of the table: a reading costs a load of each word.
+const NETS_PER_READING: usize = 32;
+
+/// The position of the first net of a worker's part, or where the parts end, for the number of workers. Parts differ by at
+/// most one net.
+pub(crate) fn part_start(workers: u32, nets: usize, worker: u32) -> usize
+    requires workers { (1 ≤ workers) × (worker ≤ max_workers) }
+    requires nets { nets ≤ max_nets }
+    ensures start { result ≡ part_start workers nets worker }
+{
+    worker as usize * nets / workers as usize
+}
+
+/// The nets of a worker's part get their new sets, one after another.
+pub(crate) fn route_part<G: Gate>(
+    design: &Design,
+    grounds: &[Ground],
+    table: &LoadTable,
+    earlier: &[Trees],
+    before: &[Tree],
+    plan: &Plan,
+    gate: &G,
+    share: Share,
+    worker: u32,
+) -> Result<(Share, Vec<Tree>), NoMemory>
+    requires pass { IsPass (pass_of design.now grounds.now table.now earlier.now before.now plan.now) }
+    requires worker { worker < plan.now.workers }
+    requires share { ServesTurns (pass_of design.now grounds.now table.now earlier.now before.now plan.now)
+        worker (worker + 1) share }
+    ensures turns { IfOk result (λ r. HadTurns (pass_of design.now grounds.now table.now earlier.now before.now plan.now)
+        worker (worker + 1) share r.0 r.1.items) }
+{
+    let alloc = *plan.positions.allocator();
+    let positions = plan.positions.as_slice();
+    let from = part_start(plan.workers, positions.len(), worker);
+    let to = part_start(plan.workers, positions.len(), worker + 1);
+    let sets = copies(alloc, before, positions, from, to)?;
+    let Ok(mut pricing) = Worker::new(alloc, design, share, sets, plan.scale, plan.budget) else {
+        return Err(NoMemory);
+    };
+    for turn in from..to {
+        gate.pass(worker, (turn - from) as u64);
+        let due = (turn - from) % NETS_PER_READING == 0;
+        read_if(&mut pricing, design, table, due);
+        let net = positions[turn] as usize;
+        pricing.reprice_net(design, table, turn - from, net, grounds[net])?;
+    }
+    Ok(pricing.finish())
+}
+
+/// A worker reads the table where a stretch of its nets begins, which `due` says, and else stays as it is.
+fn read_if(worker: &mut Worker<'_>, design: &Design, table: &LoadTable, due: bool)
+    requires works { WorksOn design.now.grid table.now worker.old }
+    ensures read { due ≡ true → HasRead table.now worker.old worker.new }
+    ensures same { due ≡ false → IsUnchanged worker.old worker.new }
+    ensures work { KeepsWork worker.old worker.new }
+{
+    if due {
+        worker.refresh(design, table);
+    }
+}

@@ -1,6 +1,0 @@
-use Rattle.tree_set.proofs.Loads.{IsCounted}
-use Rattle.sharing_phases.proofs.earlier.add_edges.Given as goal
-
--- the edges so far were added
-abbrev pub invariant-loop-p : goal.invariant-loop-p
-invariant-loop-p l = IsCounted l.grid l.width l.p-items l.p-index l.initial.loads l.loads

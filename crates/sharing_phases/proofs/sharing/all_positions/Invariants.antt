@@ -1,0 +1,7 @@
+use Rattle.std.proofs.Common.{◌≡◌}
+use Rattle.std.specs.List.{range_with_len}
+use Rattle.sharing_phases.proofs.sharing.all_positions.Given as goal
+
+-- the positions so far
+abbrev pub invariant-loop-position : goal.invariant-loop-position
+invariant-loop-position l = l.positions.items ≡ range_with_len 0 l.position
