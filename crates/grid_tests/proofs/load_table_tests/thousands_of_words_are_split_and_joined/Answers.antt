@@ -2,7 +2,7 @@ use Rattle.std.proofs.Common.{◌≡◌, ◌≤◌, ◌+◌, ℕ, List, replicat
 use Rattle.load_core.specs.Parties.{IsPart, first_party, share_at, split_off}
 use Rattle.load_core.proofs.Entries.{zeros}
 use Rattle.load_core.proofs.Parts.{nothing_is_part}
-use Rattle.load_table.proofs.tests.thousands_of_words_are_split_and_joined.Goals as goal
+use Rattle.grid_tests.proofs.load_table_tests.thousands_of_words_are_split_and_joined.Goals as goal
 
 pub split-requires-clause-part : goal.split-requires-clause-part
 split-requires-clause-part g c =

@@ -1,5 +1,5 @@
 use Rattle.std.proofs.Common.{◌≡◌, ◌<◌}
-use Rattle.load_table.proofs.tests.work.Given as goal
+use Rattle.grid_tests.proofs.load_table_tests.work.Given as goal
 
 abbrev pub invariant-loop-word : goal.invariant-loop-word
 invariant-loop-word l = (l.share.table ≡ l.table) × (1 < l.table.words)

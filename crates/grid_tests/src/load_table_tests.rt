@@ -1,8 +1,8 @@
-//! Shares of one table, in one thread and in two.
+//! Shares of one table of `load_table`, in one thread and in two.
 
 ghost use Rattle.std.specs.Prelude.{◌≡◌, ◌<◌, IfOk, replicate};
 
-use crate::{LoadTable, Share};
+use load_table::{LoadTable, Share};
 use std::alloc::{AllocError, Global};
 use std::test::Fail;
 use std::thread::join;
