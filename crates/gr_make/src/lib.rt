@@ -38,6 +38,3 @@ mod shape;
 
 pub use making::make;
 pub use shape::Shape;
-
-#[cfg(test)]
-mod tests;

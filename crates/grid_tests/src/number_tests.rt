@@ -1,9 +1,11 @@
 //! Worked examples of the numbers of `grid_base`, and of what no clause says.
 
-use crate::rows::agree;
 use grid_base::{Axis, Edge, NoMemory, Piece, Place, Size, Vertex, Via};
 use std::alloc::{AllocError, Global};
 use std::test::Fail;
+use test_rows::{
+    agree, piece_of, piece_text, rows_of, size_of, three_fields, two_fields, two_numbers,
+};
 
 // Three columns, two rows and two layers.
 fn small() -> Result<Size, Fail> {
@@ -24,21 +26,11 @@ const SIZES: &str = "2048 2048 2|fits
 1 524288 16|fits
 65536 65536 1|none";
 
-fn size_of(field: &str) -> Result<Option<Size>, Fail> {
-    let (cols, rest) = field.split_once(' ').ok_or("rows")?;
-    let (rows, layers) = rest.split_once(' ').ok_or("layers")?;
-    Ok(Size::new(cols.parse()?, rows.parse()?, layers.parse()?))
-}
-
 #[test]
 fn the_limits_are_on_the_product_and_the_layers(rt: HostRuntime) -> Result<(), Fail> {
-    for row in SIZES.split('\n') {
-        let (numbers, wanted) = row.split_once('|').ok_or("bar")?;
-        let found = if size_of(numbers)?.is_some() {
-            "fits"
-        } else {
-            "none"
-        };
+    for row in rows_of(rt.alloc(), SIZES)? {
+        let (size, wanted) = two_fields(row)?;
+        let found = size_of(size)?.map_or("none", |_| "fits");
         agree(row, found, wanted)?;
     }
     Ok(())
@@ -71,34 +63,22 @@ fn an_edge_has_a_start_and_an_axis(rt: HostRuntime) {
     }
 }
 
-fn piece_of(field: &str) -> Result<Piece, Fail> {
-    match field.split_once(' ').ok_or("a number")? {
-        ("edge", number) => Ok(Piece::Edge(Edge(number.parse()?))),
-        ("via", number) => Ok(Piece::Via(Via(number.parse()?))),
-        _ => Err(Fail::new("no piece")),
-    }
-}
-
-/// Edges and vias, and whether three columns, two rows and two layers have them. A line that begins with `#` says what
-/// follows.
-const PIECES: &str = "edge 2|piece
-edge 5|piece
-edge 20|piece
-via 5|piece
+/// Edges and vias, and whether three columns, two rows and two layers have them.
+const PIECES: &str = "e2|piece
+e5|piece
+e20|piece
+v5|piece
 # past the last column, past the last row, no vertex, past the last layer
-edge 4|none
-edge 7|none
-edge 24|none
-via 6|none";
+e4|none
+e7|none
+e24|none
+v6|none";
 
 #[test]
 fn pieces_stop_at_the_border(rt: HostRuntime) -> Result<(), Fail> {
     let size = small()?;
-    for row in PIECES.split('\n') {
-        if row.starts_with('#') {
-            continue;
-        }
-        let (piece, wanted) = row.split_once('|').ok_or("bar")?;
+    for row in rows_of(rt.alloc(), PIECES)? {
+        let (piece, wanted) = two_fields(row)?;
         let found = if size.is_piece(piece_of(piece)?) {
             "piece"
         } else {
@@ -124,42 +104,37 @@ fn each_piece_has_its_ends(rt: HostRuntime) -> Result<(), Fail> {
     Ok(())
 }
 
-/// What is between two vertices of a grid, by its number.
+/// The piece between two vertices of a grid.
 fn between(alloc: Global, size: Size, start: u32, end: u32) -> Result<String, AllocError> {
     match size.piece_between(Vertex(start), Vertex(end)) {
-        Some(Piece::Edge(Edge(e))) => format!(in alloc; "edge {e}"),
-        Some(Piece::Via(Via(v))) => format!(in alloc; "via {v}"),
+        Some(piece) => piece_text(alloc, piece),
         None => String::from_str(alloc, "none"),
     }
 }
 
-/// Columns, rows and layers, two vertices, and the piece between them. A line that begins with `#` says what follows.
-const BETWEEN: &str = "3 2 2|1 2|edge 2
-3 2 2|2 1|edge 2
-3 2 2|2 5|edge 5
-3 2 2|5 2|edge 5
-3 2 2|5 11|via 5
-3 2 2|11 5|via 5
+/// Columns, rows and layers, two vertices, and the piece between them.
+const BETWEEN: &str = "3 2 2|1 2|e2
+3 2 2|2 1|e2
+3 2 2|2 5|e5
+3 2 2|5 2|e5
+3 2 2|5 11|v5
+3 2 2|11 5|v5
 # the end of a row and the start of the next, one vertex twice, two steps, no vertex
 3 2 2|2 3|none
 3 2 2|4 4|none
 3 2 2|0 2|none
 3 2 2|11 12|none
 # a grid of one column has no edges along it
-1 3 2|0 1|edge 1
-1 3 2|4 1|via 1";
+1 3 2|0 1|e1
+1 3 2|4 1|v1";
 
 #[test]
 fn each_piece_is_found_between_its_ends(rt: HostRuntime) -> Result<(), Fail> {
-    for row in BETWEEN.split('\n') {
-        if row.starts_with('#') {
-            continue;
-        }
-        let (numbers, rest) = row.split_once('|').ok_or("bar")?;
-        let (ends, wanted) = rest.split_once('|').ok_or("bar")?;
-        let (start, end) = ends.split_once(' ').ok_or("two ends")?;
-        let size = size_of(numbers)?.ok_or("within the limits")?;
-        let found = between(rt.alloc(), size, start.parse()?, end.parse()?)?;
+    for row in rows_of(rt.alloc(), BETWEEN)? {
+        let (size, ends, wanted) = three_fields(row)?;
+        let size = size_of(size)?.ok_or("within the limits")?;
+        let (start, end) = two_numbers(ends)?;
+        let found = between(rt.alloc(), size, start, end)?;
         agree(row, found.as_str(), wanted)?;
     }
     Ok(())

@@ -7,7 +7,6 @@ ghost use Rattle.edge_prices.specs.KeptLists.{grid_of, IsRenewed};
 ghost use Rattle.edge_prices.specs.Limits.{IsBudget};
 ghost use Rattle.edge_prices.specs.Vectors.{IsLoadList};
 
-use crate::rows::{agree, numbers_text};
 use edge_prices::{
     Costing, KeptPrices, LAST_INDEX, MAX_LOAD, Weighing, are_edge_prices, index_at, price_at,
     price_from, prices,
@@ -16,6 +15,7 @@ use grid_base::{Edge, NoMemory, Piece, Size, Via};
 use grid_graph::{FlooredWeights, Floors, Grid, GridParts, Ground, MAX_DEMAND, Weights};
 use std::alloc::Global;
 use std::test::Fail;
+use test_rows::{agree, numbers_text, rows_of, two_numbers};
 
 /// Some places in the table of prices, and the price there.
 const ENTRIES: &str = "0 1
@@ -39,11 +39,9 @@ const ENTRIES: &str = "0 1
 
 #[test]
 fn the_table_has_its_entries(rt: HostRuntime) -> Result<(), Fail> {
-    for row in ENTRIES.split('\n') {
-        let (place, price) = row.split_once(' ').ok_or("a price")?;
-        let place = place.parse()?;
-        assert!(rt; place <= LAST_INDEX);
-        agree(row, price_at(place).to_string(rt.alloc())?.as_str(), price)?;
+    for row in rows_of(rt.alloc(), ENTRIES)? {
+        let (place, price) = two_numbers(row)?;
+        assert!(rt; place <= LAST_INDEX && price_at(place) == price, "{row}");
     }
     Ok(())
 }
@@ -177,7 +175,9 @@ fn kept_prices_follow_each_load(rt: HostRuntime) -> Result<(), Fail> {
     let kept = kept_at_zero(rt.alloc(), &grid)?.ok_or("size")?;
     let (steps, lengths) = kept_steps(&grid, kept);
     assert!(rt; lengths[0] == 17 && lengths[1] == 17);
-    for (step, row) in steps.iter().zip(STEPS.split('\n')) {
+    let rows = rows_of(rt.alloc(), STEPS)?;
+    assert!(rt; rows.len() == steps.len());
+    for (step, row) in steps.iter().zip(rows) {
         agree(row, numbers_text(rt.alloc(), step)?.as_str(), row)?;
     }
     Ok(())

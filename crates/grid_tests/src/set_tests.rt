@@ -4,24 +4,11 @@ ghost use Rattle.std.specs.Prelude.{◌↔◌, All, IsTrue};
 ghost use Rattle.grid_base.specs.Numbers.{IsVertex};
 ghost use Rattle.tree_set.specs.Routings.{ArePieces};
 
-use crate::rows::agree;
 use grid_base::{Edge, Piece, Size, Vertex, Via};
-use std::alloc::{AllocError, Global};
+use std::alloc::Global;
 use std::test::Fail;
+use test_rows::{agree, set_text};
 use tree_set::{Fraction, Tree, joins};
-
-/// The edges and vias of a set by their numbers, in their order.
-fn set_text(alloc: Global, tree: &Tree) -> Result<String, AllocError> {
-    let mut text = String::new(alloc);
-    for piece in tree.pieces() {
-        let word = match *piece {
-            Piece::Edge(Edge(e)) => format!(in alloc; " e{e}"),
-            Piece::Via(Via(v)) => format!(in alloc; " v{v}"),
-        };
-        text.push_str(word?.as_str())?;
-    }
-    Ok(text)
-}
 
 #[test]
 fn a_list_with_repeats_is_a_rising_set(rt: HostRuntime) -> Result<(), Fail> {

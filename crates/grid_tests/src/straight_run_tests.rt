@@ -4,11 +4,11 @@ ghost use Rattle.std.specs.Prelude.{All, IsTrue};
 ghost use Rattle.grid_base.specs.Numbers.{IsPiece, IsVertex};
 ghost use Rattle.straight_runs.specs.Runs.{IsStraightRun};
 
-use crate::rows::{agree, numbers_text};
 use grid_base::{Piece, Size, Vertex};
 use std::alloc::Global;
 use std::test::Fail;
 use straight_runs::{Direction, LoadSums, Run, joins_surely, merged, piece_count, set_of_runs};
+use test_rows::{agree, numbers_text, rows_of, three_fields, two_numbers, vertices_of};
 use tree_set::joins;
 
 /// Whether a run has a piece, and all that it names are pieces of the grid.
@@ -79,37 +79,27 @@ fn north(first: u32, count: u32) -> Run {
     run(Direction::North, first, count)
 }
 
-/// The run that a field stands for: its direction, its first vertex and how many pieces it has.
-fn run_of(field: &str) -> Result<Run, Fail> {
-    let (word, numbers) = field.split_once(' ').ok_or("a direction")?;
-    let (first, count) = numbers.split_once(' ').ok_or("a count")?;
-    let direction = match word {
-        "east" => Direction::East,
-        "north" => Direction::North,
-        "up" => Direction::Up,
-        _ => return Err(Fail::new("no direction")),
-    };
-    Ok(run(direction, first.parse()?, count.parse()?))
+/// The run that a word stands for: its direction, its first vertex and how many pieces it has.
+fn run_of(word: &'static str) -> Result<Run, Fail> {
+    let (direction, numbers) = word.split_once(' ').ok_or("a direction")?;
+    let (first, count) = two_numbers(numbers)?;
+    match direction {
+        "east" => Ok(east(first, count)),
+        "north" => Ok(north(first, count)),
+        "up" => Ok(run(Direction::Up, first, count)),
+        _ => Err(Fail::new("no direction")),
+    }
 }
 
-fn runs_of(alloc: Global, field: &str) -> Result<Vec<Run>, Fail> {
+fn runs_of(alloc: Global, field: &'static str) -> Result<Vec<Run>, Fail> {
     let mut runs = Vec::new(alloc);
-    for field in field.split(';') {
-        runs.push(run_of(field)?)?;
+    for word in field.split(';') {
+        runs.push(run_of(word)?)?;
     }
     Ok(runs)
 }
 
-fn vertices_of(alloc: Global, field: &str) -> Result<Vec<Vertex>, Fail> {
-    let mut vertices = Vec::new(alloc);
-    for number in field.split(' ') {
-        vertices.push(Vertex(number.parse()?))?;
-    }
-    Ok(vertices)
-}
-
-/// Runs on a grid of eight columns, eight rows and two layers, vertices, and whether the runs join them. A line that begins
-/// with `#` says what follows.
+/// Runs on a grid of eight columns, eight rows and two layers, vertices, and whether the runs join them.
 const JOINED: &str = "# a cross: row 3 and column 4
 east 24 7;north 4 7|24 60|joined
 # a T: a column that ends at row 3
@@ -147,12 +137,8 @@ east 1 4;north 1 7;north 5 7;north 19 5;east 51 2|57 61 59|joined";
 fn runs_that_share_a_vertex_are_joined(rt: HostRuntime) -> Result<(), Fail> {
     let alloc = rt.alloc();
     let size = Size::new(8, 8, 2).ok_or("size")?;
-    for row in JOINED.split('\n') {
-        if row.starts_with('#') {
-            continue;
-        }
-        let (runs, rest) = row.split_once('|').ok_or("bar")?;
-        let (ends, wanted) = rest.split_once('|').ok_or("bar")?;
+    for row in rows_of(alloc, JOINED)? {
+        let (runs, ends, wanted) = three_fields(row)?;
         let runs = runs_of(alloc, runs)?;
         let ends = vertices_of(alloc, ends)?;
         let joined = are_joined(alloc, size, runs.as_slice(), ends.as_slice())?;

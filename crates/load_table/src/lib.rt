@@ -30,6 +30,3 @@ pub use laws::tables_are_sound_between_steps;
 pub use rule::Sums;
 pub use share::Share;
 pub use table::LoadTable;
-
-#[cfg(test)]
-mod tests;

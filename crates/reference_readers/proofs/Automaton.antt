@@ -29,8 +29,8 @@ use Rattle.route_text.proofs.Takes.{next_segment_takes, next_block_takes}
 use Rattle.reference_readers.specs.declared.taken.Part.{Part}
 use Rattle.reference_readers.specs.declared.taken.Part.TheVariants.{Name, Id, Further, Segments}
 use Rattle.reference_readers.specs.declared.taken.Taken.{Taken}
-use Rattle.reference_readers.specs.PlainBlocks.{at, segment_row, row_at, segments_left, blocks_behind, left_among, left_at}
-use Rattle.reference_readers.specs.PlainNumbers.{word_as_number}
+use Rattle.reference_readers.specs.ReferenceBlocks.{at, segment_row, row_at, segments_left, blocks_behind, left_among, left_at}
+use Rattle.reference_readers.specs.ReferenceNumbers.{word_as_number}
 use Rattle.reference_readers.proofs.WordNumbers.{word_is_number, word_is_no_number}
 
 -- a byte that is left

@@ -24,10 +24,10 @@ use Rattle.route_text.proofs.Takes.{next_segment_takes, next_block_takes}
 use Rattle.reference_readers.specs.declared.taken.Part.{Part}
 use Rattle.reference_readers.specs.declared.taken.Part.TheVariants.{Name, Id, Further, Segments}
 use Rattle.reference_readers.specs.declared.taken.Taken.{Taken}
-use Rattle.reference_readers.specs.PlainBlocks.{at, with_next_number, segment_row, row_at, segments_left, left_at_name}
-use Rattle.reference_readers.specs.PlainBlocks.{blocks_behind, left_at_id, left_at_further, left_at_segments, left_in_row}
-use Rattle.reference_readers.specs.PlainBlocks.{left_among, left_at, block_of}
-use Rattle.reference_readers.specs.PlainNumbers.{word_as_number}
+use Rattle.reference_readers.specs.ReferenceBlocks.{at, with_next_number, segment_row, row_at, segments_left, left_at_name}
+use Rattle.reference_readers.specs.ReferenceBlocks.{blocks_behind, left_at_id, left_at_further, left_at_segments, left_in_row}
+use Rattle.reference_readers.specs.ReferenceBlocks.{left_among, left_at, block_of}
+use Rattle.reference_readers.specs.ReferenceNumbers.{word_as_number}
 use Rattle.reference_readers.proofs.Automaton.{then-same, then-then, row_is_segment, place_here, byte_at, mark_taken, mark_refused}
 use Rattle.reference_readers.proofs.Automaton.{end_taken, one_more_segment, no_further, leads, token, number_taken, number_refused}
 use Rattle.reference_readers.proofs.Automaton.{further_taken, further_refused, coordinate_taken, coordinate_refused}

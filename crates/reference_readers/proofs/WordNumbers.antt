@@ -11,7 +11,7 @@ use Rattle.text_scan.specs.declared.number_fault.NumberFault.{NumberFault}
 use Rattle.text_scan.specs.declared.number_fault.NumberFault.TheVariants.{NotNumber, OutOfRange}
 use Rattle.text_scan.specs.Numbers.{is_sign, unsigned, is_number, is_within, value_of, token_number}
 use Rattle.text_scan.proofs.Digits.{numerals}
-use Rattle.reference_readers.specs.PlainNumbers.{word_as_number}
+use Rattle.reference_readers.specs.ReferenceNumbers.{word_as_number}
 
 -- a word that is a number in range is read as that number
 pub word_is_number : (lo hi z : ℤ) (place : ℕ) (word : List ℕ) → word_as_number lo hi word ≡ Some z

@@ -1,3 +1,3 @@
-pub mod PlainBlocks
-pub mod PlainNumbers
+pub mod ReferenceBlocks
+pub mod ReferenceNumbers
 pub mod Words

@@ -1,9 +1,9 @@
-//! The plain readers and those that are used answer alike, on all short texts and on a long one.
+//! The reference readers and those that are used answer alike, on all short texts and on a long one.
 
 ghost use Rattle.std.specs.Prelude.{◌<◌, ◌^◌, length};
 
-use crate::plain_blocks::blocks_by_automaton;
-use crate::plain_tokens::tokens_by_splitting;
+use crate::reference_blocks::blocks_by_automaton;
+use crate::reference_tokens::tokens_by_splitting;
 use route_text::{Block, RouteError, read_routes};
 use std::alloc::{AllocError, Global};
 use std::test::Fail;

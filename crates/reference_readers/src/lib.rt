@@ -1,6 +1,6 @@
-//! Plain slow readers of texts beside the fast ones.
+//! Reference readers of texts, which are slow, beside the fast ones.
 //!
-//! A plain reader answers by a method that is evident and slow, so that a reader who trusts it trusts the definition
+//! A reference reader answers by a method that is evident and slow, so that a reader who trusts it trusts the definition
 //! that its contract cites, and the tests compare it with the reader that is used:
 //!
 //! ```text
@@ -9,7 +9,7 @@
 //! ```
 //!
 //! It stands on `text_scan` and `route_text`, whose readers and definitions it compares, and on `grid_graph` for names.
-//! Nothing stands on it. Plain programs for pieces, distances and trees are in `reference_programs`.
+//! Nothing stands on it. Reference programs for pieces, distances and trees are in `reference_programs`.
 //!
 //! The readers stand with the tests that call them, so that they are proved once. Only the types that their definitions name
 //! stand without a test.
@@ -20,12 +20,12 @@
 #[cfg(test)]
 mod comparing_tests;
 #[cfg(test)]
-mod plain_blocks;
-#[cfg(test)]
-mod plain_numbers;
-#[cfg(test)]
-mod plain_tokens;
-#[cfg(test)]
 mod reading_tests;
+#[cfg(test)]
+mod reference_blocks;
+#[cfg(test)]
+mod reference_numbers;
+#[cfg(test)]
+mod reference_tokens;
 mod taken;
 mod word;

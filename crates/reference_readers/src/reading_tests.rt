@@ -1,9 +1,10 @@
 //! Route texts that are read, and that are refused.
 
-use crate::plain_blocks::blocks_by_automaton;
+use crate::reference_blocks::blocks_by_automaton;
 use route_text::{Block, Point, RouteError, read_routes};
 use std::alloc::{AllocError, Global};
 use std::test::Fail;
+use test_rows::{bytes_of, rows_of, two_fields};
 
 /// What was read: each block by its name, its id and its segments, with a line end behind it, or the place of the refusal.
 fn told(alloc: Global, read: Result<Vec<Block>, RouteError>) -> Result<Vec<u8>, AllocError> {
@@ -43,8 +44,7 @@ fn tell_point(alloc: Global, point: Point, told: &mut Vec<u8>) -> Result<(), All
 }
 
 /// Texts, and what is read of them, parted by a bar. A `;` stands for a line end, `?` and `~` for the bytes 0xff and 0x80.
-const READ: &str = "\
-|
+const READ: &str = "|
  \r;\t|
 a 0 9 (5,5,1) - (25,5,1)!|a 0 (5,5,1)-(25,5,1);
 a 0;(5,5,1)-(25,5,1);(7,8,1)-(7,8,2);!;|a 0 (5,5,1)-(25,5,1) (7,8,1)-(7,8,2);
@@ -91,35 +91,20 @@ a 0 (1,2,3) (1,2,3)!|refused at 12
 a 0 (5,5,1)-(25,5,1)|refused at 20
 a 0 (5,5,1)-(25,5,1) 3 !|refused at 21
 a 0 (1,1,1)-(2,1,1)! b|refused at 22
-a 0 !;b 0 (1,1,1)-(1,1,-)!|refused at 23
-";
-
-/// The bytes that a field stands for.
-fn bytes_of(alloc: Global, field: &str) -> Result<Vec<u8>, AllocError> {
-    let mut bytes = Vec::new(alloc);
-    for byte in field.as_bytes() {
-        bytes.push(match *byte {
-            b';' => b'\n',
-            b'?' => 0xff,
-            b'~' => 0x80,
-            other => other,
-        })?;
-    }
-    Ok(bytes)
-}
+a 0 !;b 0 (1,1,1)-(1,1,-)!|refused at 23";
 
 #[test]
 fn routes_are_read_as_they_were_worked_out(rt: HostRuntime) -> Result<(), Fail> {
     let alloc = rt.alloc();
-    for row in READ.lines() {
-        let (text, wanted) = row.split_once('|').ok_or("a bar")?;
+    for row in rows_of(alloc, READ)? {
+        let (text, wanted) = two_fields(row)?;
         let text = bytes_of(alloc, text)?;
         let wanted = bytes_of(alloc, wanted)?;
         let used = told(alloc, read_routes(alloc, text.as_slice()))?;
         assert!(rt; used.as_slice() == wanted.as_slice(), "in {row}");
-        let plain = told(alloc, blocks_by_automaton(alloc, text.as_slice()))?;
+        let reference = told(alloc, blocks_by_automaton(alloc, text.as_slice()))?;
         assert!(rt;
-            plain.as_slice() == wanted.as_slice(),
+            reference.as_slice() == wanted.as_slice(),
             "by the automaton, in {row}"
         );
     }

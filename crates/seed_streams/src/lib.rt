@@ -15,6 +15,3 @@
 mod stream;
 
 pub use stream::SeedWords;
-
-#[cfg(test)]
-mod tests;

@@ -4,6 +4,7 @@ use cert_text::{Cert, CertError, PriceList, read_cert, write_cert};
 use gr_desk::{Desk, MemDesk, Port};
 use std::alloc::{AllocError, Global};
 use std::test::Fail;
+use test_rows::{agree, rows_of, text_of, two_fields};
 use tree_set::{Budget, Fraction};
 
 /// The certificate of a design of three tiles in a row and one net from end to end, of 102 bytes.
@@ -136,11 +137,11 @@ grouter certificate 1;nets 1;forced 0;overflow 0;wirelength 2;peak 1/2;bound 1/2
 
 #[test]
 fn other_texts_are_refused_at_their_first_wrong_token(rt: HostRuntime) -> Result<(), Fail> {
-    for row in REFUSED.split('\n') {
-        let (text, wanted) = row.split_once('|').ok_or("bar")?;
-        let text = text.replace(rt.alloc(), ';', "\n")?;
+    for row in rows_of(rt.alloc(), REFUSED)? {
+        let (text, wanted) = two_fields(row)?;
+        let text = text_of(rt.alloc(), text)?;
         let found = refusal(rt.alloc(), text.as_str())?;
-        assert!(rt; found.as_str() == wanted, "{found} in {row}");
+        agree(row, found.as_str(), wanted)?;
     }
     Ok(())
 }

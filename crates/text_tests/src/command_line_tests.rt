@@ -3,6 +3,7 @@
 use command_words::{Command, MakeRequest, RouteRequest, TrialRequest, WordsError, command_of};
 use std::alloc::{AllocError, Global};
 use std::test::Fail;
+use test_rows::{agree, rows_of, two_fields};
 
 /// The words of a line, which one blank separates. Two blanks have an empty word between them.
 fn cut(alloc: Global, line: &str) -> Result<Vec<String>, AllocError> {
@@ -68,7 +69,7 @@ fn trial_shown(alloc: Global, request: &TrialRequest) -> Result<String, AllocErr
     format!(in alloc; "trial {seed} {cols} {rows} {layers} {nets}")
 }
 
-/// Words, and behind a bar what they are read as. A line that begins with `#` says what follows.
+/// Words, and behind a bar what they are read as.
 ///
 /// `route`: the names, the workers, the phases, the rounds, the seed, and the budget or 0. `make` and `trial`: the name or the
 /// seed, then the rest in the order seed, cols, rows, layers, nets.
@@ -224,21 +225,16 @@ trial |refused";
 
 #[test]
 fn commands_are_read_and_other_words_are_refused(rt: HostRuntime) -> Result<(), Fail> {
-    for case in COMMANDS.split('\n') {
-        if case.starts_with('#') {
-            continue;
-        }
-        let (line, want) = case.split_once('|').ok_or("bar")?;
+    for row in rows_of(rt.alloc(), COMMANDS)? {
+        let (line, wanted) = two_fields(row)?;
         let words = cut(rt.alloc(), line)?;
         let found = shown(rt.alloc(), words.as_slice())?;
-        assert!(rt; found.as_str() == want, "{case}");
+        agree(row, found.as_str(), wanted)?;
     }
     Ok(())
 }
 
 #[test]
 fn no_words_are_refused(rt: HostRuntime) -> Result<(), Fail> {
-    let found = shown(rt.alloc(), &[])?;
-    assert!(rt; found.as_str() == "refused");
-    Ok(())
+    agree("no words", shown(rt.alloc(), &[])?.as_str(), "refused")
 }

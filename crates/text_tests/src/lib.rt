@@ -1,4 +1,4 @@
-//! The tests of `text_scan`, `cert_text`, `command_words` and `gr_desk`.
+//! The tests of `text_scan`, `cert_text`, `command_words`, `gr_desk`, `seed_streams` and `gr_make`.
 //!
 //! They stand apart from what they test, since a crate with tests is proved once alone and once more with them. Nothing stands
 //! on it.
@@ -13,5 +13,9 @@ mod certificate_tests;
 mod command_line_tests;
 #[cfg(test)]
 mod desk_tests;
+#[cfg(test)]
+mod made_text_tests;
+#[cfg(test)]
+mod seed_tests;
 #[cfg(test)]
 mod token_tests;

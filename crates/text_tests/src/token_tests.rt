@@ -2,6 +2,9 @@
 
 ghost use Rattle.std.specs.Prelude.{◌≡◌, Ok};
 
+use std::alloc::{AllocError, Global};
+use std::test::Fail;
+use test_rows::{agree, bytes_of, four_fields, number_of, rows_of, three_fields, two_numbers};
 use text_scan::{Number, NumberFault, Scanner, Span};
 
 /// A design of one net, of 144 bytes.
@@ -14,23 +17,31 @@ fn number(value: i64, at: usize) -> Result<Number, NumberFault>
     Ok(Number { value, at })
 }
 
+/// A text, its first token by its start and its end, and the place behind it. The bytes of the last text are no ASCII.
+const TOKENS: &str = "|none|0
+ \t\r;|none|4
+ a |1 2|2
+\r;ab\r;|2 4|4
+ab\tc|0 2|2
+a\0b c|0 3|3
+\x0b\x0c #|0 2|2
+?~\u{a0} x|0 4|4";
+
 #[test]
-fn tokens_are_the_longest_runs_between_blanks(rt: HostRuntime) {
-    let cases: [(&[u8], Option<Span>, usize); 8] = [
-        (b"", None, 0),
-        (b" \t\r\n", None, 4),
-        (b" a ", Some(Span { start: 1, end: 2 }), 2),
-        (b"\r\nab\r\n", Some(Span { start: 2, end: 4 }), 4),
-        (b"ab\tc", Some(Span { start: 0, end: 2 }), 2),
-        (b"a\0b c", Some(Span { start: 0, end: 3 }), 3),
-        (b"\x0b\x0c #", Some(Span { start: 0, end: 2 }), 2),
-        (b"\xff\x80\xa0 x", Some(Span { start: 0, end: 3 }), 3),
-    ];
-    for (text, want, place) in cases {
-        let mut scanner = Scanner::over(text);
-        let read = scanner.token() == want && scanner.place() == place;
-        assert!(rt; read, "in {text:?}");
+fn tokens_are_the_longest_runs_between_blanks(rt: HostRuntime) -> Result<(), Fail> {
+    let alloc = rt.alloc();
+    for row in rows_of(alloc, TOKENS)? {
+        let (text, wanted, place) = three_fields(row)?;
+        let text = bytes_of(alloc, text)?;
+        let mut scanner = Scanner::over(text.as_slice());
+        let found = match scanner.token() {
+            Some(Span { start, end }) => format!(in alloc; "{start} {end}")?,
+            None => String::from_str(alloc, "none")?,
+        };
+        agree(row, found.as_str(), wanted)?;
+        assert!(rt; scanner.place() == number_of(place)?, "{row}");
     }
+    Ok(())
 }
 
 #[test]
@@ -51,93 +62,76 @@ fn the_places_in_a_design_are_known(rt: HostRuntime) {
     assert!(rt; scanner.number(0, 9) == Err(end) && end.place() == 144 && end.number() == 3);
 }
 
-#[test]
-fn a_number_is_a_whole_token(rt: HostRuntime) {
-    let cases: [(&[u8], i64, i64, Result<Number, NumberFault>, usize); 14] = [
-        (b" \n", 0, 9, Err(NumberFault::End { at: 2 }), 2),
-        (b" - 1", 0, 9, Err(NumberFault::NotNumber { at: 1 }), 2),
-        (b"+-1", -9, 9, Err(NumberFault::NotNumber { at: 0 }), 3),
-        (b"1x 2", 0, 9, Err(NumberFault::NotNumber { at: 0 }), 2),
-        (b"1\0", 0, 9, Err(NumberFault::NotNumber { at: 0 }), 2),
-        (b"-0", 0, 9, number(0, 0), 2),
-        (b"+007", 7, 7, number(7, 0), 4),
-        (b" -12\r\n", -12, 0, number(-12, 1), 4),
-        (b" 12 ", 0, 11, Err(NumberFault::OutOfRange { at: 1 }), 3),
-        (b" 12 ", 13, 99, Err(NumberFault::OutOfRange { at: 1 }), 3),
-        (
-            b"9223372036854775807",
-            i64::MIN,
-            i64::MAX,
-            number(i64::MAX, 0),
-            19,
-        ),
-        (
-            b"9223372036854775808",
-            i64::MIN,
-            i64::MAX,
-            Err(NumberFault::OutOfRange { at: 0 }),
-            19,
-        ),
-        (
-            b"-9223372036854775808",
-            i64::MIN,
-            i64::MAX,
-            number(i64::MIN, 0),
-            20,
-        ),
-        (
-            b"18446744073709551617",
-            0,
-            9,
-            Err(NumberFault::OutOfRange { at: 0 }),
-            20,
-        ),
-    ];
-    for (text, lo, hi, want, place) in cases {
-        let mut scanner = Scanner::over(text);
-        let read = scanner.number(lo, hi) == want && scanner.place() == place;
-        assert!(rt; read, "in {text:?}");
+fn fault_text(alloc: Global, fault: NumberFault) -> Result<String, AllocError> {
+    match fault {
+        NumberFault::End { at } => format!(in alloc; "end at {at}"),
+        NumberFault::NotNumber { at } => format!(in alloc; "no number at {at}"),
+        NumberFault::OutOfRange { at } => format!(in alloc; "out of range at {at}"),
     }
 }
 
+/// A text, the least and the greatest number, the number that is read with its place, and the place behind it.
+const NUMBERS: &str = " ;|0 9|end at 2|2
+ - 1|0 9|no number at 1|2
++-1|-9 9|no number at 0|3
+1x 2|0 9|no number at 0|2
+1\0|0 9|no number at 0|2
+-0|0 9|0 at 0|2
++007|7 7|7 at 0|4
+ -12\r;|-12 0|-12 at 1|4
+ 12 |0 11|out of range at 1|3
+ 12 |13 99|out of range at 1|3
+9223372036854775807|-9223372036854775808 9223372036854775807|9223372036854775807 at 0|19
+9223372036854775808|-9223372036854775808 9223372036854775807|out of range at 0|19
+-9223372036854775808|-9223372036854775808 9223372036854775807|-9223372036854775808 at 0|20
+18446744073709551617|0 9|out of range at 0|20";
+
 #[test]
-fn digits_need_not_end_a_token(rt: HostRuntime) {
-    let cases: [(&[u8], i128, i128, Result<i128, NumberFault>, usize); 11] = [
-        (b"\t ", 0, 9, Err(NumberFault::End { at: 2 }), 2),
-        (b"12)", 0, 99, Ok(12), 2),
-        (b" -5,7", -9, 9, Ok(-5), 3),
-        (b"+003-4", 0, 9, Ok(3), 4),
-        (b" 12)", 0, 11, Err(NumberFault::OutOfRange { at: 1 }), 3),
-        (b" -x", 0, 9, Err(NumberFault::NotNumber { at: 1 }), 1),
-        (b"(5", 0, 9, Err(NumberFault::NotNumber { at: 0 }), 0),
-        (b"  +", 0, 9, Err(NumberFault::NotNumber { at: 2 }), 2),
-        (
-            b"170141183460469231731687303715884105727!",
-            i128::MIN,
-            i128::MAX,
-            Ok(i128::MAX),
-            39,
-        ),
-        (
-            b"170141183460469231731687303715884105728!",
-            i128::MIN,
-            i128::MAX,
-            Err(NumberFault::OutOfRange { at: 0 }),
-            39,
-        ),
-        (
-            b"-170141183460469231731687303715884105728!",
-            i128::MIN,
-            i128::MAX,
-            Ok(i128::MIN),
-            40,
-        ),
-    ];
-    for (text, lo, hi, want, place) in cases {
-        let mut scanner = Scanner::over(text);
-        let read = scanner.digits(lo, hi) == want && scanner.place() == place;
-        assert!(rt; read, "in {text:?}");
+fn a_number_is_a_whole_token(rt: HostRuntime) -> Result<(), Fail> {
+    let alloc = rt.alloc();
+    for row in rows_of(alloc, NUMBERS)? {
+        let (text, range, wanted, place) = four_fields(row)?;
+        let text = bytes_of(alloc, text)?;
+        let (low, high) = two_numbers(range)?;
+        let mut scanner = Scanner::over(text.as_slice());
+        let found = match scanner.number(low, high) {
+            Ok(Number { value, at }) => format!(in alloc; "{value} at {at}")?,
+            Err(fault) => fault_text(alloc, fault)?,
+        };
+        agree(row, found.as_str(), wanted)?;
+        assert!(rt; scanner.place() == number_of(place)?, "{row}");
     }
+    Ok(())
+}
+
+/// A text, the least and the greatest number, the number that its digits are, and the place behind them.
+const DIGITS: &str = "\t |0 9|end at 2|2
+12)|0 99|12|2
+ -5,7|-9 9|-5|3
++003-4|0 9|3|4
+ 12)|0 11|out of range at 1|3
+ -x|0 9|no number at 1|1
+(5|0 9|no number at 0|0
+  +|0 9|no number at 2|2
+170141183460469231731687303715884105727!|-170141183460469231731687303715884105728 170141183460469231731687303715884105727|170141183460469231731687303715884105727|39
+170141183460469231731687303715884105728!|-170141183460469231731687303715884105728 170141183460469231731687303715884105727|out of range at 0|39
+-170141183460469231731687303715884105728!|-170141183460469231731687303715884105728 170141183460469231731687303715884105727|-170141183460469231731687303715884105728|40";
+
+#[test]
+fn digits_need_not_end_a_token(rt: HostRuntime) -> Result<(), Fail> {
+    let alloc = rt.alloc();
+    for row in rows_of(alloc, DIGITS)? {
+        let (text, range, wanted, place) = four_fields(row)?;
+        let (low, high) = two_numbers(range)?;
+        let mut scanner = Scanner::over(text.as_bytes());
+        let found = match scanner.digits(low, high) {
+            Ok(value) => value.to_string(alloc)?,
+            Err(fault) => fault_text(alloc, fault)?,
+        };
+        agree(row, found.as_str(), wanted)?;
+        assert!(rt; scanner.place() == number_of(place)?, "{row}");
+    }
+    Ok(())
 }
 
 #[test]

@@ -1,0 +1,87 @@
+//! Shares of one table of `load_table`, in one thread and in two.
+
+ghost use Rattle.std.specs.Prelude.{◌≡◌, ◌<◌, IfOk, replicate};
+
+use load_table::{LoadTable, Share};
+use std::alloc::{AllocError, Global};
+use std::test::Fail;
+use std::thread::join;
+
+#[test]
+fn a_share_finds_what_another_added(rt: HostRuntime) -> Result<(), Fail> {
+    let (table, mut share) = LoadTable::open(rt.alloc(), 1)?;
+    let mut other = share.split(&table, 1 << 61, &[0])?;
+    other.add(&table, 0, 5);
+    let found = share.load(&table, 0);
+    assert_eq!(rt; (found, share.last_of(0), share.share_of(0)), (5, 5, 0));
+    share.join(&table, other);
+    let word = share.load(&table, 0);
+    assert_eq!(rt;
+        (word, share.share_of(0), share.allotment()),
+        (5, 5, 1u64 << 62)
+    );
+    Ok(())
+}
+
+/// Adds `amount` to the two words a thousand times, loads each, and takes 1 from the second word again.
+fn work(mut share: Share, table: &LoadTable, amount: u64) -> Share
+    requires table { share.table ≡ table.now }
+    requires words { 1 < table.now.words }
+    ensures table { result.table ≡ table.now }
+{
+    for _ in 0..1000 {
+        for word in 0..2 {
+            if amount <= share.allotment() && share.share_of(word) <= share.allotment() - amount {
+                share.add(table, word, amount);
+            }
+            share.load(table, word);
+        }
+        if share.share_of(1) > 0 {
+            share.sub(table, 1, 1);
+        }
+    }
+    share
+}
+
+#[test]
+fn two_threads_at_once_leave_the_sums(rt: HostRuntime) -> Result<(), Fail> {
+    let (table, mut share) = LoadTable::open(rt.alloc(), 2)?;
+    share.add(&table, 0, 7);
+    let other = share.split(&table, 1 << 61, &[3, 0])?;
+    let (mut share, other) = join(
+        &rt,
+        || -> Share
+            requires { (share.table ≡ table) × (1 < table.words) }
+            ensures { result.table ≡ table }
+        { work(share, &table, 3) },
+        || -> Share
+            requires { (other.table ≡ table) × (1 < table.words) }
+            ensures { result.table ≡ table }
+        { work(other, &table, 4) },
+    );
+    assert_eq!(rt; (share.share_of(0), other.share_of(0)), (3004, 4003));
+    share.join(&table, other);
+    let words = (share.load(&table, 0), share.load(&table, 1));
+    assert_eq!(rt; words, (7007, 5000));
+    assert_eq!(rt; (share.share_of(0), share.share_of(1)), (7007, 5000));
+    assert_eq!(rt; share.allotment(), 1u64 << 62);
+    Ok(())
+}
+
+fn zeros(alloc: Global, count: usize) -> Result<Vec<u64>, AllocError>
+    ensures { IfOk result (λ zeros. zeros.items ≡ replicate count 0) }
+{
+    vec![in alloc; 0u64; count]
+}
+
+#[test]
+fn thousands_of_words_are_split_and_joined(rt: HostRuntime) -> Result<(), Fail> {
+    let alloc = rt.alloc();
+    let (table, mut share) = LoadTable::open(alloc, 5000)?;
+    let given = zeros(alloc, 5000)?;
+    let mut other = share.split(&table, 1 << 61, &given)?;
+    other.add(&table, 4999, 5);
+    share.join(&table, other);
+    assert_eq!(rt; (share.load(&table, 4999), share.share_of(4999)), (5, 5));
+    Ok(())
+}
