@@ -1,8 +1,8 @@
 //! A run on some words, over a desk that has no files.
 
 use gr_desk::{CallKind, Fail as FailedCall, MemDesk, Port};
-use routing_stages::OpenGate;
 use router_cli::run;
+use routing_stages::OpenGate;
 use std::alloc::{AllocError, Global};
 use std::thread::Threads;
 

@@ -6,8 +6,8 @@
 //! written. `;` is a line end within a text.
 
 use gr_desk::{CallKind, Fail as FailedCall, MemDesk, Port};
-use routing_stages::OpenGate;
 use router_cli::run;
+use routing_stages::OpenGate;
 use std::alloc::{AllocError, Global};
 use std::test::Fail;
 use std::thread::Threads;

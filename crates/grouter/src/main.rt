@@ -9,8 +9,8 @@ ghost use Rattle.router_cli.specs.Runs.{IsRun};
 
 use command_words::words_of;
 use gr_desk::{Desk, RealDesk};
-use routing_stages::{Gate, OpenGate};
 use router_cli::run;
+use routing_stages::{Gate, OpenGate};
 use std::alloc::{AllocError, Global};
 use std::env;
 use std::process::ExitCode;
