@@ -26,9 +26,9 @@ use Rattle.edge_prices.specs.PieceLists.{admits, edge, has_piece}
 use Rattle.edge_prices.specs.Weights.{cost}
 use Rattle.lower_bound.specs.Costs.{costed}
 use Rattle.lower_bound.specs.NetBounds.{IsNetBound}
-use Rattle.tree_set.specs.declared.budget.Budget.{Budget}
-use Rattle.tree_set.specs.declared.fraction.Fraction.{Fraction}
-use Rattle.tree_set.specs.Budgets.{most_of, price_per_piece}
+use Rattle.edge_prices.specs.declared.budget.Budget.{Budget}
+use Rattle.fractions.specs.declared.fraction.Fraction.{Fraction}
+use Rattle.edge_prices.specs.Budgets.{most_of, price_per_piece}
 use Rattle.tree_set.specs.Loads.{holds, load}
 use Rattle.tree_set.specs.Measures.{excess, overflow, IsPeakWith, wirelength}
 use Rattle.dual_bound.specs.DesignBounds.{IsBoundOfNet, IsSumOfBounds, IsBoundOrNone}

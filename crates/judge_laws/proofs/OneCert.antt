@@ -20,10 +20,10 @@ use Rattle.cert_text.specs.CertTokens.{digits_at, fixed_word_at, limited_at}
 use Rattle.cert_text.specs.StatedCerts.{budget_at, heading_at, labelled_fraction_at, labelled_number_at, prices_at, stated_at, stated_budget_at, stated_in, text_end_at}
 use Rattle.cert_text.specs.declared.ratio.Ratio.{Ratio}
 use Rattle.cert_text.proofs.LowestFractions.{only_fraction}
-use Rattle.tree_set.specs.declared.budget.Budget.{Budget}
-use Rattle.tree_set.specs.declared.fraction.Fraction.{Fraction}
-use Rattle.tree_set.specs.Budgets.{IsWithinLimits, MayBeBudget}
-use Rattle.tree_set.specs.Limits.{max_wirelength_price}
+use Rattle.edge_prices.specs.declared.budget.Budget.{Budget}
+use Rattle.fractions.specs.declared.fraction.Fraction.{Fraction}
+use Rattle.edge_prices.specs.Budgets.{IsWithinLimits}
+use Rattle.edge_prices.specs.Limits.{MayBeBudget, max_price}
 use Rattle.grid_graph.specs.Limits.{max_budget}
 
 -- ---- one certificate
@@ -79,8 +79,8 @@ stated_budget_within r =
     let Q : Budget × Reading → Type 0 = λ x. IsWithinLimits (Some x.0) in
     IfOk-behind Q (fixed_word_at (codes "budget") r) _ (λ word.
     IfOk-then _ Q (limited_at NumberLimit 1 max_budget word.1) _ (limited_within NumberLimit 1 max_budget word.1) (λ most inside.
-    IfOk-then _ Q (limited_at PriceLimit 0 max_wirelength_price most.1) _ (limited_within PriceLimit 0 max_wirelength_price most.1) (λ price low.
-    λ b is. subst (λ (x : Budget). MayBeBudget x.most × (x.price ≤ max_wirelength_price)) (same_Some _ _ is) (inside, low.1))))
+    IfOk-then _ Q (limited_at PriceLimit 0 max_price most.1) _ (limited_within PriceLimit 0 max_price most.1) (λ price low.
+    λ b is. subst (λ (x : Budget). MayBeBudget x.most × (x.price ≤ max_price)) (same_Some _ _ is) (inside, low.1))))
 
 budget_within : (version : Version) (r : Reading) → IfOk (budget_at version r) (λ x. IsWithinLimits x.0)
 budget_within One r = λ b is. absurd (cc is)

@@ -7,7 +7,7 @@ use Rattle.grid_graph.specs.Alike.{AreAlikeDesigns}
 use Rattle.ispd_reader.proofs.Alike.{one_design}
 use Rattle.route_text.specs.declared.block.Block.{Block}
 use Rattle.tree_set.specs.declared.measure.Measure.{Measure}
-use Rattle.tree_set.specs.Budgets.{IsWithinLimits, most_of}
+use Rattle.edge_prices.specs.Budgets.{IsWithinLimits, most_of}
 use Rattle.route_judge.specs.declared.reason.Reason.{Reason}
 use Rattle.route_judge.specs.Judgements.{IsJudged}
 use Rattle.route_judge.specs.Measured.{AreMeasured}
