@@ -1,6 +1,6 @@
 //! Whole runs of `make` and `trial`, the two commands that read no file.
 //!
-//! It stands on `router_cli`, `gr_desk` and `price_workers`. Nothing stands on it.
+//! It stands on `router_cli`, `gr_desk` and `routing_stages`. Nothing stands on it.
 
 #![tactic(auto)]
 

@@ -5,7 +5,6 @@ pub mod Sums
 pub mod Positions
 pub mod Readings
 pub mod TreeLimits
-pub mod Splits
 pub mod TurnSteps
 pub mod WorkerSteps
 pub mod PartSteps

@@ -28,15 +28,6 @@ not_earlier workers nets k worker position some from part =
     (λ (late : k ≤ worker). late)
     (cases_lt worker k)
 
--- and one before the begin of a part is in an earlier one
-pub not_later : (workers nets k worker position : ℕ) → 0 < workers → position < part_start workers nets k
-    → IsInPart workers nets worker position → worker < k
-not_later workers nets k worker position some before part =
-    ⊎_elim
-    (λ (early : worker < k). early)
-    (λ (late : k ≤ worker). absurd (omega (arith, before, part.from, part_start-le workers nets k worker some late)))
-    (cases_lt worker k)
-
 -- each position is in one part
 pub one_part : (workers nets a b position : ℕ) → 0 < workers → IsInPart workers nets a position
     → IsInPart workers nets b position → a ≡ b

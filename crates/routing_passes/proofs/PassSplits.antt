@@ -1,21 +1,25 @@
 -- A share that is split for two halves of a pass's workers, and what both halves have done.
-use Rattle.std.proofs.Common.{◌≡◌, ℕ, ◌+◌, ◌-◌, ◌*◌, ◌≤◌, ◌<◌, List, ◌++◌, length, ◌∙◌, arith}
+use Rattle.std.proofs.Common.{◌≡◌, ℕ, ◌+◌, ◌-◌, ◌*◌, ◌≤◌, ◌<◌, List, ◌++◌, length, slice_index, refl, sym, ◌∙◌, ap, arith}
+use Rattle.std.proofs.Common.{⊎_elim}
+use Rattle.std.proofs.lemmas.Bool.{cases_lt}
+use Rattle.std.proofs.lemmas.List.{append_assoc, get_or_past, length-append}
 use Rattle.grid_base.specs.declared.piece.Piece.{Piece}
 use Rattle.grid_graph.specs.declared.grid.Grid.{Grid}
 use Rattle.grid_graph.specs.Grids.{entries}
-use Rattle.tree_set.specs.Loads.{load_between}
-use Rattle.sharing_runs.specs.RepairRuns.{at_positions}
-use Rattle.std.proofs.lemmas.List.{length-append}
-use Rattle.load_core.specs.Parties.{joined, kept_after_split, split_off}
+use Rattle.load_core.specs.Parties.{share_at, joined, kept_after_split, split_off, IsPart}
 use Rattle.load_core.proofs.Entries.{get_or-minus, get_or-plus}
 use Rattle.load_table.specs.Holdings.{Holding, held}
-use Rattle.routing_passes.specs.Passes.{AreSplit, least_allotment}
+use Rattle.tree_set.specs.Loads.{load_between}
+use Rattle.sharing_runs.specs.Parts.{part_start}
+use Rattle.sharing_runs.specs.RepairRuns.{at_positions}
+use Rattle.routing_passes.specs.Histories.{parts_history}
+use Rattle.routing_passes.specs.Passes.{AreHalves, AreSplit, Pass, ServesTurns, least_allotment, old_sets, pass_nets, turns_load}
+use Rattle.routing_passes.specs.Passes.{turns_start}
+use Rattle.routing_passes.specs.PassTurns.{HadTurns, new_load}
 use Rattle.routing_passes.proofs.Parts.{part_start-le}
 use Rattle.routing_passes.proofs.Ranges.{until}
-use Rattle.routing_passes.proofs.Splits.{IsGiven, ServesBoth, given_within, histories_joined}
+use Rattle.routing_passes.proofs.Readings.{parts_history-append}
 use Rattle.routing_passes.proofs.Sums.{load_between-split, load_on-behind_append, sum_by-both}
-use Rattle.routing_passes.specs.Passes.{Pass, ServesTurns, old_sets, pass_nets, turns_load, turns_start}
-use Rattle.routing_passes.specs.PassTurns.{HadTurns, new_load}
 use Rattle.routing_passes.proofs.TurnSteps.{AreTurns-append}
 
 -- a later worker's turns don't begin before those of an earlier one
@@ -47,57 +51,104 @@ both_halves p first middle last r some low high =
     turns_load-split p (turns_start p first) (turns_start p middle) (turns_start p last) r
     (turns_start-le p first middle some low) (turns_start-le p middle last some high)
 
--- so a share that serves all of them serves both halves
-pub serves_both : (p : Pass) (first middle last : ℕ) (share : Holding) → 1 ≤ p.workers → first ≤ middle → middle ≤ last
-    → ServesTurns p first last share
-    → ServesBoth (entries p.design.grid) first last (workers_load p first middle) (workers_load p middle last) share
-serves_both p first middle last share some low high serves = record {
-  allot = serves.allot;
-  both = λ r within. omega (arith, serves.loads r within, both_halves p first middle last r some low high);
-  few = λ r. omega (arith, serves.few r);
-}
+-- workers, of which those from a middle one on get a share of their own
+pub record AreDivided (p : Pass) (first middle last : ℕ) : Type 0 where
+  pub some : 1 ≤ p.workers
+  pub low : first < middle
+  pub high : middle < last
+  pub most : last ≤ p.workers
 
--- the share that is left serves the first half
-pub kept_serves : (p : Pass) (first middle last : ℕ) (given : List ℕ) (share : Holding)
-    → 1 ≤ p.workers → last ≤ p.workers → first < middle → middle < last
-    → ServesTurns p first last share → IsGiven (entries p.design.grid) (workers_load p middle last) given
-    → ServesTurns p first middle (held share.table (kept_after_split share.party ((last - middle) * least_allotment) given))
-kept_serves p first middle last given share some most low high serves is = record {
-  table = serves.table;
-  allot = omega (arith, serves.allot, low, high);
-  whole = λ one. absurd (omega (arith, one, most, low, high));
-  alone = λ one. absurd (omega (arith, one, most, low, high));
-  loads = λ r within. omega (
-    arith,
-    get_or-minus share.party.shares given r,
-    serves.loads r within,
-    is.amounts r,
-    both_halves p first middle last r some (omega (arith, low)) (omega (arith, high)),
-  );
-  few = λ r. omega (arith, get_or-minus share.party.shares given r, serves.few r);
-}
+-- it is given the load of all sets in the turns of these workers
+pub record IsGiven (p : Pass) (middle last : ℕ) (given : List ℕ) : Type 0 where
+  pub long : length given ≡ entries p.design.grid
+  pub amounts : (r : ℕ) → slice_index given r ≡ workers_load p middle last r
 
--- and the one that is split off the second
-pub given_serves : (p : Pass) (first middle last : ℕ) (given : List ℕ) (share : Holding)
-    → 1 ≤ p.workers → last ≤ p.workers → first < middle → middle < last
-    → ServesTurns p first last share → IsGiven (entries p.design.grid) (workers_load p middle last) given
-    → ServesTurns p middle last (held share.table (split_off ((last - middle) * least_allotment) given))
-given_serves p first middle last given share some most low high serves is =
-    let both : ServesBoth (entries p.design.grid) first last (workers_load p first middle) (workers_load p middle last) share =
-    serves_both p first middle last share some (omega (arith, low)) (omega (arith, high)) serves in
+-- that is no more than the whole share has
+given_within : (p : Pass) (first middle last : ℕ) (given : List ℕ) (share : Holding) (r : ℕ) → AreDivided p first middle last
+    → ServesTurns p first last share → IsGiven p middle last given → slice_index given r ≤ share_at r share.party
+given_within p first middle last given share r two serves is =
+    ⊎_elim
+    (λ (within : r < entries p.design.grid). omega (
+      arith,
+      serves.loads r within,
+      is.amounts r,
+      both_halves p first middle last r two.some (omega (arith, two.low)) (omega (arith, two.high)),
+    ))
+    (λ (beyond : entries p.design.grid ≤ r). omega (arith, get_or_past given r 0 (omega (arith, beyond, is.long))))
+    (cases_lt r (entries p.design.grid))
+
+-- so it may be split off
+pub may_be_given : (p : Pass) (first middle last : ℕ) (given : List ℕ) (share : Holding) → AreDivided p first middle last
+    → ServesTurns p first last share → IsGiven p middle last given
+    → IsPart (entries p.design.grid) share.party ((last - middle) * least_allotment) given
+may_be_given p first middle last given share two serves is =
+    let within : (r : ℕ) → slice_index given r ≤ share_at r share.party =
+    λ r. given_within p first middle last given share r two serves is in
     record {
-      table = serves.table;
-      allot = omega arith;
-      whole = λ one. absurd (omega (arith, one, most, low, high));
-      alone = λ one. absurd (omega (arith, one, most, low, high));
-      loads = λ r within. omega (arith, is.amounts r);
-      few = λ r. omega (
-        arith,
-        given_within (entries p.design.grid) first last (workers_load p first middle)
-            (workers_load p middle last) given share r both is,
-        serves.few r,
-      );
+      long = is.long;
+      enough = omega (arith, serves.allot, two.low, two.high);
+      had = within;
+      fits = λ r. omega (arith, within r, serves.few r, two.high);
+      rest = λ r. omega (arith, serves.few r, serves.allot, two.low, two.high);
     }
+
+-- and then both halves are served
+pub halves_served : (p : Pass) (first middle last : ℕ) (given : List ℕ) (share : Holding) → AreDivided p first middle last
+    → ServesTurns p first last share → IsGiven p middle last given
+    → AreHalves p first middle last share
+    (held share.table (kept_after_split share.party ((last - middle) * least_allotment) given))
+    (held share.table (split_off ((last - middle) * least_allotment) given))
+halves_served p first middle last given share two serves is =
+    let within : (r : ℕ) → slice_index given r ≤ share_at r share.party =
+    λ r. given_within p first middle last given share r two serves is in
+    record {
+      kept = record {
+        table = serves.table;
+        allot = omega (arith, serves.allot, two.low, two.high);
+        whole = λ one. absurd (omega (arith, one, two.most, two.low, two.high));
+        alone = λ one. absurd (omega (arith, one, two.most, two.low, two.high));
+        loads = λ r inside. omega (
+          arith,
+          get_or-minus share.party.shares given r,
+          serves.loads r inside,
+          is.amounts r,
+          both_halves p first middle last r two.some (omega (arith, two.low)) (omega (arith, two.high)),
+        );
+        few = λ r. omega (arith, get_or-minus share.party.shares given r, serves.few r);
+      };
+      given = record {
+        table = serves.table;
+        allot = omega arith;
+        whole = λ one. absurd (omega (arith, one, two.most, two.low, two.high));
+        alone = λ one. absurd (omega (arith, one, two.most, two.low, two.high));
+        loads = λ r inside. omega (arith, is.amounts r);
+        few = λ r. omega (arith, within r, serves.few r);
+      };
+      split = record {
+        kept_table = refl;
+        other_table = refl;
+        allot = omega (arith, serves.allot, two.low, two.high);
+        shares = λ r. omega (arith, get_or-minus share.party.shares given r, within r);
+        kept_history = refl;
+        other_history = refl;
+      };
+    }
+
+-- what both halves read, one behind the other, stands behind the history from before
+pub histories_joined : (workers nets first middle last : ℕ) (one two : ℕ → List ℕ) (old kept other left right : Holding)
+    → 1 ≤ workers → first ≤ middle → middle ≤ last → AreSplit old kept other
+    → left.party.history ≡ kept.party.history ++ parts_history workers nets one first (middle - first)
+    → right.party.history ≡ other.party.history ++ parts_history workers nets two middle (last - middle)
+    → left.party.history ++ right.party.history
+    ≡ old.party.history ++ parts_history workers nets (until (part_start workers nets middle) one two) first (last - first)
+histories_joined workers nets first middle last one two old kept other left right some low high split before behind =
+    ap (λ h. h ++ right.party.history)
+    (before ∙ ap (λ h. h ++ parts_history workers nets one first (middle - first)) split.kept_history)
+    ∙ ap (λ h. old.party.history ++ parts_history workers nets one first (middle - first) ++ h)
+    (behind ∙ ap (λ h. h ++ parts_history workers nets two middle (last - middle)) split.other_history)
+    ∙ append_assoc old.party.history (parts_history workers nets one first (middle - first))
+    (parts_history workers nets two middle (last - middle))
+    ∙ ap (λ h. old.party.history ++ h) (sym (parts_history-append workers nets one two first middle last some low high))
 
 -- both halves had their turns, and the shares are joined
 pub halves_joined : (p : Pass) (first middle last : ℕ) (old kept other left right : Holding) (s t : List (List Piece))

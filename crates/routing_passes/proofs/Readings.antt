@@ -1,5 +1,5 @@
 -- Histories: a reading more, and those of parts side by side.
-use Rattle.std.proofs.Common.{◌≡◌, ◌≢◌, ℕ, ◌+◌, ◌-◌, ◌*◌, ◌%◌, ◌≤◌, ◌<◌, List, [], ◌++◌, refl, ◌∙◌, ap, arith}
+use Rattle.std.proofs.Common.{◌≡◌, ◌≢◌, ℕ, ◌+◌, ◌-◌, ◌*◌, ◌%◌, ◌≤◌, ◌<◌, List, ◌++◌, ◌∙◌, ap, arith}
 use Rattle.std.specs.List.{flat_map, range_with_len}
 use Rattle.price_workers.specs.Readings.{loads_of_reading}
 use Rattle.sharing_runs.specs.Parts.{part_start, nets_per_reading}
@@ -7,10 +7,6 @@ use Rattle.routing_passes.specs.Histories.{stretches, nets_history, part_history
 use Rattle.routing_passes.proofs.Parts.{part_start-le}
 use Rattle.routing_passes.proofs.Ranges.{flat_map-more, flat_map-split, flat_map-one, flat_map-same, until, until-below}
 use Rattle.routing_passes.proofs.Ranges.{until-from}
-
--- no net, no reading
-pub nets_history-none : (read : ℕ → List ℕ) (start : ℕ) → nets_history read start 0 ≡ []
-nets_history-none read start = refl
 
 -- the readings of nets are those at the positions of these nets
 pub nets_history-same : (f g : ℕ → List ℕ) (start nets : ℕ) → ((k : ℕ) → start ≤ k → k < start + nets → f k ≡ g k)
