@@ -6,9 +6,7 @@ ghost use Rattle.routing_stages.specs.Limits.{max_workers};
 ghost use Rattle.routing_stages.specs.Settings.{AreSettings, workers_in_use};
 
 use grid_base::Size;
-
-/// All workers together have labels for so many vertices at most.
-const MAX_LABELLED: u32 = 1 << 24;
+use label_search::MAX_LABELLED;
 
 /// What a run is asked for: 1 to 8 workers, 1 to 16 phases, at most 16 rounds of repair, the seed of the picks, and the
 /// wirelength that is to be kept, from 1 to 2^42, or none.
