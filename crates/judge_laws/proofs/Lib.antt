@@ -9,5 +9,6 @@ pub mod Resources
 pub mod TrueClaims
 pub mod CertLimits
 pub mod OneVerdict
+pub mod Kept
 pub mod OpenPrices
 pub mod OtherPrices

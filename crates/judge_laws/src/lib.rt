@@ -2,7 +2,8 @@
 //! claims what is true of them.
 //!
 //! It stands on `route_judge` for the judgement, on `route_text` for the blocks that are written, on `cert_text` for
-//! certificates, and on `dual_bound`, `edge_prices`, `tree_set`, `grid_graph` and `grid_base`. Nothing is computed here.
+//! certificates, and on `dual_bound`, `edge_prices`, `tree_set`, `grid_graph` and `grid_base`. But for the prices
+//! that a certificate lists (`open_prices`) nothing is computed here.
 //!
 //! Promised: a design, sets that join its nets without walls and a true certificate of them have one judgement, a yes, and the
 //! judge measures what the certificate states. So whoever writes down what it knows to be true is never refused. Routes and a
@@ -12,8 +13,10 @@
 #![tactic(auto)]
 
 mod laws;
+mod listing;
 
 pub use laws::{
     certificates_with_another_bound_are_accepted, one_verdict, true_certificates_read_back,
     true_claims_are_accepted, written_routes_are_accepted,
 };
+pub use listing::open_prices;
