@@ -3,8 +3,8 @@
 
 ghost use Rattle.std.specs.Prelude.{◌≡◌, IsErr, IfOk};
 ghost use Rattle.std.specs.Process.{exit_status};
-ghost use Rattle.judge_cli.specs.declared.refusal.Refusal.TheVariants.{NoMemory};
-ghost use Rattle.judge_cli.specs.Lines.{status_of};
+ghost use Rattle.command_runs.specs.declared.refusal.Refusal.TheVariants.{NoMemory};
+ghost use Rattle.command_runs.specs.Lines.{status_of};
 ghost use Rattle.router_cli.specs.Runs.{IsRun};
 
 use command_words::words_of;

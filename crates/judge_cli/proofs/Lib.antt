@@ -1,13 +1,2 @@
-pub mod Endings
-pub mod Fields
-pub mod Outcomes
-pub mod Traces
-pub mod Causes
-pub mod ReadFiles
-pub mod RefusedRuns
-pub mod MadeFiles
-pub mod FilePorts
-pub mod LeftOutcomes
-pub mod EndedRuns
-pub mod AnsweredRuns
+pub mod JudgedFiles
 pub mod JudgedRuns

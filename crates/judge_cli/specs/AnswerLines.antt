@@ -1,5 +1,5 @@
--- Lines of what is said of routes that are judged.
-use Rattle.std.specs.Prelude.{ℕ, List, [], ◌∷◌, ◌++◌, codes, Option}
+-- What is said of routes that are judged: its lines, and what a run leaves that says it.
+use Rattle.std.specs.Prelude.{ℕ, Bool, true, false, List, [], ◌∷◌, ◌++◌, codes, Option}
 use Rattle.cert_text.specs.CertText.{labelled, fraction_text}
 use Rattle.route_judge.specs.declared.reason.Reason.{Reason}
 use Rattle.route_judge.specs.declared.reason.Reason.TheVariants.{UnknownNet, RepeatedNet, MissingNet, PointOutside, Slanted, OnWall, NotJoined, WrongOverflow, WrongWirelength, WrongPeak, WrongCount, BoundTooHigh}
@@ -9,7 +9,8 @@ use Rattle.fractions.specs.declared.fraction.Fraction.{Fraction}
 use Rattle.judge_cli.specs.declared.answer.Answer.{Answer}
 use Rattle.judge_cli.specs.declared.answer.Answer.TheVariants.{Measured, Yes, No}
 use Rattle.judge_cli.specs.declared.routes_report.RoutesReport.{RoutesReport}
-use Rattle.judge_cli.specs.Lines.{fields, line, budget_line, done_status, objected_status, unwritten_status}
+use Rattle.command_runs.specs.CommandRun.{RunOutcome}
+use Rattle.command_runs.specs.Lines.{fields, line, budget_line}
 
 -- two fractions or none, each behind a space
 abbrev pub fraction_fields : Option Fraction → Option Fraction → List ℕ
@@ -51,14 +52,12 @@ answer_text (Yes report bound budget) =
     codes "yes\n" ++ routes_report_text report ++ labelled (codes "bound") (fraction_text bound) ++ budget_line budget
 answer_text (No reason) = reason_text reason
 
--- the status of a run that said it
-abbrev pub answer_status : Answer → ℕ
-answer_status (Measured report) = done_status
-answer_status (Yes report bound budget) = done_status
-answer_status (No reason) = objected_status
+-- it is a reason against what was judged
+abbrev pub is_objection : Answer → Bool
+is_objection (Measured report) = false
+is_objection (Yes report bound budget) = false
+is_objection (No reason) = true
 
--- and that of one that could not say it whole; an objection stands all the same
-abbrev pub unsaid_status : Answer → ℕ
-unsaid_status (Measured report) = unwritten_status
-unsaid_status (Yes report bound budget) = unwritten_status
-unsaid_status (No reason) = objected_status
+-- what a run has to leave that says it
+abbrev pub answer_outcome : Answer → RunOutcome
+answer_outcome answer = record { texts = []; report = answer_text answer; objects = is_objection answer }

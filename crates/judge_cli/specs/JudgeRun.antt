@@ -15,11 +15,12 @@ use Rattle.fractions.specs.declared.fraction.Fraction.{Fraction}
 use Rattle.edge_prices.specs.Budgets.{most_of}
 use Rattle.judge_cli.specs.declared.answer.Answer.{Answer}
 use Rattle.judge_cli.specs.declared.answer.Answer.TheVariants.{Measured, Yes, No}
+use Rattle.judge_cli.specs.AnswerLines.{answer_outcome}
 use Rattle.judge_cli.specs.declared.routes_report.RoutesReport.{RoutesReport}
-use Rattle.judge_cli.specs.AnsweredRun.{IsAnsweredRun}
+use Rattle.command_runs.specs.AnsweredRun.{IsAnsweredRun}
 use Rattle.ispd_reader.specs.Limits.{max_bytes}
 use Rattle.judge_cli.specs.MeasureRun.{AreReadRoutes, IsReportOf}
-use Rattle.judge_cli.specs.Sources.{Source, IfTold}
+use Rattle.command_runs.specs.Sources.{Source, HasBytes}
 
 -- ---- what its words ask for
 
@@ -48,9 +49,9 @@ judge_sources q =
 
 -- ---- what it says
 
--- the certificate that the bytes under the name have, where the desk tells these bytes
+-- the certificate that the bytes of the file have
 abbrev pub IsReadCert : List ℕ → Told → Cert → Type 0
-IsReadCert name told cert = IfTold told.files name (λ bytes. (length bytes ≤ max_bytes) × IsCertOf bytes cert)
+IsReadCert name told cert = HasBytes told.files name (λ bytes. (length bytes ≤ max_bytes) × IsCertOf bytes cert)
 
 -- routes and a certificate are accepted: nothing can be objected to them, the report is that of the routes with the certificate's
 -- budget, and what is stated is the certificate's bound, which is at most the greatest load/capacity of every routing, whole
@@ -83,4 +84,4 @@ pub record IsJudgeAnswer (q : JudgeTask) (told : Told) (answer : Answer) : Type 
 
 -- a run of `judge` with this task
 abbrev pub IsJudgeRun : JudgeTask → Told → Told → ℕ → Type 0
-IsJudgeRun q before after status = IsAnsweredRun (judge_sources q) (IsJudgeAnswer q before) before after status
+IsJudgeRun q before after status = IsAnsweredRun (judge_sources q) [] answer_outcome (IsJudgeAnswer q before) before after status

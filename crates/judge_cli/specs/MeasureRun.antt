@@ -15,10 +15,11 @@ use Rattle.route_judge.specs.Objections.{Finds}
 use Rattle.route_judge.specs.Orders.{route_objections, AreRoutes}
 use Rattle.judge_cli.specs.declared.answer.Answer.{Answer}
 use Rattle.judge_cli.specs.declared.answer.Answer.TheVariants.{Measured, Yes, No}
+use Rattle.judge_cli.specs.AnswerLines.{answer_outcome}
 use Rattle.judge_cli.specs.declared.routes_report.RoutesReport.{RoutesReport}
-use Rattle.judge_cli.specs.AnsweredRun.{IsAnsweredRun}
-use Rattle.judge_cli.specs.JudgedTexts.{blocks_or_refusal}
-use Rattle.judge_cli.specs.Sources.{Source, IfTold}
+use Rattle.command_runs.specs.AnsweredRun.{IsAnsweredRun}
+use Rattle.command_runs.specs.JudgedTexts.{blocks_or_refusal}
+use Rattle.command_runs.specs.Sources.{Source, HasBytes}
 
 -- ---- what its words ask for
 
@@ -44,11 +45,11 @@ measure_sources q = record { port = In; name = q.input } ∷ record { port = Rou
 
 -- ---- what it says
 
--- a design with its nets' grounds, and blocks: those that the bytes under the names say, where the desk tells these bytes
+-- a design with its nets' grounds, and blocks: those that the bytes of the two files say
 pub record AreReadRoutes (input routes : List ℕ) (told : Told) (d : Design) (over : List Ground) (blocks : List Block) : Type 0 where
-  pub named : IfTold told.files input (λ bytes. IsDesignOfText bytes d)
+  pub named : HasBytes told.files input (λ bytes. IsDesignOfText bytes d)
   pub grounds : AreGrounds d.grid d.nets over
-  pub blocks_are : IfTold told.files routes (λ bytes. blocks_or_refusal bytes ≡ Ok blocks)
+  pub blocks_are : HasBytes told.files routes (λ bytes. blocks_or_refusal bytes ≡ Ok blocks)
 
 -- the counts of nets and of forced nets, the measure of the sets that the blocks give the nets, with or without a budget, and
 -- how many nets go beyond their grounds
@@ -76,4 +77,4 @@ pub record IsMeasureAnswer (q : MeasureTask) (told : Told) (answer : Answer) : T
 
 -- a run of `measure` with this task
 abbrev pub IsMeasureRun : MeasureTask → Told → Told → ℕ → Type 0
-IsMeasureRun q before after status = IsAnsweredRun (measure_sources q) (IsMeasureAnswer q before) before after status
+IsMeasureRun q before after status = IsAnsweredRun (measure_sources q) [] answer_outcome (IsMeasureAnswer q before) before after status

@@ -1,10 +1,9 @@
 //! What is said of routes that are judged.
 
 ghost use Rattle.std.specs.Prelude.{◌≡◌};
-ghost use Rattle.judge_cli.specs.AnswerLines.{answer_status, unsaid_status};
+ghost use Rattle.judge_cli.specs.AnswerLines.{is_objection};
 
 use crate::routes_report::RoutesReport;
-use crate::statuses::{DONE, OBJECTED, UNWRITTEN};
 use route_judge::Reason;
 use tree_set::{Budget, Fraction};
 
@@ -24,23 +23,10 @@ pub enum Answer {
 }
 
 impl Answer {
-    /// The status that the program ends with.
-    pub fn status(self) -> u8
-        ensures { result ≡ answer_status self }
+    /// Whether it is a reason against what was judged.
+    pub fn is_objection(self) -> bool
+        ensures { result ≡ is_objection self }
     {
-        match self {
-            Answer::Measured(_) | Answer::Yes { .. } => DONE,
-            Answer::No(_) => OBJECTED,
-        }
-    }
-
-    /// The status that it ends with where this could not be said whole. An objection stands all the same.
-    pub fn unsaid_status(self) -> u8
-        ensures { result ≡ unsaid_status self }
-    {
-        match self {
-            Answer::Measured(_) | Answer::Yes { .. } => UNWRITTEN,
-            Answer::No(_) => OBJECTED,
-        }
+        matches!(self, Answer::No(_))
     }
 }

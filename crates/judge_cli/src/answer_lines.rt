@@ -1,15 +1,14 @@
 //! Lines of what is said of routes that are judged.
 
 ghost use Rattle.std.specs.Prelude.{◌≡◌};
-ghost use Rattle.gr_desk.specs.declared.port.Port.TheVariants.{Report};
-ghost use Rattle.gr_desk.specs.Pens.{Puts, Ends, pen_told, HasSameDesk};
+ghost use Rattle.gr_desk.specs.Pens.{Puts, pen_told, HasSameDesk};
 ghost use Rattle.judge_cli.specs.AnswerLines.{answer_text, fraction_fields, reason_fields, reason_text, routes_report_text};
 
 use crate::answer::Answer;
-use crate::lines::{put_budget, put_fields, put_line};
 use crate::routes_report::RoutesReport;
 use cert_text::{put_fraction, put_labelled_fraction};
-use gr_desk::{Desk, Failed, Pen, Port};
+use command_runs::{Said, put_budget, put_fields, put_line};
+use gr_desk::{Desk, Pen};
 use route_judge::Reason;
 use tree_set::Fraction;
 
@@ -81,32 +80,25 @@ fn put_routes_report<D: Desk>(pen: &mut Pen<'_, D>, report: RoutesReport)
     put_labelled_fraction(pen, b"peak", report.measure.peak);
 }
 
-/// Puts what is said.
-fn put_answer<D: Desk>(pen: &mut Pen<'_, D>, answer: Answer)
-    ensures same_desk { HasSameDesk pen.old pen.new }
-    ensures puts { Puts (pen_told D.told pen.old) (pen_told D.told pen.new) (answer_text answer) }
-{
-    match answer {
-        Answer::Measured(report) => put_routes_report(pen, report),
-        Answer::Yes {
-            report,
-            bound,
-            budget,
-        } => {
-            pen.put(b"yes\n");
-            put_routes_report(pen, report);
-            put_labelled_fraction(pen, b"bound", bound);
-            put_budget(pen, budget);
-        }
-        Answer::No(reason) => put_reason(pen, reason),
-    }
-}
+impl Said for Answer {
+    ghost may = { λ _. Unit {0} };
 
-/// Writes on the report what is said.
-pub(crate) fn write_answer<D: Desk>(desk: &mut D, answer: Answer) -> Result<(), Failed>
-    ensures { Ends (D.told desk.old) (D.told desk.new) Report (answer_text answer) result }
-{
-    let mut pen = Pen::new(desk, Port::Report);
-    put_answer(&mut pen, answer);
-    pen.finish()
+    ghost text = { answer_text };
+
+    fn put<D: Desk>(&self, pen: &mut Pen<'_, D>) {
+        match *self {
+            Answer::Measured(report) => put_routes_report(pen, report),
+            Answer::Yes {
+                report,
+                bound,
+                budget,
+            } => {
+                pen.put(b"yes\n");
+                put_routes_report(pen, report);
+                put_labelled_fraction(pen, b"bound", bound);
+                put_budget(pen, budget);
+            }
+            Answer::No(reason) => put_reason(pen, reason),
+        }
+    }
 }

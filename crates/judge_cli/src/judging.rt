@@ -4,16 +4,13 @@ ghost use Rattle.std.specs.Prelude.{◌≡◌, IfOk};
 ghost use Rattle.cert_text.specs.Certs.{IsCertWithin};
 ghost use Rattle.grid_graph.specs.Grounds.{AreGrounds};
 ghost use Rattle.route_judge.specs.Limits.{AreBlocks};
-ghost use Rattle.judge_cli.specs.JudgeRun.{IsJudgeAnswer, IsJudgeRun, IsTrueOfCert, judge_sources, judge_task_of};
-ghost use Rattle.judge_cli.specs.Steps.{ReadsSources};
+ghost use Rattle.judge_cli.specs.JudgeRun.{IsJudgeRun, IsTrueOfCert, judge_task_of};
 
 use crate::answer::Answer;
 use crate::certified_input::CertifiedInput;
+use crate::judged_files::read_certified;
 use crate::measuring::report_of;
-use crate::refusal::Refusal;
-use crate::refusing::refuse;
-use crate::saying::say;
-use crate::sources::read_certified;
+use command_runs::{Refusal, refuse, say};
 use command_words::JudgeRequest;
 use gr_desk::Desk;
 use grid_base::NoMemory;
@@ -30,30 +27,19 @@ pub fn judge<R: Threads + Sync, D: Desk>(
 ) -> u8
     ensures { IsJudgeRun (judge_task_of request.now) (D.told desk.old) (D.told desk.new) result }
 {
-    match judged(rt, alloc, request, desk) {
-        Ok(answer) => say(desk, answer),
-        Err(refusal) => refuse(desk, refusal),
-    }
-}
-
-/// Reads the design, the routes and the certificate under the names, and judges these two.
-fn judged<R: Threads + Sync, D: Desk>(
-    rt: &R,
-    alloc: Global,
-    request: &JudgeRequest<'_>,
-    desk: &mut D,
-) -> Result<Answer, Refusal>
-    ensures answer { IfOk result (IsJudgeAnswer (judge_task_of request.now) (D.told desk.old)) }
-    ensures reads { ReadsSources (judge_sources (judge_task_of request.now)) (D.told desk.old) (D.told desk.new) result }
-{
-    let read = read_certified(
+    match read_certified(
         alloc,
         desk,
         request.input,
         request.routes,
         request.certificate,
-    )?;
-    Ok(answer_on_cert(rt, alloc, &read)?)
+    ) {
+        Ok(read) => match answer_on_cert(rt, alloc, &read) {
+            Ok(answer) => say(desk, &answer, answer.is_objection()),
+            Err(NoMemory) => refuse(desk, Refusal::NoMemory),
+        },
+        Err(refusal) => refuse(desk, refusal),
+    }
 }
 
 /// What is said of routes and a certificate.

@@ -1,5 +1,4 @@
-//! The commands that judge: a desk and names in, a status out. And what every run of a program does that reads files and
-//! answers on the report.
+//! The commands that judge: a desk and names in, a status out.
 //!
 //! ```text
 //! let status = judge(&rt, alloc, &request, desk);    // request: one_net.gr one_net.routes one_net.cert
@@ -14,53 +13,34 @@
 //! let status = measure(alloc, &request, desk);       // the same of routes alone: no yes, and no bound
 //! ```
 //!
-//! It stands on `command_words` for the requests, `ispd_reader` for the design, `grid_graph` for the nets' grounds, `route_text`
-//! and `cert_text` for the texts, `route_judge` for the verdict on them, `tree_set` for measures, `gr_desk` to read from and
-//! write to, `text_scan`, `grid_base` and `itoa`. It knows nothing of how routes are found, so whoever trusts `judge` alone reads
-//! the definitions of these crates and of those that `route_judge` leads to (`edge_prices`, `dual_bound`, `lower_bound`,
+//! It stands on `command_runs` for what every run does, `command_words` for the requests, `ispd_reader` for the design, `grid_graph`
+//! for the nets' grounds, `route_text` and `cert_text` for the texts, `route_judge` for the verdict on them, `tree_set` for
+//! measures, `gr_desk` to write to, and `grid_base`. It knows nothing of how routes are found, so whoever trusts `judge` alone
+//! reads the definitions of these crates and of those that `route_judge` leads to (`edge_prices`, `dual_bound`, `lower_bound`,
 //! `shortest_paths`), and no others.
 //!
-//! Promised, in the words of `specs/MeasureRun.antt`, `specs/JudgeRun.antt` and `specs/CommandRun.antt`: where the status is 0,
-//! nothing can be objected to what was read, and the report says what is measured of it; where it is 1, the report has the first
-//! objection that applies; every other status but 8, want of memory, has its cause, and no file is ever touched. The bound of a
-//! certificate that was accepted holds of every routing, whole or mixed.
+//! Promised, in the words of `specs/MeasureRun.antt` and `specs/JudgeRun.antt` and of `CommandRun` of `command_runs`: where the
+//! status is 0, nothing can be objected to what was read, and the report says what is measured of it; where it is 1, the report has
+//! the first objection that applies; every other status but 8, want of memory, has its cause, and no file is ever touched. The bound
+//! of a certificate that was accepted holds of every routing, whole or mixed.
 //!
-//! Other programs that read designs, routes and certificates stand on the same calls: `read_grounded`, `read_routed` and
-//! `read_certified` to read, `make_cert` to make a file, and `say`, `refuse` and `say_unwritten` to end.
+//! Other programs that judge what they read stand on the same calls: `read_certified` to read, and an `Answer` to say a reason.
 
 #![tactic(auto)]
 
 mod answer;
 mod answer_lines;
 mod certified_input;
-mod grounded_design;
+mod judged_files;
 mod judging;
-mod lines;
 mod measuring;
-mod outputs;
-mod refusal;
-mod refusing;
 mod routed_input;
 mod routes_report;
-mod saying;
-mod sources;
-mod statuses;
-mod text_fault;
 
 pub use answer::Answer;
 pub use certified_input::CertifiedInput;
-pub use grounded_design::GroundedDesign;
+pub use judged_files::{read_blocks, read_certificate, read_certified, read_routed};
 pub use judging::judge;
-pub use lines::{put_budget, put_fields, put_line};
 pub use measuring::measure;
-pub use outputs::make_cert;
-pub use refusal::Refusal;
-pub use refusing::refuse;
 pub use routed_input::RoutedInput;
 pub use routes_report::RoutesReport;
-pub use saying::{say, say_unwritten};
-pub use sources::{
-    grounded, read_blocks, read_certificate, read_certified, read_grounded, read_routed,
-};
-pub use statuses::{DONE, OBJECTED, UNWRITTEN};
-pub use text_fault::TextFault;

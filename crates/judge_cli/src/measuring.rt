@@ -4,17 +4,13 @@ ghost use Rattle.std.specs.Prelude.{◌≡◌, IfOk, length};
 ghost use Rattle.grid_graph.specs.Grounds.{AreGrounds};
 ghost use Rattle.route_judge.specs.Counts as counts;
 ghost use Rattle.route_judge.specs.Limits.{AreBlocks};
-ghost use Rattle.judge_cli.specs.MeasureRun.{IsMeasureAnswer, IsMeasureRun, IsTrueOfRoutes, measure_sources, measure_task_of};
-ghost use Rattle.judge_cli.specs.Steps.{ReadsSources};
+ghost use Rattle.judge_cli.specs.MeasureRun.{IsMeasureRun, IsTrueOfRoutes, measure_task_of};
 
 use crate::answer::Answer;
-use crate::grounded_design::GroundedDesign;
-use crate::refusal::Refusal;
-use crate::refusing::refuse;
+use crate::judged_files::read_routed;
 use crate::routed_input::RoutedInput;
 use crate::routes_report::RoutesReport;
-use crate::saying::say;
-use crate::sources::read_routed;
+use command_runs::{GroundedDesign, Refusal, refuse, say};
 use command_words::MeasureRequest;
 use gr_desk::Desk;
 use grid_base::NoMemory;
@@ -26,23 +22,13 @@ use tree_set::Measure;
 pub fn measure<D: Desk>(alloc: Global, request: &MeasureRequest<'_>, desk: &mut D) -> u8
     ensures { IsMeasureRun (measure_task_of request.now) (D.told desk.old) (D.told desk.new) result }
 {
-    match measured(alloc, request, desk) {
-        Ok(answer) => say(desk, answer),
+    match read_routed(alloc, desk, request.input, request.routes) {
+        Ok(read) => match answer_on_routes(alloc, &read) {
+            Ok(answer) => say(desk, &answer, answer.is_objection()),
+            Err(NoMemory) => refuse(desk, Refusal::NoMemory),
+        },
         Err(refusal) => refuse(desk, refusal),
     }
-}
-
-/// Reads the design and the routes under the names, and measures the routes.
-fn measured<D: Desk>(
-    alloc: Global,
-    request: &MeasureRequest<'_>,
-    desk: &mut D,
-) -> Result<Answer, Refusal>
-    ensures answer { IfOk result (IsMeasureAnswer (measure_task_of request.now) (D.told desk.old)) }
-    ensures reads { ReadsSources (measure_sources (measure_task_of request.now)) (D.told desk.old) (D.told desk.new) result }
-{
-    let read = read_routed(alloc, desk, request.input, request.routes)?;
-    Ok(answer_on_routes(alloc, &read)?)
 }
 
 /// What is said of routes.

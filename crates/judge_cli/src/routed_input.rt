@@ -1,6 +1,6 @@
 //! A design and routes, as they were read.
 
-use crate::grounded_design::GroundedDesign;
+use command_runs::GroundedDesign;
 use route_text::Block;
 
 /// A design with its nets' grounds, and the blocks of a route text.

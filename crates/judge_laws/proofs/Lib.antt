@@ -12,5 +12,6 @@ pub mod OneVerdict
 pub mod AlikeDesigns
 pub mod OneCert
 pub mod OneTextVerdict
+pub mod Kept
 pub mod OpenPrices
 pub mod OtherPrices

@@ -34,7 +34,7 @@ use Rattle.route_judge.proofs.Found.{found_behind, none_before, none_behind}
 use Rattle.judge_laws.specs.OpenPrices.{with_prices}
 use Rattle.judge_laws.proofs.CertLimits.{bound_within}
 use Rattle.judge_laws.proofs.OneBound.{at_most_found}
-use Rattle.judge_laws.proofs.OpenPrices.{listed_back, listed_count, listed_within}
+use Rattle.judge_laws.proofs.OpenPrices.{listed_count, listed_whole, listed_within}
 use Rattle.judge_laws.proofs.Resources.{costly_has_resource}
 
 -- it is to keep the same wirelength
@@ -80,7 +80,7 @@ accepted_anew d over blocks cert prices f judged are is =
     let claims : Finds d (measure_objections cert m ++ count_objections d over cert) None = none_behind d (route_objections d blocks) (measure_objections cert m ++ count_objections d over cert) but_bound in
     let measured : Finds d (measure_objections new m) None = none_before d (measure_objections cert m) (count_objections d over cert) claims in
     let counted : Finds d (count_objections d over new) None = counts_stay d over cert prices (Some f) (none_behind d (measure_objections cert m) (count_objections d over cert) claims) in
-    let listed : IsFound d new (Some f) = subst (λ (ps : List ℕ). IsBoundOrNone d ps new.budget (Some f)) (sym (listed_back d.grid prices are)) is in
+    let listed : IsFound d new (Some f) = subst (λ (ps : List ℕ). IsBoundOrNone d ps new.budget (Some f)) (sym (listed_whole d.grid prices are)) is in
     record {
       measure = m;
       found = Some f;
@@ -111,7 +111,7 @@ reads_back_anew d cert prices f within are is = cert_reads_back (with_prices d.g
     length-range_with_len 0 (edge_numbers d.grid),
     (size_of d.grid).within.vertex_limit,
   );
-  prices = listed_within d.grid prices are;
+  prices = listed_within d.grid prices are.listed;
 })
 
 -- and it states a bound

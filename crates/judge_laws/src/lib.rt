@@ -3,7 +3,7 @@
 //!
 //! It stands on `route_judge` for the judgement, on `route_text` for the blocks that are written, on `cert_text` for
 //! certificates, on `ispd_reader` for the design of a text, and on `dual_bound`, `edge_prices`, `tree_set`, `grid_graph` and
-//! `grid_base`. Nothing is computed here.
+//! `grid_base`. But for the prices that a certificate lists (`open_prices`) nothing is computed here.
 //!
 //! Promised: a design, sets that join its nets without walls and a true certificate of them have one judgement, a yes, and the
 //! judge measures what the certificate states. So whoever writes down what it knows to be true is never refused. Routes and a
@@ -13,9 +13,11 @@
 #![tactic(auto)]
 
 mod laws;
+mod listing;
 
 pub use laws::{
     alike_designs_are_judged_alike, certificates_with_another_bound_are_accepted, one_verdict,
     texts_have_one_verdict, true_certificates_read_back, true_claims_are_accepted,
     written_routes_are_accepted,
 };
+pub use listing::open_prices;

@@ -10,23 +10,21 @@ use Rattle.command_words.specs.declared.judge_request.JudgeRequest.{JudgeRequest
 use Rattle.command_words.specs.declared.measure_request.MeasureRequest.{MeasureRequest}
 use Rattle.command_words.specs.CommandLine.{CommandForm, AsksForJudge, AsksForMeasure, are_names, are_options, begins_with, command_forms, has_shape, has_values_in_range, is_command, is_command_of, names_in, option_words}
 use Rattle.command_words.specs.CommandLine.{route_form, measure_form, judge_form, make_form, trial_form}
-use Rattle.gr_desk.specs.declared.port.Port.TheVariants.{Report}
-use Rattle.gr_desk.specs.Runs.{Adds}
 use Rattle.gr_desk.specs.Told.{Told}
-use Rattle.judge_cli.specs.declared.refusal.Refusal.{Refusal}
-use Rattle.judge_cli.specs.declared.refusal.Refusal.TheVariants.{NoCommand, NoMemory}
-use Rattle.judge_cli.specs.AnsweredRun.{SaysRight}
-use Rattle.judge_cli.specs.CommandRun.{RunOutcome, IsCommandRun}
+use Rattle.command_runs.specs.declared.refusal.Refusal.{Refusal}
+use Rattle.command_runs.specs.declared.refusal.Refusal.TheVariants.{NoCommand, NoMemory}
+use Rattle.command_runs.specs.AnsweredRun.{AnswersRightly}
+use Rattle.command_runs.specs.CommandRun.{RunOutcome, IsCommandRun}
+use Rattle.judge_cli.specs.AnswerLines.{answer_outcome}
 use Rattle.judge_cli.specs.JudgeRun.{JudgeTask, IsJudgeAnswer, IsJudgeRun, judge_sources, judge_task_of, judge_task_of_words}
-use Rattle.judge_cli.specs.Lines.{lines_of, status_of}
+use Rattle.command_runs.specs.Lines.{lines_of, status_of}
 use Rattle.judge_cli.specs.MeasureRun.{MeasureTask, IsMeasureAnswer, IsMeasureRun, measure_sources, measure_task_of, measure_task_of_words}
-use Rattle.judge_cli.specs.Sources.{Source, design_source}
-use Rattle.judge_cli.specs.Traces.{OutputFailed}
-use Rattle.judge_cli.proofs.Causes.{cause-unbegun}
-use Rattle.judge_cli.proofs.EndedRuns.{run-refused}
-use Rattle.judge_cli.proofs.FilePorts.{AreInputs, AreOutputs}
-use Rattle.judge_cli.proofs.ReadFiles.{reads-nothing}
-use Rattle.judge_cli.proofs.Traces.{touches-none}
+use Rattle.command_runs.specs.Saying.{TriesToSay}
+use Rattle.command_runs.specs.Sources.{Source, design_source}
+use Rattle.command_runs.proofs.EndedRuns.{run-refused}
+use Rattle.command_runs.proofs.FilePorts.{AreInputs, AreOutputs}
+use Rattle.command_runs.proofs.ReadFiles.{reads-unbegun}
+use Rattle.command_runs.proofs.Traces.{touches-none}
 use Rattle.router_cli.specs.Headline.{IsRouteOutcome}
 use Rattle.router_cli.specs.MakeRun.{IsMakeRun, make_files, make_task_of_words, made_outcome}
 use Rattle.router_cli.specs.RouteRun.{IsRouteRun, route_files}
@@ -38,7 +36,7 @@ use Rattle.router_cli.proofs.RouteFiles.{make-outputs, route-outputs}
 -- ---- which command words are
 
 -- words that are no command are none of the commands
-pub no_command-not : (words : List (List ℕ)) (form : CommandForm) → Contains command_forms form → is_command words ≡ false
+no_command-not : (words : List (List ℕ)) (form : CommandForm) → Contains command_forms form → is_command words ≡ false
     → is_command_of words form ≡ true → ⊥
 no_command-not words form at none is =
     let some : is_command words ≡ true =
@@ -54,7 +52,7 @@ begins form words is =
     (and_parts (begins_with form.word words) behind shaped).0
 
 -- so a word is that of one command
-pub one_word : (form other : CommandForm) (words : List (List ℕ)) → is_command_of words form ≡ true
+one_word : (form other : CommandForm) (words : List (List ℕ)) → is_command_of words form ≡ true
     → is_command_of words other ≡ true → bytes_eq form.word other.word ≡ true
 one_word form other [] one both = let some : false ≡ true = begins form [] one in cc
 one_word form other (first ∷ rest) one both =
@@ -81,33 +79,28 @@ judge_task-asked words r asks = ap judge_of_names asks.names
 -- ---- runs that are refused before a file is read
 
 -- a run of a command that had no memory to read its words
-run-unbegun : (read made : List Source) (IsRight : RunOutcome → Type 0) (a c : Told) (status n : ℕ) → AreInputs read
-    → AreOutputs made
-    → status ≡ status_of NoMemory → Adds a c Report (take n (lines_of NoMemory))
-    → (¬ OutputFailed a c → Adds a c Report (lines_of NoMemory)) → IsCommandRun read made IsRight a c status
-run-unbegun read made IsRight a c status n inputs outputs is part whole =
-    run-refused read made IsRight a a c status n NoMemory inputs outputs (cause-unbegun read a) (reads-nothing read a)
-    (λ _. refl) is part whole
+run-unbegun : (read made : List Source) (IsRight : RunOutcome → Type 0) (a c : Told) (status : ℕ) → AreInputs read
+    → AreOutputs made → status ≡ status_of NoMemory → TriesToSay (lines_of NoMemory) a c → IsCommandRun read made IsRight a c status
+run-unbegun read made IsRight a c status inputs outputs is tries =
+    run-refused read made IsRight a a c status NoMemory inputs outputs (reads-unbegun {T = ℕ} read a NoMemory refl) is tries
 
 -- a run on words that are no command
-run-no_command : (a c : Told) (status n : ℕ) (r : Refusal) → (r ≡ NoCommand) ⊎ (r ≡ NoMemory)
-    → status ≡ status_of r → Adds a c Report (take n (lines_of r)) → (¬ OutputFailed a c → Adds a c Report (lines_of r))
-    → IsNoCommandRun a c status
-run-no_command a c status n r of is part whole = record {
+run-no_command : (a c : Told) (status : ℕ) (r : Refusal) → (r ≡ NoCommand) ⊎ (r ≡ NoMemory)
+    → status ≡ status_of r → TriesToSay (lines_of r) a c → IsNoCommandRun a c status
+run-no_command a c status r of is tries = record {
   refusal = r;
   is_refusal = of;
   status_is = is;
-  says = record { count = n; part = part.added; whole = λ calm. (whole calm).added };
-  touches = touches-none a c (take n (lines_of r)) part;
-  unread = part.still;
-  in_order = part.stray.kept (λ other. absurd (other refl));
+  says = record { count = tries.count; part = tries.part.added; whole = λ calm. (tries.whole calm).added };
+  touches = touches-none a c (take tries.count (lines_of r)) tries.part;
+  unread = tries.part.still;
+  in_order = tries.part.stray.kept (λ other. absurd (other refl));
 }
 
 -- a run that had no memory to read its words, whatever they are
-pub run-without_memory : {Z : Type 0} (words : List (String Z)) (a c : Told) (status n : ℕ)
-    → status ≡ status_of NoMemory → Adds a c Report (take n (lines_of NoMemory))
-    → (¬ OutputFailed a c → Adds a c Report (lines_of NoMemory)) → IsRun words a c status
-run-without_memory words a c status n is part whole =
+pub run-without_memory : {Z : Type 0} (words : List (String Z)) (a c : Told) (status : ℕ)
+    → status ≡ status_of NoMemory → TriesToSay (lines_of NoMemory) a c → IsRun words a c status
+run-without_memory words a c status is tries =
     let bytes = map string_bytes words in
     let route = task_of_words bytes in
     let measure = measure_task_of_words bytes in
@@ -115,27 +108,26 @@ run-without_memory words a c status n is part whole =
     let make = make_task_of_words bytes in
     let trial = trial_task_of_words bytes in
     record {
-      no_command = λ none. run-no_command a c status n NoMemory (inr refl) is part whole;
+      no_command = λ none. run-no_command a c status NoMemory (inr refl) is tries;
       route = λ _. run-unbegun (design_source route.input) (route_files route) (IsRouteOutcome route.input route.settings a) a
-          c status n (refl, tt) (route-outputs route) is part whole;
-      measure = λ _. run-unbegun (measure_sources measure) [] (SaysRight (IsMeasureAnswer measure a)) a c status n
-          (refl, (refl, tt)) tt is part whole;
-      judge = λ _. run-unbegun (judge_sources judge) [] (SaysRight (IsJudgeAnswer judge a)) a c status n
-          (refl, (refl, (refl, tt))) tt is part whole;
-      make = λ _. run-unbegun [] (make_files make) (λ outcome. outcome ≡ made_outcome make) a c status n tt (make-outputs make)
-          is part whole;
-      trial = λ _. run-unbegun [] [] (IsTrialOutcome trial) a c status n tt tt is part whole;
+          c status (refl, tt) (route-outputs route) is tries;
+      measure = λ _. run-unbegun (measure_sources measure) [] (AnswersRightly answer_outcome (IsMeasureAnswer measure a)) a c status
+          (refl, (refl, tt)) tt is tries;
+      judge = λ _. run-unbegun (judge_sources judge) [] (AnswersRightly answer_outcome (IsJudgeAnswer judge a)) a c status
+          (refl, (refl, (refl, tt))) tt is tries;
+      make = λ _. run-unbegun [] (make_files make) (λ outcome. outcome ≡ made_outcome make) a c status tt (make-outputs make)
+          is tries;
+      trial = λ _. run-unbegun [] [] (IsTrialOutcome trial) a c status tt tt is tries;
     }
 
 -- a run whose words are no command
-pub run-without_command : {Z : Type 0} (words : List (String Z)) (a c : Told) (status n : ℕ)
+pub run-without_command : {Z : Type 0} (words : List (String Z)) (a c : Told) (status : ℕ)
     → is_command (map string_bytes words) ≡ false
-    → status ≡ status_of NoCommand → Adds a c Report (take n (lines_of NoCommand))
-    → (¬ OutputFailed a c → Adds a c Report (lines_of NoCommand)) → IsRun words a c status
-run-without_command words a c status n none is part whole =
+    → status ≡ status_of NoCommand → TriesToSay (lines_of NoCommand) a c → IsRun words a c status
+run-without_command words a c status none is tries =
     let bytes = map string_bytes words in
     record {
-      no_command = λ _. run-no_command a c status n NoCommand (inl refl) is part whole;
+      no_command = λ _. run-no_command a c status NoCommand (inl refl) is tries;
       route = λ of. absurd (no_command-not bytes route_form (0, lit< tt, refl) none of);
       measure = λ of. absurd (no_command-not bytes measure_form (1, lit< tt, refl) none of);
       judge = λ of. absurd (no_command-not bytes judge_form (2, lit< tt, refl) none of);

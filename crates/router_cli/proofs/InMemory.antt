@@ -10,17 +10,17 @@ use Rattle.gr_make.specs.Shapes.{IsShape}
 use Rattle.gr_make.specs.declared.shape.Shape.{Shape}
 use Rattle.made_designs.proofs.Contents.{made_text_says}
 use Rattle.made_designs.proofs.Generated.{made_nets_reachable}
-use Rattle.judge_cli.specs.declared.refusal.Refusal.{Refusal}
-use Rattle.judge_cli.specs.declared.refusal.Refusal.TheVariants.{NoCommand, Input, Unreachable, Text, Unread, NoMemory}
+use Rattle.command_runs.specs.declared.refusal.Refusal.{Refusal}
+use Rattle.command_runs.specs.declared.refusal.Refusal.TheVariants.{NoCommand, Input, Unreachable, Text, Unread, NoMemory}
 use Rattle.cert_text.specs.declared.cert.Cert.{Cert}
 use Rattle.cert_text.specs.declared.cert_error.CertError.{CertError}
 use Rattle.cert_text.specs.declared.cert_error.CertError.TheVariants as cert_errors
 use Rattle.cert_text.specs.CertReads.{RefusesCert}
 use Rattle.cert_text.specs.Certs.{IsCertOf}
 use Rattle.cert_text.specs.StatedCerts.{stated_in}
-use Rattle.judge_cli.specs.JudgedTexts.{of_cert_error}
-use Rattle.judge_cli.specs.Outputs.{Makes}
-use Rattle.judge_cli.specs.Refusals.{IsRefusedAt}
+use Rattle.command_runs.specs.JudgedTexts.{of_cert_error}
+use Rattle.command_runs.specs.Outputs.{Makes}
+use Rattle.command_runs.specs.Refusals.{IsRefusedAt}
 
 -- what was appended to nothing is all that there is
 all_there_is : (x y : Option (List ℕ)) (text bytes : List ℕ) → x ≡ Some [] → y ≡ Some bytes → Appends x y text → bytes ≡ text

@@ -1,11 +1,9 @@
 pub mod Routed
 pub mod Tasks
-pub mod OpenPrices
 pub mod ReadBack
 pub mod Bounded
 pub mod Repairs
 pub mod RisingRuns
-pub mod ListedBack
 pub mod TrueTexts
 pub mod InMemory
 pub mod RouteFiles

@@ -1,8 +1,8 @@
 -- The files that `route` and `make` make.
 use Rattle.std.proofs.Common.{◌≡◌, ℕ, List, [], ◌∷◌, refl}
 use Rattle.gr_desk.specs.declared.port.Port.TheVariants.{RoutesOut, CertOut, DesignOut}
-use Rattle.judge_cli.proofs.FilePorts.{AreOutputs}
-use Rattle.judge_cli.proofs.Traces.{none_in, only_of}
+use Rattle.command_runs.proofs.FilePorts.{AreOutputs}
+use Rattle.command_runs.proofs.Traces.{none_in, only_of}
 use Rattle.router_cli.specs.MakeRun.{MakeTask, make_files}
 use Rattle.router_cli.specs.RouteRun.{route_files}
 use Rattle.router_cli.specs.Tasks.{RouteTask}

@@ -45,7 +45,7 @@ use Rattle.judge_laws.proofs.WrittenRanges.{written_can_be_judged}
 use Rattle.router_cli.specs.Certified.{IsCertified, priced_budget}
 use Rattle.router_cli.specs.Headline.{IsTrueOf}
 use Rattle.router_cli.specs.TextsMeet.{TextsMeet}
-use Rattle.router_cli.proofs.ListedBack.{listed_back, listed_count, listed_within}
+use Rattle.judge_laws.proofs.OpenPrices.{listed_back, listed_count, listed_within}
 use Rattle.router_cli.proofs.ReadBack.{nets_named}
 use Rattle.router_cli.proofs.RisingRuns.{run_rises}
 use Rattle.router_cli.proofs.Routed.{routes_are_pieces}
@@ -78,7 +78,7 @@ claims_truly : (d : Design) (budget : Option ℕ) (over : List Ground) (trees : 
     → IsBudget budget → ArePrices d.grid prices → IsCertified d budget trees prices cert → (HasResource d.grid budget → IsSome cert.bound) → ClaimsTruly d over trees cert
 claims_truly d budget over trees prices cert grounds fits are certified some =
     let most : most_of cert.budget ≡ budget = ap most_of certified.budget_is ∙ most_is d.grid prices budget in
-    let listed : take (edge_numbers d.grid) prices ≡ listed_prices d.grid cert.prices = listed_back d.grid prices are ∙ ap (listed_prices d.grid) (sym certified.prices_are) in
+    let listed : take (edge_numbers d.grid) prices ≡ listed_prices d.grid cert.prices = sym (listed_back d.grid prices are) ∙ ap (listed_prices d.grid) (sym certified.prices_are) in
     record {
       nets = certified.nets;
       forced = certified.forced ∙ ap forced_count (same_grounds d.grid d.nets certified.grounds over certified.are_grounds grounds);

@@ -1,11 +1,11 @@
 -- The headline, in one page: what a run of `route` that ends with status 0 has written and reported. Every other file of this
--- folder, and of `judge_cli`, says when a run ends so, and what it leaves where it doesn't.
+-- folder, of `judge_cli` and of `command_runs` says when a run ends so, and what it leaves where it doesn't.
 --
 -- Where the words lead: `IsDesignOfText` of `ispd_reader` is the design that bytes name, `IsRouting` of `tree_set` says that each
 -- net's set joins its terminals in its ground, `IsRouterRun` beside this file is a run of phases, picks and rounds of repair,
 -- `IsCertified` what is measured of the sets and the bound at the printed prices, `BoundsDesign` of `dual_bound` that every
 -- mixture of routings uses some resource at least so much, and `routes_text`, `cert_text` and `report_text` are the three texts.
-use Rattle.std.specs.Prelude.{◌≡◌, ℕ, false, List, [], ◌∷◌, Some, IfSome, IsSome}
+use Rattle.std.specs.Prelude.{◌≡◌, ℕ, false, List, [], ◌∷◌, IfSome, IsSome}
 use Rattle.grid_base.specs.declared.piece.Piece.{Piece}
 use Rattle.gr_desk.specs.Told.{Told}
 use Rattle.grid_graph.specs.declared.design.Design.{Design}
@@ -16,7 +16,8 @@ use Rattle.cert_text.specs.CertText.{cert_text}
 use Rattle.dual_bound.specs.Bounds.{BoundsDesign, IsResource}
 use Rattle.route_text.specs.RouteText.{routes_text}
 use Rattle.tree_set.specs.Routings.{IsRouting}
-use Rattle.judge_cli.specs.CommandRun.{RunOutcome}
+use Rattle.command_runs.specs.CommandRun.{RunOutcome}
+use Rattle.command_runs.specs.Sources.{HasBytes}
 use Rattle.router_cli.specs.declared.routed_design.RoutedDesign.{RoutedDesign}
 use Rattle.router_cli.specs.Certified.{IsCertified}
 use Rattle.router_cli.specs.ReportLines.{report_text}
@@ -48,9 +49,9 @@ routed_outcome r = record {
   objects = false;
 }
 
--- the texts are those of the design that the bytes under the name are the text of, where the desk tells these bytes
+-- the texts are those of the design that the bytes of the file are the text of
 pub record IsRouteOutcome (input : List ℕ) (s : Settings) (told : Told) (outcome : RunOutcome) : Type 0 where
   pub routed : RoutedDesign
-  pub named : (bytes : List ℕ) → told.files input ≡ Some bytes → IsDesignOfText bytes routed.design
+  pub named : HasBytes told.files input (λ bytes. IsDesignOfText bytes routed.design)
   pub is_true : IsRoutedDesign s routed
   pub outcome_is : outcome ≡ routed_outcome routed

@@ -6,9 +6,9 @@ use Rattle.gr_desk.specs.declared.port.Port.TheVariants.{DesignOut}
 use Rattle.gr_desk.specs.Told.{Told}
 use Rattle.gr_make.specs.declared.shape.Shape.{Shape}
 use Rattle.gr_make.specs.MadeText.{made_text}
-use Rattle.judge_cli.specs.CommandRun.{RunOutcome, IsCommandRun}
-use Rattle.judge_cli.specs.Lines.{fields}
-use Rattle.judge_cli.specs.Sources.{Source}
+use Rattle.command_runs.specs.CommandRun.{RunOutcome, IsCommandRun}
+use Rattle.command_runs.specs.Lines.{fields}
+use Rattle.command_runs.specs.Sources.{Source}
 use Rattle.router_cli.specs.OptionValues.{shape_in, value_in}
 
 -- ---- what its words ask for

@@ -2,7 +2,7 @@
 use Rattle.std.specs.Prelude.{ℕ, List, ◌∷◌, [], ◌++◌, codes}
 use Rattle.cert_text.specs.declared.cert.Cert.{Cert}
 use Rattle.cert_text.specs.CertText.{labelled, fraction_text}
-use Rattle.judge_cli.specs.Lines.{line, budget_line}
+use Rattle.command_runs.specs.Lines.{line, budget_line}
 
 -- what their certificate says of them, and behind the counts of nets the overflow of the picked sets and the rounds of repair
 abbrev pub report_text : ℕ → ℕ → Cert → List ℕ

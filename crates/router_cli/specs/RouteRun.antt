@@ -2,8 +2,8 @@
 use Rattle.std.specs.Prelude.{ℕ, List, [], ◌∷◌}
 use Rattle.gr_desk.specs.declared.port.Port.TheVariants.{RoutesOut, CertOut}
 use Rattle.gr_desk.specs.Told.{Told}
-use Rattle.judge_cli.specs.CommandRun.{IsCommandRun}
-use Rattle.judge_cli.specs.Sources.{Source, design_source}
+use Rattle.command_runs.specs.CommandRun.{IsCommandRun}
+use Rattle.command_runs.specs.Sources.{Source, design_source}
 use Rattle.router_cli.specs.Headline.{IsRouteOutcome}
 use Rattle.router_cli.specs.Tasks.{RouteTask}
 

@@ -10,15 +10,15 @@
 --   TrialRun     what a run of `trial` has: it never finds a no, and TextsMeet says what the judge has to say of its texts
 --   ReportLines  the lines that `route` and `trial` report, byte for byte
 -- then in `judge_cli`, where no word says how routes are found:
---   CommandRun   what a run of any of the five commands leaves on each status
 --   MeasureRun   what a run of `measure` says of routes, and
 --   JudgeRun     what a run of `judge` says of routes and a certificate
---   AnsweredRun  what these two have to leave
+--   AnswerLines  what these two have to leave, and its lines, byte for byte
+-- and in `command_runs`, where no word says how they are judged:
+--   CommandRun   what a run of any of the five commands leaves on each status
 --   Sources      the files that a command reads or makes
---   JudgedTexts  what the texts say that are judged
+--   JudgedTexts  what the texts of routes and certificates say
 --   Refusals     why a run can be refused, and what it then says
---   Lines        the lines of refusals, byte for byte, and
---   AnswerLines  those of what is said of routes that are judged
+--   Lines        the lines of refusals, byte for byte
 --   Outputs      the files that a run makes
 --   Traces       what a run does to the desk that it reads from and writes to
 -- and in the crates below, as the names there lead: `CommandLine` of `command_words` for which words are a command, `Told` of
@@ -30,15 +30,15 @@ use Rattle.std.specs.Prelude.{◌≡◌, ◌⊎◌, ℕ, List, [], map, string_b
 use Rattle.std.specs.declared.string.String.{String}
 use Rattle.gr_desk.specs.Told.{Told}
 use Rattle.command_words.specs.CommandLine.{is_command, is_command_of, route_form, measure_form, judge_form, make_form, trial_form}
-use Rattle.judge_cli.specs.declared.refusal.Refusal.{Refusal}
-use Rattle.judge_cli.specs.declared.refusal.Refusal.TheVariants.{NoCommand, NoMemory}
-use Rattle.judge_cli.specs.Lines.{status_of}
+use Rattle.command_runs.specs.declared.refusal.Refusal.{Refusal}
+use Rattle.command_runs.specs.declared.refusal.Refusal.TheVariants.{NoCommand, NoMemory}
+use Rattle.command_runs.specs.Lines.{status_of}
 use Rattle.judge_cli.specs.JudgeRun.{IsJudgeRun, judge_task_of_words}
 use Rattle.router_cli.specs.MakeRun.{IsMakeRun, make_task_of_words}
 use Rattle.judge_cli.specs.MeasureRun.{IsMeasureRun, measure_task_of_words}
 use Rattle.router_cli.specs.RouteRun.{IsRouteRun}
 use Rattle.router_cli.specs.Tasks.{task_of_words}
-use Rattle.judge_cli.specs.Traces.{ReportsRefusal, TouchesOnly}
+use Rattle.command_runs.specs.Traces.{ReportsRefusal, TouchesOnly}
 use Rattle.router_cli.specs.TrialRun.{IsTrialRun, trial_task_of_words}
 
 -- a run on words that are no command

@@ -13,7 +13,7 @@ use Rattle.grid_graph.specs.Grounds.{AreGrounds}
 use Rattle.ispd_reader.specs.Designs.{IsDesignOfText}
 use Rattle.routing_stages.specs.declared.settings.Settings.{Settings}
 use Rattle.route_text.specs.RouteText.{routes_text}
-use Rattle.judge_cli.specs.CommandRun.{RunOutcome, IsCommandRun}
+use Rattle.command_runs.specs.CommandRun.{RunOutcome, IsCommandRun}
 use Rattle.router_cli.specs.declared.routed_design.RoutedDesign.{RoutedDesign}
 use Rattle.router_cli.specs.Headline.{IsRoutedDesign}
 use Rattle.router_cli.specs.OptionValues.{shape_in}

@@ -10,32 +10,18 @@ ghost use Rattle.tree_set.specs.Loads.{load};
 ghost use Rattle.tree_set.specs.Measures as measures;
 ghost use Rattle.tree_set.specs.Routings.{ArePieces};
 ghost use Rattle.dual_bound.specs.Bounds.{BoundsDesign};
-ghost use Rattle.judge_laws.specs.OpenPrices as words_below;
 ghost use Rattle.router_cli.specs.Certified as words;
 ghost use Rattle.router_cli.specs.Certified.{IsCertified};
 
-use cert_text::{Cert, PriceList};
+use cert_text::Cert;
 use dual_bound::bound;
-use grid_base::{Edge, NoMemory};
+use grid_base::NoMemory;
 use grid_graph::{Design, Grid, Ground};
+use judge_laws::open_prices;
 use route_judge::forced_count;
 use std::alloc::Global;
 use std::thread::Threads;
 use tree_set::{Budget, Measure, Tree, measure_of};
-
-/// The prices of the open edges, in rising order.
-fn open_prices(alloc: Global, grid: &Grid, prices: &[u32]) -> Result<PriceList, NoMemory>
-    requires { IsPriceList grid.now prices.now }
-    ensures { IfOk result (λ list. list ≡ words_below.open_prices grid.now prices.now) }
-{
-    let mut open = Vec::new(alloc);
-    for e in 0..2 * grid.size().vertices() {
-        if grid.capacity(Edge(e)) > 0 {
-            open.push(prices[e as usize])?;
-        }
-    }
-    Ok(PriceList::of(open))
-}
 
 /// The budget with the wirelength's price, which is the last one.
 fn priced_budget(grid: &Grid, prices: &[u32], budget: Option<u64>) -> Option<Budget>

@@ -12,11 +12,11 @@
 //! // bound 1/2
 //! ```
 //!
-//! It stands on `command_words` for the words, `judge_cli` for the commands `measure` and `judge`, for the reading of designs and
-//! for how every run ends, `sharing_phases`, `rounding_pick` and `ripup_repair` for the routes and their prices, `tree_set` for
-//! their measures, `dual_bound` for the bound, `route_text` and `cert_text` for the texts, `route_judge` for the verdict of a
-//! trial, `gr_make` for generated designs, `made_designs` and `judge_laws` for the laws by which a trial never fails, and
-//! `gr_desk` to read from and write to.
+//! It stands on `command_words` for the words, `command_runs` for the reading of designs and for how every run ends, `judge_cli`
+//! for the commands `measure` and `judge`, `sharing_phases`, `rounding_pick` and `ripup_repair` for the routes and their prices,
+//! `tree_set` for their measures, `dual_bound` for the bound, `route_text` and `cert_text` for the texts, `route_judge` for the
+//! verdict of a trial, `gr_make` for generated designs, `judge_laws` for the prices that a certificate lists, it and
+//! `made_designs` for the laws by which a trial never fails, and `gr_desk` to read from and write to.
 //!
 //! Promised, in the words of `specs/Runs.antt`, which is the page to begin with: where the status is 0, the routes that were
 //! written join their nets' pins inside the grid, and are the result of a run of phases, picks and rounds of repair; the printed

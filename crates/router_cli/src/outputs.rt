@@ -7,7 +7,7 @@ ghost use Rattle.gr_make.specs.Shapes.{IsShape};
 ghost use Rattle.grid_graph.specs.Grids.{size_of};
 ghost use Rattle.route_text.specs.RouteText.{routes_text};
 ghost use Rattle.tree_set.specs.Routings.{ArePieces};
-ghost use Rattle.judge_cli.specs.Outputs.{Makes};
+ghost use Rattle.command_runs.specs.Outputs.{Makes};
 
 use gr_desk::{Desk, Failed, Port};
 use gr_make::{Shape, make};

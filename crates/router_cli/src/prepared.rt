@@ -1,19 +1,19 @@
 //! From a name to a routed design.
 
-ghost use Rattle.std.specs.Prelude.{◌≡◌, ℕ, List, Some, IfOk};
+ghost use Rattle.std.specs.Prelude.{◌≡◌, IfOk};
 ghost use Rattle.grid_graph.specs.Grounds.{AreGrounds};
 ghost use Rattle.ispd_reader.specs.Designs.{IsDesignOfText};
 ghost use Rattle.routing_stages.specs.Settings.{AreSettings};
 ghost use Rattle.router_cli.specs.Headline.{IsRoutedDesign};
-ghost use Rattle.judge_cli.specs.Sources.{design_source};
-ghost use Rattle.judge_cli.specs.Steps.{ReadsSources};
+ghost use Rattle.command_runs.specs.Sources.{HasBytes, design_source};
+ghost use Rattle.command_runs.specs.Steps.{ReadsSources};
 
 use crate::certificate::certificate;
 use crate::routed_design::RoutedDesign;
+use command_runs::{GroundedDesign, Refusal, read_grounded};
 use gr_desk::Desk;
 use grid_base::NoMemory;
 use grid_graph::{Design, Ground};
-use judge_cli::{GroundedDesign, Refusal, read_grounded};
 use ripup_repair::repair;
 use rounding_pick::round;
 use routing_stages::{Gate, Settings};
@@ -32,8 +32,7 @@ pub(crate) fn prepare<R: Threads + Sync, D: Desk, G: Gate>(
 ) -> Result<RoutedDesign, Refusal>
     requires settings { AreSettings settings.now }
     ensures routed { IfOk result (IsRoutedDesign settings.now) }
-    ensures named { IfOk result (λ r. (bytes : List ℕ)
-        → (D.told desk.old).files name.now ≡ Some bytes → IsDesignOfText bytes r.design) }
+    ensures named { IfOk result (λ r. HasBytes (D.told desk.old).files name.now (λ bytes. IsDesignOfText bytes r.design)) }
     ensures reads { ReadsSources (design_source name.now) (D.told desk.old) (D.told desk.new) result }
 {
     let GroundedDesign { design, grounds } = read_grounded(alloc, desk, name)?;

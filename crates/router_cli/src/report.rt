@@ -1,13 +1,13 @@
 //! The report of routes.
 
 ghost use Rattle.std.specs.Prelude.{◌≡◌};
-ghost use Rattle.gr_desk.specs.declared.port.Port.TheVariants.{Report};
-ghost use Rattle.gr_desk.specs.Pens.{Ends, Puts, pen_told, HasSameDesk};
+ghost use Rattle.gr_desk.specs.Pens.{Puts, pen_told, HasSameDesk};
 ghost use Rattle.router_cli.specs.ReportLines.{report_text};
 
+use crate::routed_design::RoutedDesign;
 use cert_text::{Cert, put_labelled_fraction};
-use gr_desk::{Desk, Failed, Pen, Port};
-use judge_cli::{put_budget, put_line};
+use command_runs::{Said, put_budget, put_line};
+use gr_desk::{Desk, Pen};
 
 /// Puts the report of routes: the overflow before repair, the number of its rounds, and what the certificate says.
 pub(crate) fn put_report<D: Desk>(pen: &mut Pen<'_, D>, rounded: u64, rounds: u32, cert: &Cert)
@@ -25,16 +25,12 @@ pub(crate) fn put_report<D: Desk>(pen: &mut Pen<'_, D>, rounded: u64, rounds: u3
     put_budget(pen, cert.budget);
 }
 
-/// Writes the report of routes: the overflow before repair, the number of its rounds, and what the certificate says.
-pub(crate) fn write_report<D: Desk>(
-    desk: &mut D,
-    rounded: u64,
-    rounds: u32,
-    cert: &Cert,
-) -> Result<(), Failed>
-    ensures { Ends (D.told desk.old) (D.told desk.new) Report (report_text rounded rounds cert.now) result }
-{
-    let mut pen = Pen::new(desk, Port::Report);
-    put_report(&mut pen, rounded, rounds, cert);
-    pen.finish()
+impl Said for RoutedDesign {
+    ghost may = { λ _. Unit {0} };
+
+    ghost text = { λ r. report_text r.rounded r.rounds r.cert };
+
+    fn put<D: Desk>(&self, pen: &mut Pen<'_, D>) {
+        put_report(pen, self.rounded, self.rounds, &self.cert);
+    }
 }

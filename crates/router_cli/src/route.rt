@@ -3,7 +3,7 @@
 ghost use Rattle.std.specs.Prelude.{◌≡◌, [], ◌∷◌};
 ghost use Rattle.cert_text.specs.CertText.{cert_text};
 ghost use Rattle.gr_desk.specs.declared.port.Port.TheVariants.{CertOut};
-ghost use Rattle.judge_cli.specs.Saying.{Leaves, SaysDone};
+ghost use Rattle.command_runs.specs.Saying.{Leaves};
 ghost use Rattle.routing_stages.specs.Settings.{AreSettings};
 ghost use Rattle.router_cli.specs.Headline.{IsRoutedDesign, routed_outcome};
 ghost use Rattle.router_cli.specs.RouteRun.{IsRouteRun, route_files};
@@ -11,11 +11,10 @@ ghost use Rattle.router_cli.specs.Tasks.{settings_of, task_of};
 
 use crate::outputs::make_routes;
 use crate::prepared::prepare;
-use crate::report::write_report;
 use crate::routed_design::RoutedDesign;
+use command_runs::{make_cert, refuse, say, say_unwritten};
 use command_words::RouteRequest;
 use gr_desk::{Desk, Failed};
-use judge_cli::{DONE, UNWRITTEN, make_cert, refuse, say_unwritten};
 use routing_stages::{Gate, Settings};
 use std::alloc::Global;
 use std::thread::Threads;
@@ -70,17 +69,7 @@ fn certify<D: Desk>(desk: &mut D, request: &RouteRequest<'_>, routed: &RoutedDes
         (D.told desk.old) (D.told desk.new) result }
 {
     match make_cert(desk, request.certificate, &routed.cert) {
-        Ok(()) => report(desk, routed),
+        Ok(()) => say(desk, routed, false),
         Err(Failed) => say_unwritten(desk),
-    }
-}
-
-/// Writes the report, and answers the status.
-fn report<D: Desk>(desk: &mut D, routed: &RoutedDesign) -> u8
-    ensures { SaysDone (routed_outcome routed.now).report (D.told desk.old) (D.told desk.new) result }
-{
-    match write_report(desk, routed.rounded, routed.rounds, &routed.cert) {
-        Ok(()) => DONE,
-        Err(Failed) => UNWRITTEN,
     }
 }

@@ -2,22 +2,20 @@
 
 ghost use Rattle.std.specs.Prelude.{◌≡◌, IfOk, IsErrOf};
 ghost use Rattle.command_words.specs.CommandLine.{HasTrialRanges};
-ghost use Rattle.gr_desk.specs.declared.port.Port.TheVariants.{Report};
-ghost use Rattle.gr_desk.specs.Pens.{Ends, Puts, pen_told, HasSameDesk};
+ghost use Rattle.gr_desk.specs.Pens.{HasSameDesk, Puts, pen_told};
 ghost use Rattle.gr_make.specs.Shapes.{IsShape};
 ghost use Rattle.routing_stages.specs.Settings.{AreSettings};
-ghost use Rattle.judge_cli.specs.declared.refusal.Refusal.{Refusal};
-ghost use Rattle.judge_cli.specs.Saying.{SaysDone};
+ghost use Rattle.command_runs.specs.declared.refusal.Refusal.{Refusal};
 ghost use Rattle.router_cli.specs.TrialRun.{IsTrialRun, IsTrialOutcome, trial_settings, trial_task_of, trial_text, tried_outcome};
 
 use crate::prepared::route_design;
 use crate::report::put_report;
 use crate::routed_design::RoutedDesign;
 use crate::trial_texts::{judge_texts, made_design};
+use command_runs::{GroundedDesign, Refusal, Said, refuse, say};
 use command_words::TrialRequest;
-use gr_desk::{Desk, Failed, Pen, Port};
+use gr_desk::{Desk, Pen};
 use gr_make::Shape;
-use judge_cli::{DONE, GroundedDesign, Refusal, UNWRITTEN, refuse};
 use routing_stages::{Gate, Settings};
 use std::alloc::Global;
 use std::thread::Threads;
@@ -35,7 +33,7 @@ pub(crate) fn trial<R: Threads + Sync, D: Desk, G: Gate>(
     ensures { IsTrialRun (trial_task_of request.now) (D.told desk.old) (D.told desk.new) result }
 {
     match tried(rt, alloc, request, gate) {
-        Ok(routed) => say_tried(desk, &routed),
+        Ok(routed) => say(desk, &AcceptedDesign { routed }, false),
         Err(refusal) => refuse(desk, refusal),
     }
 }
@@ -86,30 +84,24 @@ fn tried<R: Threads + Sync, G: Gate>(
     Ok(routed)
 }
 
-/// Puts the lines of a routed design, and that the judge accepts its texts.
-fn put_tried<D: Desk>(pen: &mut Pen<'_, D>, routed: &RoutedDesign)
-    ensures same_desk { HasSameDesk pen.old pen.new }
-    ensures puts { Puts (pen_told D.told pen.old) (pen_told D.told pen.new) (trial_text routed.now.rounded routed.now.rounds routed.now.cert) }
-{
-    put_report(pen, routed.rounded, routed.rounds, &routed.cert);
-    pen.put(b"judge yes\n");
+/// A routed design of which the judge accepts the texts.
+#[derive(Drop)]
+struct AcceptedDesign {
+    routed: RoutedDesign,
 }
 
-/// Writes these lines on the report.
-fn write_tried<D: Desk>(desk: &mut D, routed: &RoutedDesign) -> Result<(), Failed>
-    ensures { Ends (D.told desk.old) (D.told desk.new) Report (trial_text routed.now.rounded routed.now.rounds routed.now.cert) result }
-{
-    let mut pen = Pen::new(desk, Port::Report);
-    put_tried(&mut pen, routed);
-    pen.finish()
-}
+impl Said for AcceptedDesign {
+    ghost may = { λ _. Unit {0} };
 
-/// Says them on the report, and answers the status.
-fn say_tried<D: Desk>(desk: &mut D, routed: &RoutedDesign) -> u8
-    ensures { SaysDone (trial_text routed.now.rounded routed.now.rounds routed.now.cert) (D.told desk.old) (D.told desk.new) result }
-{
-    match write_tried(desk, routed) {
-        Ok(()) => DONE,
-        Err(Failed) => UNWRITTEN,
+    ghost text = { λ d. trial_text d.routed.rounded d.routed.rounds d.routed.cert };
+
+    fn put<D: Desk>(&self, pen: &mut Pen<'_, D>) {
+        put_report(
+            pen,
+            self.routed.rounded,
+            self.routed.rounds,
+            &self.routed.cert,
+        );
+        pen.put(b"judge yes\n");
     }
 }

@@ -13,16 +13,16 @@ ghost use Rattle.route_text.specs.declared.block.Block.{Block};
 ghost use Rattle.route_text.specs.Blocks.{blocks_of};
 ghost use Rattle.route_text.specs.RouteText.{routes_text};
 ghost use Rattle.tree_set.specs.Routings.{ArePieces};
-ghost use Rattle.judge_cli.specs.declared.refusal.Refusal.{Refusal};
+ghost use Rattle.command_runs.specs.declared.refusal.Refusal.{Refusal};
 ghost use Rattle.router_cli.specs.TextsMeet.{TextsMeet};
 
 use crate::outputs::{make_design, make_routes};
 use crate::routed_design::RoutedDesign;
 use cert_text::{Cert, read_cert};
+use command_runs::{GroundedDesign, Refusal, grounded, make_cert};
 use gr_desk::{MemDesk, Port};
 use gr_make::Shape;
 use grid_graph::Ground;
-use judge_cli::{GroundedDesign, Refusal, grounded, make_cert};
 use route_judge::{Verdict, judge};
 use route_text::{Block, read_routes};
 use std::alloc::Global;

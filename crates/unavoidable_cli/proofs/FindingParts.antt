@@ -24,7 +24,7 @@ use Rattle.unavoidable_cli.specs.declared.priced_edge.PricedEdge.{PricedEdge}
 use Rattle.unavoidable_cli.specs.Findings.{IsFinding, IsSameOrBetter}
 use Rattle.unavoidable_cli.specs.PricedEdges.{IsEdgeOf, priced_edges}
 use Rattle.unavoidable_cli.specs.Report.{HasEdges}
-use Rattle.unavoidable_cli.proofs.Kept.{has_price, with_price}
+use Rattle.unavoidable_cli.proofs.PricedEdges.{has_price, with_price}
 
 -- blocks that are accepted with a certificate are routes
 pub judged_routes : (d : Design) (over : List Ground) (blocks : List Block) (cert : Cert) → IsJudged d over blocks cert None → AreRoutes d blocks

@@ -1,4 +1,4 @@
-pub mod Kept
+pub mod PricedEdges
 pub mod FindingParts
 pub mod NewCerts
 pub mod TwoLists

@@ -11,7 +11,7 @@ use Rattle.grid_graph.specs.declared.ground.Ground.{Ground}
 use Rattle.cert_text.specs.declared.cert.Cert.{Cert}
 use Rattle.cert_text.specs.CertText.{cert_text}
 use Rattle.judge_cli.specs.AnswerLines.{reason_text}
-use Rattle.judge_cli.specs.CommandRun.{RunOutcome}
+use Rattle.command_runs.specs.CommandRun.{RunOutcome}
 use Rattle.judge_cli.specs.JudgeRun.{IsReadCert}
 use Rattle.judge_cli.specs.MeasureRun.{AreReadRoutes}
 use Rattle.route_judge.specs.Judgements.{IsJudged}

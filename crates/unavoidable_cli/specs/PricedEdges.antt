@@ -5,7 +5,7 @@ use Rattle.grid_base.specs.declared.piece.Piece.TheVariants.{Edge}
 use Rattle.grid_base.specs.Numbers.{IsPiece, end_of, start_of}
 use Rattle.grid_graph.specs.declared.grid.Grid.{Grid}
 use Rattle.grid_graph.specs.Grids.{edge_numbers, size_of}
-use Rattle.judge_cli.specs.Lines.{fields, line}
+use Rattle.command_runs.specs.Lines.{fields, line}
 use Rattle.route_text.specs.RouteText.{point_text}
 use Rattle.unavoidable_cli.specs.declared.priced_edge.PricedEdge.{PricedEdge}
 

@@ -1,7 +1,7 @@
 -- The report of a finding.
 use Rattle.std.specs.Prelude.{ℕ, All, List, [], ◌∷◌, ◌++◌, codes}
 use Rattle.cert_text.specs.CertText.{fraction_text, labelled}
-use Rattle.judge_cli.specs.Lines.{line}
+use Rattle.command_runs.specs.Lines.{line}
 use Rattle.unavoidable_cli.specs.declared.finding.Finding.{Finding}
 use Rattle.unavoidable_cli.specs.PricedEdges.{IsEdgeOf, edges_text}
 

@@ -2,8 +2,8 @@
 use Rattle.std.specs.Prelude.{ℕ, List, [], ◌∷◌}
 use Rattle.gr_desk.specs.declared.port.Port.TheVariants.{In, RoutesIn, CertIn, CertOut}
 use Rattle.gr_desk.specs.Told.{Told}
-use Rattle.judge_cli.specs.CommandRun.{IsCommandRun}
-use Rattle.judge_cli.specs.Sources.{Source}
+use Rattle.command_runs.specs.CommandRun.{IsCommandRun}
+use Rattle.command_runs.specs.Sources.{Source}
 use Rattle.unavoidable_cli.specs.FoundHeadline.{IsUnavoidableOutcome}
 use Rattle.unavoidable_cli.specs.Words.{UnavoidableTask}
 

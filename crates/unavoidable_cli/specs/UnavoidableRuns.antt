@@ -7,14 +7,14 @@
 --   Words           which words are a command, and what they ask for
 --   Report          the report, and
 --   PricedEdges     its lines for edges
--- and in the crates below: `CommandRun` of `judge_cli` for what a run leaves on each status, which is the same for every command,
+-- and in the crates below: `CommandRun` of `command_runs` for what a run leaves on each status, which is the same for every command,
 -- `Refusals`, `Traces` and `Outputs` there for its words, and `LeastOverflow` of `dual_bound` for what a price list shows.
 use Rattle.std.specs.Prelude.{◌≡◌, ℕ, List, [], map, string_bytes, true, false}
 use Rattle.std.specs.declared.string.String.{String}
 use Rattle.gr_desk.specs.Told.{Told}
-use Rattle.judge_cli.specs.declared.refusal.Refusal.TheVariants.{NoCommand}
-use Rattle.judge_cli.specs.Lines.{status_of}
-use Rattle.judge_cli.specs.Traces.{ReportsSince, TouchesOnly}
+use Rattle.command_runs.specs.declared.refusal.Refusal.TheVariants.{NoCommand}
+use Rattle.command_runs.specs.Lines.{status_of}
+use Rattle.command_runs.specs.Traces.{ReportsSince, TouchesOnly}
 use Rattle.unavoidable_cli.specs.UnavoidableRun.{IsUnavoidableRun}
 use Rattle.unavoidable_cli.specs.Words.{are_four_names, unavoidable_task_of_words, usage_text}
 

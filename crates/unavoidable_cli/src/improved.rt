@@ -6,12 +6,13 @@ ghost use Rattle.edge_prices.specs.Budgets.{most_of};
 ghost use Rattle.unavoidable_cli.specs.Findings.{IsAbove, IsBetter, IsSameOrBetter};
 ghost use Rattle.unavoidable_cli.specs.ShownLists.{IsShownList};
 
-use crate::lists::{open_prices, priced_edges};
+use crate::lists::priced_edges;
 use crate::priced_edge::PricedEdge;
 use crate::shown_list::{ShownList, is_above};
 use cert_text::Cert;
 use grid_base::NoMemory;
 use grid_graph::Design;
+use judge_laws::open_prices;
 use std::alloc::Global;
 use tree_set::Budget;
 

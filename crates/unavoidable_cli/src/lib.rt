@@ -18,9 +18,10 @@
 //! full; prices there, and 0 elsewhere, show what can't be avoided, whoever made them. The new certificate has the greater bound
 //! and the prices that show it, so anybody can judge it again.
 //!
-//! It stands on `judge_cli` and `route_judge` to read and to judge, on `hot_cuts` for price lists, on `dual_bound` for what they
-//! show, on `judge_laws` for the law that the new certificate is accepted, on `route_text` and `cert_text` for texts, on
-//! `tree_set`, `edge_prices`, `grid_graph` and `grid_base`, on `command_words` for what a name of a file is, and on `gr_desk`.
+//! It stands on `command_runs` for how every run ends, on `judge_cli` and `route_judge` to read and to judge, on `hot_cuts` for
+//! price lists, on `dual_bound` for what they show, on `judge_laws` for the prices that a certificate lists and for the law that
+//! the new one is accepted, on `route_text` and `cert_text` for texts, on `tree_set`, `edge_prices`, `grid_graph` and `grid_base`,
+//! on `command_words` for what a name of a file is, and on `gr_desk`.
 //!
 //! Promised, in the words of `specs/UnavoidableRuns.antt`, which is the page to begin with: where the status is 0, the judge
 //! accepts the new certificate, whose bound is not below the given one and holds of every routing, whole or mixed, that keeps to
@@ -33,7 +34,6 @@
 mod finding;
 mod found;
 mod improved;
-mod judged;
 mod lists;
 mod names;
 mod outcome;

@@ -1,18 +1,17 @@
 //! The report of a finding.
 
 ghost use Rattle.std.specs.Prelude.{◌≡◌, All, flat_map};
-ghost use Rattle.gr_desk.specs.declared.port.Port.TheVariants.{Report};
-ghost use Rattle.gr_desk.specs.Pens.{Ends, Puts, pen_told, HasSameDesk};
+ghost use Rattle.gr_desk.specs.Pens.{Puts, pen_told, HasSameDesk};
 ghost use Rattle.unavoidable_cli.specs.PricedEdges.{IsEdgeOf, edge_line, edges_text};
 ghost use Rattle.unavoidable_cli.specs.Report.{HasEdges, finding_report};
 
 use crate::finding::Finding;
 use crate::priced_edge::PricedEdge;
 use cert_text::put_labelled_fraction;
-use gr_desk::{Desk, Failed, Pen, Port};
+use command_runs::{Said, put_fields, put_line};
+use gr_desk::{Desk, Pen};
 use grid_base::Piece;
 use grid_graph::Grid;
-use judge_cli::{put_fields, put_line};
 use route_text::put_point;
 
 /// Puts the line of an edge: its two ends and its price.
@@ -50,26 +49,17 @@ fn put_edges<D: Desk>(pen: &mut Pen<'_, D>, word: &[u8], grid: &Grid, edges: &[P
     put_edge_lines(pen, grid, edges);
 }
 
-/// Puts the report of a finding.
-fn put_finding<D: Desk>(pen: &mut Pen<'_, D>, finding: &Finding)
-    requires { HasEdges finding.now }
-    ensures same_desk { HasSameDesk pen.old pen.new }
-    ensures puts { Puts (pen_told D.told pen.old) (pen_told D.told pen.new) (finding_report finding.now) }
-{
-    let grid = &finding.design.grid;
-    put_labelled_fraction(pen, b"bound", finding.new.bound);
-    put_edges(pen, b"bottleneck", grid, finding.bottleneck.as_slice());
-    put_line(pen, b"overflow", &[finding.overflow]);
-    put_edges(pen, b"cut", grid, finding.cut.as_slice());
-    put_line(pen, b"routes", &[finding.routes]);
-}
+impl Said for Finding {
+    ghost may = { HasEdges };
 
-/// Writes the report of a finding.
-pub(crate) fn write_finding<D: Desk>(desk: &mut D, finding: &Finding) -> Result<(), Failed>
-    requires { HasEdges finding.now }
-    ensures { Ends (D.told desk.old) (D.told desk.new) Report (finding_report finding.now) result }
-{
-    let mut pen = Pen::new(desk, Port::Report);
-    put_finding(&mut pen, finding);
-    pen.finish()
+    ghost text = { finding_report };
+
+    fn put<D: Desk>(&self, pen: &mut Pen<'_, D>) {
+        let grid = &self.design.grid;
+        put_labelled_fraction(pen, b"bound", self.new.bound);
+        put_edges(pen, b"bottleneck", grid, self.bottleneck.as_slice());
+        put_line(pen, b"overflow", &[self.overflow]);
+        put_edges(pen, b"cut", grid, self.cut.as_slice());
+        put_line(pen, b"routes", &[self.routes]);
+    }
 }

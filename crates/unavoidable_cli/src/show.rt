@@ -1,19 +1,19 @@
 //! What the program does where its words are a command.
 
 ghost use Rattle.std.specs.Prelude.{◌≡◌};
-ghost use Rattle.judge_cli.specs.Saying.{Leaves, SaysDone};
+ghost use Rattle.command_runs.specs.Saying.{Leaves};
 ghost use Rattle.unavoidable_cli.specs.FoundHeadline.{run_outcome};
-ghost use Rattle.unavoidable_cli.specs.Report.{HasEdges, finding_report};
+ghost use Rattle.unavoidable_cli.specs.Report.{HasEdges};
 ghost use Rattle.unavoidable_cli.specs.UnavoidableRun.{IsUnavoidableRun, unavoidable_files};
 ghost use Rattle.unavoidable_cli.specs.Words.{unavoidable_task_of};
 
 use crate::finding::Finding;
-use crate::judged::judged;
 use crate::names::Names;
-use crate::outcome::Outcome;
-use crate::report::write_finding;
+use crate::outcome::{Outcome, outcome_of};
+use command_runs::{Refusal, make_cert, refuse, say, say_unwritten};
 use gr_desk::{Desk, Failed};
-use judge_cli::{Answer, DONE, UNWRITTEN, make_cert, refuse, say, say_unwritten};
+use grid_base::NoMemory;
+use judge_cli::{Answer, read_certified};
 use std::alloc::Global;
 use std::thread::Threads;
 
@@ -26,9 +26,12 @@ pub(crate) fn show<R: Threads + Sync, D: Desk>(
 ) -> u8
     ensures { IsUnavoidableRun (unavoidable_task_of names.now) (D.told desk.old) (D.told desk.new) result }
 {
-    match judged(rt, alloc, names, desk) {
-        Ok(Outcome::Found(finding)) => finish(desk, names, &finding),
-        Ok(Outcome::Objected(reason)) => say(desk, Answer::No(reason)),
+    match read_certified(alloc, desk, names.input, names.routes, names.certificate) {
+        Ok(read) => match outcome_of(rt, alloc, read) {
+            Ok(Outcome::Found(finding)) => finish(desk, names, &finding),
+            Ok(Outcome::Objected(reason)) => say(desk, &Answer::No(reason), true),
+            Err(NoMemory) => refuse(desk, Refusal::NoMemory),
+        },
         Err(refusal) => refuse(desk, refusal),
     }
 }
@@ -39,18 +42,7 @@ fn finish<D: Desk>(desk: &mut D, names: &Names<'_>, finding: &Finding) -> u8
     ensures { Leaves (unavoidable_files (unavoidable_task_of names.now)) (run_outcome (Outcome.Found finding.now)) (D.told desk.old) (D.told desk.new) result }
 {
     match make_cert(desk, names.new_certificate, &finding.new) {
-        Ok(()) => say_finding(desk, finding),
+        Ok(()) => say(desk, finding, false),
         Err(Failed) => say_unwritten(desk),
-    }
-}
-
-/// Reports what was found, and answers the status.
-fn say_finding<D: Desk>(desk: &mut D, finding: &Finding) -> u8
-    requires { HasEdges finding.now }
-    ensures { SaysDone (finding_report finding.now) (D.told desk.old) (D.told desk.new) result }
-{
-    match write_finding(desk, finding) {
-        Ok(()) => DONE,
-        Err(Failed) => UNWRITTEN,
     }
 }

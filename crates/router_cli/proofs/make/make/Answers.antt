@@ -2,11 +2,11 @@ use Rattle.std.proofs.Common.{◌≡◌, [], false, refl, subst}
 use Rattle.gr_desk.specs.declared.port.Port.TheVariants.{DesignOut}
 use Rattle.gr_make.specs.declared.shape.Shape.{Shape}
 use Rattle.gr_make.specs.MadeText.{made_text}
-use Rattle.judge_cli.specs.Outputs.{Makes}
-use Rattle.judge_cli.specs.Saying.{Leaves, SaysDone}
-use Rattle.judge_cli.proofs.EndedRuns.{run-left}
-use Rattle.judge_cli.proofs.LeftOutcomes.{leaves-file, leaves-text, leaves-unmade}
-use Rattle.judge_cli.proofs.ReadFiles.{reads-nothing}
+use Rattle.command_runs.specs.Outputs.{Makes}
+use Rattle.command_runs.specs.Saying.{Leaves, Says}
+use Rattle.command_runs.proofs.EndedRuns.{run-left}
+use Rattle.command_runs.proofs.LeftOutcomes.{leaves-file, leaves-text, leaves-unmade}
+use Rattle.command_runs.proofs.ReadFiles.{reads-none}
 use Rattle.router_cli.specs.MakeRun.{make_files, make_task_of, made_line, made_outcome}
 use Rattle.router_cli.proofs.RouteFiles.{make-outputs}
 use Rattle.router_cli.proofs.make.make.Goals as goal
@@ -16,20 +16,20 @@ returns-in-Ok g c =
     let told = g.D.Desk.told in
     let a = told c.args.desk.now in
     let b = told c.make_design.new.desk in
-    let d = told c.say_made.new.desk in
+    let d = told c.say.new.desk in
     let q = make_task_of c.args.request.now in
     let text = made_text q.seed q.shape in
     let line = made_line q.shape.nets in
     let shape = c.shape_of-shape.ensures.shape in
     let makes = subst (λ (s : Shape). Makes a b DesignOut q.output (made_text q.seed s) c.make_design.result) shape
     c.make_design.ensures in
-    let says = subst (λ (s : Shape). SaysDone (made_line s.nets) b d c.say_made.result) shape c.say_made.ensures in
-    let leaves : Leaves (make_files q) (made_outcome q) a d c.say_made.result =
+    let says = subst (λ (s : Shape). Says (made_line s.nets) false b d c.say.result) shape c.say.ensures in
+    let leaves : Leaves (make_files q) (made_outcome q) a d c.say.result =
     leaves-file (record { port = DesignOut; name = q.output }) [] text (record { texts = []; report = line; objects = false })
-    a b d c.say_made.result c.make_design.result
-    (make-outputs q) (rw c.in-Ok.is refl) makes (leaves-text line b d c.say_made.result says) in
-    run-left [] (make_files q) (λ outcome. outcome ≡ made_outcome q) a a d c.say_made.result (made_outcome q) tt
-    (make-outputs q) tt refl (reads-nothing [] a) refl leaves
+    a b d c.say.result c.make_design.result
+    (make-outputs q) (rw c.in-Ok.is refl) makes (leaves-text line false b d c.say.result says) in
+    run-left [] (make_files q) (λ outcome. outcome ≡ made_outcome q) a a d c.say.result (made_outcome q) tt
+    (make-outputs q) refl (reads-none a q) leaves
 
 pub returns-in-Err : goal.returns-in-Err
 returns-in-Err g c =
@@ -44,7 +44,7 @@ returns-in-Err g c =
     c.shape_of-shape.ensures.shape c.make_design.ensures in
     let leaves : Leaves (make_files q) (made_outcome q) a d c.say_unwritten.result =
     leaves-unmade (record { port = DesignOut; name = q.output }) [] text [] (made_line q.shape.nets) a b d
-    c.say_unwritten.result said.part.0 c.make_design.result
-    (make-outputs q) (rw c.in-Err.is refl) makes said.status said.part.1 said.whole in
+    c.say_unwritten.result c.make_design.result
+    (make-outputs q) (rw c.in-Err.is refl) makes said.status said.says in
     run-left [] (make_files q) (λ outcome. outcome ≡ made_outcome q) a a d c.say_unwritten.result (made_outcome q) tt
-    (make-outputs q) tt refl (reads-nothing [] a) refl leaves
+    (make-outputs q) refl (reads-none a q) leaves

@@ -1,5 +1,5 @@
 use Rattle.gr_desk.specs.declared.port.Port.TheVariants.{RoutesOut}
-use Rattle.judge_cli.proofs.MadeFiles.{makes-written, makes-refused}
+use Rattle.command_runs.proofs.MadeFiles.{makes-written, makes-refused}
 use Rattle.router_cli.proofs.outputs.make_routes.Goals as goal
 
 pub returns-in_err-create : goal.returns-in_err-create

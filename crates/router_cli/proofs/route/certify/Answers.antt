@@ -1,7 +1,7 @@
-use Rattle.std.proofs.Common.{[], refl}
+use Rattle.std.proofs.Common.{[], false, refl}
 use Rattle.cert_text.specs.CertText.{cert_text}
 use Rattle.gr_desk.specs.declared.port.Port.TheVariants.{CertOut}
-use Rattle.judge_cli.proofs.LeftOutcomes.{leaves-file, leaves-text, leaves-unmade}
+use Rattle.command_runs.proofs.LeftOutcomes.{leaves-file, leaves-text, leaves-unmade}
 use Rattle.router_cli.specs.Headline.{routed_outcome}
 use Rattle.router_cli.specs.Tasks.{task_of}
 use Rattle.router_cli.proofs.RouteFiles.{cert-output}
@@ -13,10 +13,10 @@ returns-in-Ok g c =
     let q = task_of c.args.request.now in
     let r = c.args.routed.now in
     leaves-file (record { port = CertOut; name = q.cert }) [] (cert_text r.cert) (record (routed_outcome r) { texts = [] })
-    (told c.args.desk.now) (told c.make_cert.new.desk) (told c.report.new.desk) c.report.result c.make_cert.result
+    (told c.args.desk.now) (told c.make_cert.new.desk) (told c.say.new.desk) c.say.result c.make_cert.result
     (cert-output q.cert) (rw c.in-Ok.is refl) c.make_cert.ensures
-    (leaves-text (routed_outcome r).report (told c.make_cert.new.desk) (told c.report.new.desk) c.report.result
-    c.report.ensures)
+    (leaves-text (routed_outcome r).report false (told c.make_cert.new.desk) (told c.say.new.desk) c.say.result
+    c.say.ensures)
 
 pub returns-in-Err : goal.returns-in-Err
 returns-in-Err g c =
@@ -25,6 +25,6 @@ returns-in-Err g c =
     let r = c.args.routed.now in
     let said = c.say_unwritten.ensures in
     leaves-unmade (record { port = CertOut; name = q.cert }) [] (cert_text r.cert) [] (routed_outcome r).report
-    (told c.args.desk.now) (told c.make_cert.new.desk) (told c.say_unwritten.new.desk) c.say_unwritten.result said.part.0
+    (told c.args.desk.now) (told c.make_cert.new.desk) (told c.say_unwritten.new.desk) c.say_unwritten.result
     c.make_cert.result
-    (cert-output q.cert) (rw c.in-Err.is refl) c.make_cert.ensures said.status said.part.1 said.whole
+    (cert-output q.cert) (rw c.in-Err.is refl) c.make_cert.ensures said.status said.says

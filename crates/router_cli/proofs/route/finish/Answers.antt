@@ -2,7 +2,7 @@ use Rattle.std.proofs.Common.{[], ◌∷◌, refl}
 use Rattle.std.proofs.lemmas.Slice.Zip.{AllZip-long}
 use Rattle.cert_text.specs.CertText.{cert_text}
 use Rattle.gr_desk.specs.declared.port.Port.TheVariants.{RoutesOut, CertOut}
-use Rattle.judge_cli.proofs.LeftOutcomes.{leaves-file, leaves-unmade}
+use Rattle.command_runs.proofs.LeftOutcomes.{leaves-file, leaves-unmade}
 use Rattle.route_text.specs.RouteText.{routes_text}
 use Rattle.tree_set.specs.Routings.{IsRoute}
 use Rattle.router_cli.specs.Headline.{routed_outcome}
@@ -39,6 +39,6 @@ returns-in-Err g c =
     let said = c.say_unwritten.ensures in
     leaves-unmade (record { port = RoutesOut; name = q.routes }) (record { port = CertOut; name = q.cert } ∷ [])
     (routes_text r.design.grid r.design.nets r.trees) (cert_text r.cert ∷ []) (routed_outcome r).report
-    (told c.args.desk.now) (told c.make_routes.new.desk) (told c.say_unwritten.new.desk) c.say_unwritten.result said.part.0
+    (told c.args.desk.now) (told c.make_routes.new.desk) (told c.say_unwritten.new.desk) c.say_unwritten.result
     c.make_routes.result
-    (route-outputs q) (rw c.in-Err.is refl) (rw c.list.ensures at c.make_routes.ensures) said.status said.part.1 said.whole
+    (route-outputs q) (rw c.in-Err.is refl) (rw c.list.ensures at c.make_routes.ensures) said.status said.says

@@ -80,11 +80,11 @@ pub returns-in-Err-Refused : goal.returns-in-Err-Refused
 returns-in-Err-Refused g c =
     let told = g.D.Desk.told in
     let said = c.refuse.ensures in
-    run-without_command c.args.words.now.items (told c.args.desk.now) (told c.refuse.new.desk) c.refuse.result said.part.0
-    (rw c.as_slice.ensures.value at (c.in-Err-Refused.ensures.refused c.in-Err-Refused.field-0-is)) said.status said.part.1 said.whole
+    run-without_command c.args.words.now.items (told c.args.desk.now) (told c.refuse.new.desk) c.refuse.result
+    (rw c.as_slice.ensures.value at (c.in-Err-Refused.ensures.refused c.in-Err-Refused.field-0-is)) said.status said.says
 
 pub returns-in-Err-NoMemory : goal.returns-in-Err-NoMemory
 returns-in-Err-NoMemory g c =
     let told = g.D.Desk.told in
     let said = c.refuse-in-Err-NoMemory.ensures in
-    run-without_memory c.args.words.now.items (told c.args.desk.now) (told c.refuse-in-Err-NoMemory.new.desk) c.refuse-in-Err-NoMemory.result said.part.0 said.status said.part.1 said.whole
+    run-without_memory c.args.words.now.items (told c.args.desk.now) (told c.refuse-in-Err-NoMemory.new.desk) c.refuse-in-Err-NoMemory.result said.status said.says

@@ -11,7 +11,7 @@ use Rattle.routing_stages.specs.declared.settings.Settings.{Settings}
 use Rattle.tree_set.specs.Routings.{IsRoute}
 use Rattle.router_cli.specs.Headline.{IsRoutedDesign}
 use Rattle.router_cli.specs.TrialRun.{trial_task_of}
-use Rattle.judge_cli.proofs.Outcomes.{same_refusal}
+use Rattle.command_runs.proofs.Outcomes.{same_refusal}
 use Rattle.router_cli.proofs.Routed.{routes_are_pieces}
 use Rattle.router_cli.proofs.TrueTexts.{texts_meet}
 use Rattle.router_cli.proofs.trial.tried.Goals as goal

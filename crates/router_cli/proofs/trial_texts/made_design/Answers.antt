@@ -3,7 +3,7 @@ use Rattle.gr_desk.specs.declared.port.Port.TheVariants.{In, DesignOut}
 use Rattle.gr_desk.specs.Memory.{told_of}
 use Rattle.gr_desk.specs.Told.{PortTold}
 use Rattle.gr_make.specs.MadeText.{made_text}
-use Rattle.judge_cli.specs.Refusals.{IsRefusedAt}
+use Rattle.command_runs.specs.Refusals.{IsRefusedAt}
 use Rattle.router_cli.proofs.InMemory.{made_not_refused, written_whole}
 use Rattle.router_cli.proofs.trial_texts.made_design.Goals as goal
 

@@ -5,9 +5,9 @@ use Rattle.cert_text.proofs.ReadBackCerts.{only_cert}
 use Rattle.gr_desk.specs.declared.port.Port.TheVariants.{CertOut}
 use Rattle.gr_desk.specs.Memory.{told_of}
 use Rattle.gr_desk.specs.Told.{PortTold}
-use Rattle.judge_cli.specs.JudgedTexts.{of_cert_error}
+use Rattle.command_runs.specs.JudgedTexts.{of_cert_error}
 use Rattle.router_cli.proofs.InMemory.{cert_error_is_memory, written_whole}
-use Rattle.judge_cli.proofs.Outcomes.{same_refusal}
+use Rattle.command_runs.proofs.Outcomes.{same_refusal}
 use Rattle.router_cli.proofs.trial_texts.read_back_cert.Goals as goal
 
 pub returns-in_err-read_cert-clause-refused : goal.returns-in_err-read_cert-clause-refused

@@ -2,7 +2,8 @@ use Rattle.std.proofs.Common.{◌++◌, ◌∷◌, [], List, sym, ◌∙◌, ap,
 use Rattle.std.specs.Prelude.{slice_index}
 use Rattle.std.proofs.lemmas.Bool.{lt-ltb, le-ltb}
 use Rattle.unavoidable_cli.specs.declared.priced_edge.PricedEdge.{PricedEdge}
-use Rattle.unavoidable_cli.proofs.Kept.{has_price, kept-more, kept-same, with_price}
+use Rattle.judge_laws.proofs.Kept.{kept-more, kept-same}
+use Rattle.unavoidable_cli.proofs.PricedEdges.{has_price, with_price}
 use Rattle.unavoidable_cli.proofs.lists.priced_edges.Goals as goal
 use Rattle.unavoidable_cli.proofs.lists.priced_edges.Goals.{then-price-gt0+in_ok-push, else-price-gt0}
 

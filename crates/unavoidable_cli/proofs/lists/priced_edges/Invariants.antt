@@ -1,5 +1,6 @@
 use Rattle.std.proofs.Common.{◌≡◌}
-use Rattle.unavoidable_cli.proofs.Kept.{has_price, kept, with_price}
+use Rattle.judge_laws.proofs.Kept.{kept}
+use Rattle.unavoidable_cli.proofs.PricedEdges.{has_price, with_price}
 use Rattle.unavoidable_cli.proofs.lists.priced_edges.Given as goal
 
 -- those with a price among the edges that were looked at

@@ -1,9 +1,11 @@
-use Rattle.std.proofs.Common.{◌≡◌, refl}
-use Rattle.judge_cli.specs.declared.answer.Answer.TheVariants.{No}
-use Rattle.judge_cli.specs.declared.refusal.Refusal.TheVariants.{Unread}
-use Rattle.judge_cli.proofs.LeftOutcomes.{leaves-answer}
+use Rattle.std.proofs.Common.{true}
+use Rattle.command_runs.specs.declared.refusal.Refusal.TheVariants.{NoMemory}
+use Rattle.command_runs.proofs.LeftOutcomes.{leaves-text}
+use Rattle.command_runs.proofs.ReadFiles.{sources-memory}
+use Rattle.judge_cli.specs.AnswerLines.{reason_text}
 use Rattle.unavoidable_cli.specs.declared.outcome.Outcome.TheVariants.{Found, Objected}
-use Rattle.unavoidable_cli.specs.FoundHeadline.{IsOutcome}
+use Rattle.unavoidable_cli.specs.FoundHeadline.{IsOutcomeOf}
+use Rattle.unavoidable_cli.specs.UnavoidableRun.{unavoidable_sources}
 use Rattle.unavoidable_cli.specs.Words.{unavoidable_task_of}
 use Rattle.unavoidable_cli.proofs.FindingParts.{finding_edges}
 use Rattle.unavoidable_cli.proofs.WholeRuns.{run-shown, run-not_shown}
@@ -11,34 +13,60 @@ use Rattle.unavoidable_cli.proofs.show.show.Goals as goal
 
 pub finish-requires : goal.finish-requires
 finish-requires g c =
-    let q = unavoidable_task_of c.args.names.now in
+    let r = c.in-Ok.read in
     let f = c.in-Ok-Found.finding in
-    let is : IsOutcome q (g.D.Desk.told c.args.desk.now) (Found f) = rw c.in-Ok-Found.field-0-is at c.in-Ok-Found.ensures.outcome in
-    finding_edges is.grounds is.blocks is.cert f is.comes.2
+    let is : IsOutcomeOf r.routed.grounded.design r.routed.grounded.grounds.items r.routed.blocks.items r.cert (Found f) =
+    rw c.in-Ok-Found.field-0-is at c.in-Ok-Found.ensures in
+    finding_edges r.routed.grounded.grounds.items r.routed.blocks.items r.cert f is.2
 
 pub returns-in-Ok-Found : goal.returns-in-Ok-Found
 returns-in-Ok-Found g c =
     let told = g.D.Desk.told in
-    let q = unavoidable_task_of c.args.names.now in
-    let done = c.in-Ok-Found.ensures in
-    run-shown q (told c.args.desk.now) (told c.judged.new.desk) (told c.finish.new.desk) c.finish.result (Found c.in-Ok-Found.finding)
-    (rw c.in-Ok-Found.field-0-is at done.outcome) done.reads.reads (done.reads.quiet (λ h. cc)) c.finish.ensures
+    let r = c.in-Ok.read in
+    let read = c.in-Ok.ensures in
+    run-shown (unavoidable_task_of c.args.names.now) (told c.args.desk.now) (told c.read_certified.new.desk) (told c.finish.new.desk)
+    c.finish.result (Found c.in-Ok-Found.finding)
+    (record {
+      design = r.routed.grounded.design;
+      grounds = r.routed.grounded.grounds.items;
+      blocks = r.routed.blocks.items;
+      cert = r.cert;
+      are_read = read.are_read;
+      cert_read = read.cert;
+      comes = rw c.in-Ok-Found.field-0-is at c.in-Ok-Found.ensures;
+    })
+    read.reads c.finish.ensures
 
 pub returns-in-Ok-Objected : goal.returns-in-Ok-Objected
 returns-in-Ok-Objected g c =
     let told = g.D.Desk.told in
-    let q = unavoidable_task_of c.args.names.now in
-    let done = c.in-Ok-Objected.ensures in
+    let b = told c.read_certified.new.desk in
+    let r = c.in-Ok.read in
+    let read = c.in-Ok.ensures in
     let reason = c.in-Ok-Objected.reason in
-    run-shown q (told c.args.desk.now) (told c.judged.new.desk) (told c.say.new.desk) c.say.result (Objected reason)
-    (rw c.in-Ok-Objected.field-0-is at done.outcome) done.reads.reads (done.reads.quiet (λ h. cc))
-    (leaves-answer (No reason) (told c.judged.new.desk) (told c.say.new.desk) c.say.result c.say.ensures)
+    run-shown (unavoidable_task_of c.args.names.now) (told c.args.desk.now) b (told c.say.new.desk) c.say.result (Objected reason)
+    (record {
+      design = r.routed.grounded.design;
+      grounds = r.routed.grounded.grounds.items;
+      blocks = r.routed.blocks.items;
+      cert = r.cert;
+      are_read = read.are_read;
+      cert_read = read.cert;
+      comes = rw c.in-Ok-Objected.field-0-is at c.in-Ok-Objected.ensures;
+    })
+    read.reads (leaves-text (reason_text reason) true b (told c.say.new.desk) c.say.result c.say.ensures)
+
+pub returns-in-Err-outcome_of : goal.returns-in-Err-outcome_of
+returns-in-Err-outcome_of g c =
+    let told = g.D.Desk.told in
+    let q = unavoidable_task_of c.args.names.now in
+    run-not_shown q (told c.args.desk.now) (told c.read_certified.new.desk)
+    (told c.refuse.new.desk) c.refuse.result NoMemory (sources-memory {sources = unavoidable_sources q} c.in-Ok.ensures.reads) c.refuse.ensures.status
+    c.refuse.ensures.says
 
 pub returns-in-Err : goal.returns-in-Err
 returns-in-Err g c =
     let told = g.D.Desk.told in
-    let q = unavoidable_task_of c.args.names.now in
-    let r = c.in-Err.refusal in
-    let failed = c.in-Err.ensures.reads in
-    run-not_shown q (told c.args.desk.now) (told c.judged.new.desk) (told c.refuse.new.desk) c.refuse.result c.refuse.ensures.part.0 r
-    (failed.refused r refl) failed.reads (λ not. failed.quiet (λ is. not (let same : r ≡ Unread = cc in same))) c.refuse.ensures.status c.refuse.ensures.part.1 c.refuse.ensures.whole
+    run-not_shown (unavoidable_task_of c.args.names.now) (told c.args.desk.now) (told c.read_certified.new.desk)
+    (told c.refuse-in-Err.new.desk) c.refuse-in-Err.result c.in-Err.refusal c.in-Err.ensures.reads c.refuse-in-Err.ensures.status
+    c.refuse-in-Err.ensures.says

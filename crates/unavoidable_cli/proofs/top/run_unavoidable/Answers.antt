@@ -23,6 +23,6 @@ returns-in-None g c =
     let none : are_four_names words ≡ false = rw c.as_slice.ensures.value at c.in-None.ensures in
     let said = c.say_usage.ensures in
     record {
-      no_command = λ _. run-usage (told c.args.desk.now) (told c.say_usage.new.desk) c.say_usage.result said.part.0 said.status said.part.1 said.whole;
+      no_command = λ _. run-usage (told c.args.desk.now) (told c.say_usage.new.desk) c.say_usage.result said.status said.says;
       command = λ some. absurd (true≢false (sym some ∙ none));
     }

@@ -1,0 +1,12 @@
+pub mod Endings
+pub mod Fields
+pub mod Outcomes
+pub mod Traces
+pub mod Bytes
+pub mod Causes
+pub mod ReadFiles
+pub mod RefusedRuns
+pub mod MadeFiles
+pub mod FilePorts
+pub mod LeftOutcomes
+pub mod EndedRuns
