@@ -2,7 +2,7 @@ pub use Rattle.cert_text.specs.CertText
 pub use Rattle.grid_graph.specs.Borders
 pub use Rattle.grid_graph.specs.Grounds
 pub use Rattle.ispd_reader.specs.Designs
-pub use Rattle.price_workers.specs.Settings
+pub use Rattle.routing_stages.specs.Settings
 pub use Rattle.route_text.specs.Blocks
 pub use Rattle.route_text.specs.ReadBack
 pub use Rattle.route_text.specs.RouteText
