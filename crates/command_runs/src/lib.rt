@@ -8,7 +8,7 @@
 //! ```
 //!
 //! It stands on `ispd_reader` for the design, `grid_graph` for the nets' grounds, `route_text` and `cert_text` for what the texts of
-//! routes and certificates say, `gr_desk` to read from and write to, `tree_set` for budgets, `text_scan`, `grid_base` and `itoa`. It
+//! routes and certificates say, `gr_desk` to read from and write to, `tree_set` for budgets, `text_scan` and `grid_base`. It
 //! knows nothing of how routes are found or judged.
 //!
 //! Promised, in the words of `specs/CommandRun.antt`: a run of a command has one status for each way to end, every status but 8, want

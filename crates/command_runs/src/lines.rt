@@ -9,7 +9,6 @@ use crate::said::Said;
 use crate::text_fault::TextFault;
 use gr_desk::{Desk, Pen};
 use ispd_reader::Wanted;
-use itoa::Buffer;
 use tree_set::Budget;
 
 /// Puts numbers, each behind a space.
@@ -19,7 +18,7 @@ pub fn put_fields<D: Desk>(pen: &mut Pen<'_, D>, numbers: &[u64])
 {
     for number in numbers {
         pen.put(b" ");
-        pen.put(Buffer::new().format(*number).as_bytes());
+        pen.put_number(*number);
     }
 }
 
