@@ -4,8 +4,8 @@ use Rattle.grid_base.specs.Walks.{InVertices}
 use Rattle.shortest_paths.specs.Sets.{IsLeastWeight, AreApart}
 use Rattle.reference_programs.specs.LeastSets.{IsLeastBeside}
 use Rattle.reference_programs.proofs.LeastSets.{least_weight, none_joins}
-use Rattle.reference_programs.proofs.plain_weights.plain_least_weight.Goals as goal
-use Rattle.reference_programs.proofs.plain_weights.plain_least_weight.Goals.{then-least-lt-APART, else-least-lt-APART}
+use Rattle.reference_programs.proofs.reference_weights.reference_least_weight.Goals as goal
+use Rattle.reference_programs.proofs.reference_weights.reference_least_weight.Goals.{then-least-lt-APART, else-least-lt-APART}
 
 pub returns : goal.returns
 returns c =

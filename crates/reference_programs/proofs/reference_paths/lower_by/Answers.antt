@@ -3,7 +3,7 @@ use Rattle.grid_base.proofs.Pieces.{end_of-vertex}
 use Rattle.std.proofs.lemmas.List.{get_or_default}
 use Rattle.reference_programs.specs.LowerNumbers.{unreached}
 use Rattle.reference_programs.proofs.Lowering.{lower_end}
-use Rattle.reference_programs.proofs.plain_paths.lower_by.Goals as goal
+use Rattle.reference_programs.proofs.reference_paths.lower_by.Goals as goal
 
 pub returns-then-near_number-weight-clause-some : goal.returns-then-near_number-weight-clause-some
 returns-then-near_number-weight-clause-some c =

@@ -1,6 +1,6 @@
 use Rattle.std.proofs.Common.{◌≡◌, ℕ, ◌<◌, ◌≤◌, get_or}
 use Rattle.reference_programs.proofs.Marks.{merged}
-use Rattle.reference_programs.proofs.plain_joins.merge.Given as goal
+use Rattle.reference_programs.proofs.reference_joins.merge.Given as goal
 
 abbrev pub invariant-loop-mark : goal.invariant-loop-mark
 invariant-loop-mark l = record {

@@ -7,7 +7,7 @@ use Rattle.grid_base.specs.declared.piece.Piece.TheVariants.{Edge}
 use Rattle.grid_base.specs.Numbers.{IsPiece, start_of, end_of}
 use Rattle.grid_base.proofs.Pieces.{end_of-vertex}
 use Rattle.reference_programs.proofs.Marks.{own_marks, merged_marks}
-use Rattle.reference_programs.proofs.plain_joins.merged_marks.Goals as goal
+use Rattle.reference_programs.proofs.reference_joins.merged_marks.Goals as goal
 
 pub loop-p-init : goal.loop-p-init
 loop-p-init c =

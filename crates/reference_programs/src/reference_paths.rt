@@ -16,7 +16,7 @@ const UNREACHED: u64 = (3 << 61) + 1;
 
 /// The distance of each vertex from the source, by the definition: as long as a piece lowers the number of a vertex, the
 /// vertex gets that number (Ford 1956).
-pub fn plain_distances(
+pub fn reference_distances(
     alloc: Global,
     size: Size,
     pieces: &[(Piece, u64)],

@@ -3,7 +3,7 @@ use Rattle.std.proofs.lemmas.List.Elements.{Contains-get_or}
 use Rattle.grid_base.specs.declared.piece.Piece.TheVariants.{Edge}
 use Rattle.reference_programs.specs.LowerNumbers.{listed_number}
 use Rattle.reference_programs.proofs.Lowering.{slack_more}
-use Rattle.reference_programs.proofs.plain_paths.first_lower.Goals as goal
+use Rattle.reference_programs.proofs.reference_paths.first_lower.Goals as goal
 
 pub lower_by-requires-clause-piece : goal.lower_by-requires-clause-piece
 lower_by-requires-clause-piece c =

@@ -3,7 +3,7 @@ use Rattle.std.specs.List.{sum_by}
 use Rattle.grid_base.specs.Numbers.{vertices}
 use Rattle.reference_programs.specs.LowerNumbers.{listed_number}
 use Rattle.reference_programs.proofs.Lowering.{AreReached}
-use Rattle.reference_programs.proofs.plain_paths.plain_distances.Given as goal
+use Rattle.reference_programs.proofs.reference_paths.reference_distances.Given as goal
 
 abbrev pub invariant-loop-to : goal.invariant-loop-to
 invariant-loop-to l = record {

@@ -4,7 +4,7 @@ use Rattle.grid_base.specs.Numbers.{vertices}
 use Rattle.reference_programs.specs.LowerNumbers.{unreached, listed_number, IsLowerNumber}
 use Rattle.shortest_paths.specs.Sets.{IsDistance, RisesSlowly}
 use Rattle.reference_programs.proofs.Lowering.{start_reached, lower_reached, slow_distance, distance_in}
-use Rattle.reference_programs.proofs.plain_paths.plain_distances.Goals as goal
+use Rattle.reference_programs.proofs.reference_paths.reference_distances.Goals as goal
 
 pub loop-to-init : goal.loop-to-init
 loop-to-init c =

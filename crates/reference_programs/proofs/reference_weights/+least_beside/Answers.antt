@@ -7,7 +7,7 @@ use Rattle.grid_base.specs.Walks.{InVertices}
 use Rattle.reference_programs.specs.LeastSets.{apart, IsLeastBeside}
 use Rattle.reference_programs.proofs.LeastSets.{least_joined, least_apart, least_of_two, none_left, behind_first, first_and_rest}
 use Rattle.reference_programs.proofs.LeastSets.{first_in, behind_in, behind_shorter}
-use Rattle.reference_programs.proofs.plain_weights.+least_beside.Goals as goal
+use Rattle.reference_programs.proofs.reference_weights.+least_beside.Goals as goal
 
 -- the chosen pieces with one more
 more : (chosen : List Piece) (p : Piece) (copied pushed lent : List Piece) → copied ≡ chosen → pushed ≡ copied ++ p ∷ []

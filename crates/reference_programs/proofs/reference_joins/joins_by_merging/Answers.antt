@@ -4,7 +4,7 @@ use Rattle.std.proofs.lemmas.List.Elements.{All-contains}
 use Rattle.grid_base.specs.declared.vertex.Vertex.{Vertex}
 use Rattle.grid_base.specs.Numbers.{IsVertex}
 use Rattle.reference_programs.proofs.Marks.{joined_by_marks}
-use Rattle.reference_programs.proofs.plain_joins.joins_by_merging.Goals as goal
+use Rattle.reference_programs.proofs.reference_joins.joins_by_merging.Goals as goal
 
 pub all_have_mark-requires : goal.all_have_mark-requires
 all_have_mark-requires c k d below =

@@ -7,7 +7,7 @@ ghost use Rattle.grid_graph.specs.Weighed.{WeighsOnlyPieces, AreWithinLimit};
 ghost use Rattle.shortest_paths.specs.Sets.{IsLeastWeight, AreApart};
 ghost use Rattle.reference_programs.specs.LeastSets.{IsLeastBeside};
 
-use crate::plain_joins::joins_by_merging;
+use crate::reference_joins::joins_by_merging;
 use grid_base::{NoMemory, Piece, Size, Vertex};
 use std::alloc::Global;
 
@@ -18,7 +18,7 @@ const APART: u64 = (3 << 61) + 1;
 /// joins them.
 ///
 /// Each piece is left out and taken, so there are twice as many sets with each piece more.
-pub fn plain_least_weight(
+pub fn reference_least_weight(
     alloc: Global,
     size: Size,
     pieces: &[(Piece, u64)],
