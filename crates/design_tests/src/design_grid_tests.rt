@@ -2,11 +2,12 @@
 
 ghost use Rattle.std.specs.Prelude.{◌≡◌};
 
-use grid_base::{Edge, Piece, Size, Vertex, Via};
+use grid_base::{Edge, Size, Vertex};
 use grid_graph::{Design, Grid, Ground, GroundError, UnreachableNet};
 use std::alloc::{AllocError, Global};
 use std::test::Fail;
-use worked_designs::{agree, design_of};
+use test_rows::{agree, number_of, piece_text, rows_of, three_fields, two_fields, two_numbers};
+use worked_designs::design_of;
 
 /// An edge's number, its capacity and its kind.
 fn edge_text(alloc: Global, grid: &Grid, e: u32) -> Result<String, Fail> {
@@ -30,12 +31,12 @@ BLOCK 131 131 3 1 1 2 0 1 2 7 1 1 2 1 0 2 9 0 0 1 0 0 2 5|12 7 Open,11 9 Open,0 
 #[test]
 fn an_edge_has_the_level_of_its_last_adjustment(rt: HostRuntime) -> Result<(), Fail> {
     let alloc = rt.alloc();
-    for row in EDGES.split('\n') {
-        let (given, edges) = row.split_once('|').ok_or("bar")?;
+    for row in rows_of(alloc, EDGES)? {
+        let (given, edges) = two_fields(row)?;
         let design = design_of(alloc, given)?;
         for edge in edges.split(',') {
             let (e, _) = edge.split_once(' ').ok_or("blank")?;
-            let found = edge_text(alloc, &design.grid, e.parse()?)?;
+            let found = edge_text(alloc, &design.grid, number_of(e)?)?;
             agree(row, found.as_str(), edge)?;
         }
     }
@@ -86,11 +87,9 @@ fn each_position_has_its_tile(rt: HostRuntime) -> Result<(), Fail> {
     assert!(rt; row.origin() == (0, 0));
     assert!(rt; moved.origin() == (-10, -10));
     assert!(rt; moved.tile() == (10, 10));
-    for line in TILES.split('\n') {
-        let (place, tiles) = line.split_once('|').ok_or("bar")?;
-        let (x, y) = place.split_once(' ').ok_or("blank")?;
-        let (x, y) = (x.parse()?, y.parse()?);
-        let (tile, tile_when_moved) = tiles.split_once('|').ok_or("bar")?;
+    for line in rows_of(alloc, TILES)? {
+        let (place, tile, tile_when_moved) = three_fields(line)?;
+        let (x, y) = two_numbers(place)?;
         agree(line, tile_of(alloc, &row, x, y)?.as_str(), tile)?;
         agree(
             line,
@@ -106,12 +105,11 @@ fn near_of(alloc: Global, grid: &Grid, v: u32, i: u32) -> Result<String, Fail> {
     if v >= grid.size().vertices() {
         return Err(Fail::new("no vertex"));
     }
-    let text = match grid.near(Vertex(v), i) {
-        Some((Vertex(w), Piece::Edge(Edge(e)))) => format!(in alloc; "{w} e{e}"),
-        Some((Vertex(w), Piece::Via(Via(u)))) => format!(in alloc; "{w} v{u}"),
-        None => String::from_str(alloc, "-"),
+    let Some((Vertex(w), piece)) = grid.near(Vertex(v), i) else {
+        return Ok(String::from_str(alloc, "-")?);
     };
-    Ok(text?)
+    let piece = piece_text(alloc, piece)?;
+    Ok(format!(in alloc; "{w} {piece}")?)
 }
 
 /// A vertex of the star's grid, which of its neighbours, and this one with the piece between them: west, east, south, north,
@@ -133,10 +131,10 @@ const NEIGHBOURS: &str = "0 0|1 e0
 fn neighbours_come_in_order(rt: HostRuntime) -> Result<(), Fail> {
     let alloc = rt.alloc();
     let star = design_of(alloc, "STAR")?;
-    for row in NEIGHBOURS.split('\n') {
-        let (place, neighbour) = row.split_once('|').ok_or("bar")?;
-        let (v, i) = place.split_once(' ').ok_or("blank")?;
-        let found = near_of(alloc, &star.grid, v.parse()?, i.parse()?)?;
+    for row in rows_of(alloc, NEIGHBOURS)? {
+        let (place, neighbour) = two_fields(row)?;
+        let (v, i) = two_numbers(place)?;
+        let found = near_of(alloc, &star.grid, v, i)?;
         agree(row, found.as_str(), neighbour)?;
     }
     Ok(())
@@ -166,8 +164,8 @@ LAYERED|open";
 fn a_net_is_open_or_forced_or_unreachable(rt: HostRuntime) -> Result<(), Fail> {
     let alloc = rt.alloc();
     let unreachable = GroundError::Unreachable(UnreachableNet { id: 0, terminal: 1 });
-    for row in GROUNDS.split('\n') {
-        let (given, ground) = row.split_once('|').ok_or("bar")?;
+    for row in rows_of(alloc, GROUNDS)? {
+        let (given, ground) = two_fields(row)?;
         let found = ground_of(&design_of(alloc, given)?)?;
         let word = if found == Ok(Ground::Open) {
             "open"
