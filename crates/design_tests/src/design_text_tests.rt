@@ -4,7 +4,8 @@ use grid_graph::Design;
 use ispd_reader::{InputError, read_design};
 use std::alloc::Global;
 use std::test::Fail;
-use worked_designs::{agree, design, design_of, design_text};
+use test_rows::{agree, rows_of, two_fields};
+use worked_designs::{design, design_of, design_text};
 
 /// The id, the name, the width and the terminals of the first net.
 fn first_net(alloc: Global, design: &Design) -> Result<Vec<u8>, Fail> {
@@ -40,8 +41,8 @@ ROW 119 144 2 a 4294967295 0 1 a 0 1 1 5 5 1 0|4294967295 a 1";
 #[test]
 fn a_design_has_the_nets_of_its_text(rt: HostRuntime) -> Result<(), Fail> {
     let alloc = rt.alloc();
-    for row in TEXTS.split('\n') {
-        let (given, net) = row.split_once('|').ok_or("bar")?;
+    for row in rows_of(alloc, TEXTS)? {
+        let (given, net) = two_fields(row)?;
         let found = first_net(alloc, &design_of(alloc, given)?)?;
         assert!(rt; found.as_slice() == net.as_bytes(), "{row}");
     }
@@ -114,10 +115,9 @@ BLOCK 131 131 1 0 0 1 0 0 1 3|adjustment 0 between no neighbours at byte 143
 BLOCK 131 131 1 0 0 0 0 0 1 3|adjustment 0 between no neighbours at byte 143
 BLOCK 131 131 1 0 0 2 0 0 3 3|adjustment 0 between no neighbours at byte 143";
 
-/// What is wrong with a text.
-fn fault_of(alloc: Global, given: &str) -> Result<String, Fail> {
-    let text = design_text(alloc, given)?;
-    match read_design(alloc, text.as_slice()) {
+/// What is wrong with a text that was read.
+fn fault_text(alloc: Global, read: Result<Design, InputError>) -> Result<String, Fail> {
+    match read {
         Err(InputError::Input(fault)) => Ok(fault.to_string(alloc)?),
         _ => Err(Fail::new("no fault")),
     }
@@ -126,13 +126,14 @@ fn fault_of(alloc: Global, given: &str) -> Result<String, Fail> {
 #[test]
 fn each_fault_is_told_at_its_place(rt: HostRuntime) -> Result<(), Fail> {
     let alloc = rt.alloc();
-    for row in FAULTS.split('\n') {
-        let (given, fault) = row.split_once('|').ok_or("bar")?;
-        agree(row, fault_of(alloc, given)?.as_str(), fault)?;
+    for row in rows_of(alloc, FAULTS)? {
+        let (given, fault) = two_fields(row)?;
+        let text = design_text(alloc, given)?;
+        let found = fault_text(alloc, read_design(alloc, text.as_slice()))?;
+        agree(row, found.as_str(), fault)?;
     }
-    let mut long = String::from_str(alloc, "ROW 101 144 ")?;
-    long.push_str("9".repeat(alloc, 1000)?.as_str())?;
-    let found = fault_of(alloc, long.as_str())?;
+    let long = "9".repeat(alloc, 1000)?;
+    let found = fault_text(alloc, design(alloc, 101, 144, long.as_bytes()))?;
     agree(
         "1000 digits",
         found.as_str(),

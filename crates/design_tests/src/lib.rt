@@ -6,11 +6,13 @@
 #![tactic(auto)]
 
 #[cfg(test)]
+mod design_grid_tests;
+#[cfg(test)]
 mod design_text_tests;
 #[cfg(test)]
-mod grid_tests;
-#[cfg(test)]
 mod judge_run_tests;
+#[cfg(test)]
+mod make_tests;
 #[cfg(test)]
 mod route_text_tests;
 #[cfg(test)]
@@ -23,3 +25,5 @@ mod size_tests;
 mod tree_tests;
 #[cfg(test)]
 mod trees;
+#[cfg(test)]
+mod trial_tests;

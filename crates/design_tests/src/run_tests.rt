@@ -1,7 +1,10 @@
 //! Whole runs of `route`: the worked examples, and that memory suffices for them.
 
 use crate::runs::{after_run, runs_agree};
+use run_tables::Left;
+use std::alloc::Global;
 use std::test::Fail;
+use std::thread::Threads;
 use worked_designs::{LAYERED, crowd, vast};
 
 /// The numbers of the first part were worked out by hand. In the second part every net has only one set of least weight, and
@@ -475,15 +478,27 @@ const LAYERED_ROUTES: [&str; 3] = [
     "a 0\n(15,15,1)-(35,15,1)\n(35,15,2)-(35,35,2)\n(35,15,1)-(35,15,2)\n(35,35,1)-(35,35,2)\n!\n",
 ];
 
+/// What a run on these words leaves, where a file has the text of a design.
+fn after_files<R: Threads + Sync>(
+    rt: &R,
+    alloc: Global,
+    line: &str,
+    design: &[u8],
+) -> Result<Left, Fail> {
+    let mut texts = Vec::new(alloc);
+    texts.push(Vec::from_slice(alloc, design)?)?;
+    after_run(rt, alloc, line, Vec::new(alloc), texts)
+}
+
 /// No edge leads along y on the first layer of the layered grid, so the net takes two edges along x there, two along y on
 /// the second layer, and a via up and one down. A thousand nets are routed too, by eight workers, and a net of two thousand
 /// pins.
 #[test]
 fn a_net_takes_the_layers_that_it_needs(rt: HostRuntime) -> Result<(), Fail> {
     let alloc = rt.alloc();
-    let (status, texts) = after_run(&rt, alloc, ONE_PHASE, "", [LAYERED, b"", b""])?;
-    let routes = texts.get(1).ok_or("routes")?.as_slice();
-    assert!(rt; status.as_str() == "0");
+    let left = after_files(&rt, alloc, ONE_PHASE, LAYERED)?;
+    let routes = left.texts.get(1).ok_or("routes")?.as_slice();
+    assert!(rt; left.status.as_str() == "0");
     assert!(rt;
         LAYERED_ROUTES
             .iter()
@@ -491,14 +506,14 @@ fn a_net_takes_the_layers_that_it_needs(rt: HostRuntime) -> Result<(), Fail> {
     );
     let many = vast(alloc, 1000)?;
     let words = "route a.gr a.routes a.cert --workers 8";
-    let (status, texts) = after_run(&rt, alloc, words, "", [many.as_slice(), b"", b""])?;
-    let routes = texts.get(1).ok_or("routes")?.as_slice();
-    assert!(rt; status.as_str() == "0");
+    let left = after_files(&rt, alloc, words, many.as_slice())?;
+    let routes = left.texts.get(1).ok_or("routes")?.as_slice();
+    assert!(rt; left.status.as_str() == "0");
     assert!(rt; routes.starts_with(b"n 0\n(5,5,1)-(5,5,2)\n!\nn 1\n"));
     let wide = crowd(alloc, 2000)?;
-    let (status, texts) = after_run(&rt, alloc, ONE_PHASE, "", [wide.as_slice(), b"", b""])?;
-    let routes = texts.get(1).ok_or("routes")?.as_slice();
-    assert!(rt; status.as_str() == "0");
+    let left = after_files(&rt, alloc, ONE_PHASE, wide.as_slice())?;
+    let routes = left.texts.get(1).ok_or("routes")?.as_slice();
+    assert!(rt; left.status.as_str() == "0");
     assert!(rt; routes.starts_with(b"n 0\n("));
     Ok(())
 }

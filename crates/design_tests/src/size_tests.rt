@@ -6,7 +6,8 @@ use ispd_reader::read_design;
 use route_text::read_routes;
 use std::alloc::{AllocError, Global};
 use std::test::Fail;
-use worked_designs::{agree, vast};
+use test_rows::agree;
+use worked_designs::vast;
 
 /// The routes of this many nets that all run along the first three tiles.
 fn routes_of(alloc: Global, nets: u32) -> Result<String, AllocError> {

@@ -2,12 +2,13 @@
 
 ghost use Rattle.std.specs.Prelude.{◌≡◌};
 
-use crate::trees::{alike, are_pieces, measured, set_of};
+use crate::trees::{alike, are_pieces, measured};
 use grid_graph::{Design, Ground};
 use std::alloc::Global;
 use std::test::Fail;
+use test_rows::{agree, rows_of, set_of, three_fields, two_fields};
 use tree_set::{add_load, inside};
-use worked_designs::{agree, design_of};
+use worked_designs::design_of;
 
 /// A design, the set of each net, and what is measured: the overflow, the wirelength and the peak.
 ///
@@ -26,19 +27,18 @@ WIDE_WIRES|v0 e8 e10 e12 v3|0 5 1/4";
 #[test]
 fn sets_have_the_measures_that_were_worked_out(rt: HostRuntime) -> Result<(), Fail> {
     let alloc = rt.alloc();
-    for row in MEASURES.split('\n') {
-        let (given, row) = row.split_once('|').ok_or("bar")?;
-        let (set, measure) = row.split_once('|').ok_or("bar")?;
+    for row in rows_of(alloc, MEASURES)? {
+        let (given, set, measure) = three_fields(row)?;
         let design = design_of(alloc, given)?;
         let trees = alike(alloc, &design, set)?;
         let found = measured(alloc, &design, trees.as_slice())?;
-        agree(given, found.as_str(), measure)?;
+        agree(row, found.as_str(), measure)?;
     }
     Ok(())
 }
 
 /// What `add_load` adds to a table of zeros, for the first net.
-fn load_of(alloc: Global, design: &Design, set: &str) -> Result<Vec<u64>, Fail> {
+fn load_of(alloc: Global, design: &Design, set: &'static str) -> Result<Vec<u64>, Fail> {
     let tree = set_of(alloc, set)?;
     let net = design.nets.list().first().ok_or("net")?;
     let mut loads = vec![in alloc; 0; 2 * design.grid.size().vertices() as usize]?;
@@ -67,13 +67,17 @@ e0 e1|";
 fn a_set_is_inside_where_every_piece_is_allowed(rt: HostRuntime) -> Result<(), Fail> {
     let alloc = rt.alloc();
     let design = design_of(alloc, "ROW 142 144 1;0 0 1 1 0 1 0;")?;
-    for row in INSIDE.split('\n') {
-        let (set, grounds) = row.split_once('|').ok_or("bar")?;
+    for row in rows_of(alloc, INSIDE)? {
+        let (set, grounds) = two_fields(row)?;
         let tree = set_of(alloc, set)?;
         let open = inside(&design.grid, Ground::Open, &tree);
-        let with_choked = inside(&design.grid, Ground::WithChoked, &tree);
-        assert!(rt; open == grounds.contains("open"));
-        assert!(rt; with_choked == grounds.contains("choked"));
+        let found = match (open, inside(&design.grid, Ground::WithChoked, &tree)) {
+            (true, true) => "open choked",
+            (true, false) => "open",
+            (false, true) => "choked",
+            (false, false) => "",
+        };
+        agree(row, found, grounds)?;
     }
     Ok(())
 }

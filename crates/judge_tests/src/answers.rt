@@ -1,17 +1,10 @@
 //! The judge's answers as texts: `no` with a reason's number and its fields, and `yes` with the overflow, the wirelength and
-//! the peak that were measured, and the number of nets beyond their grounds. Behind them, the sets of nets as texts.
+//! the peak that were measured, and the number of nets beyond their grounds.
 
-use grid_base::{Edge, Piece, Via};
 use route_judge::{Checked, Reason, Verdict};
 use std::alloc::{AllocError, Global};
-use tree_set::{Fraction, Measure, Tree};
-
-fn fraction_text(alloc: Global, fraction: Option<Fraction>) -> Result<String, AllocError> {
-    match fraction {
-        None => String::from_str(alloc, "none"),
-        Some(Fraction { num, den, .. }) => format!(in alloc; "{num}/{den}"),
-    }
-}
+use test_rows::fraction_text;
+use tree_set::{Fraction, Measure};
 
 fn two_fractions_text(
     alloc: Global,
@@ -75,20 +68,4 @@ pub fn verdict_text(alloc: Global, verdict: Verdict) -> Result<String, AllocErro
         Verdict::Yes { measure, beyond } => measure_text(alloc, measure, beyond),
         Verdict::No(reason) => reason_text(alloc, reason),
     }
-}
-
-/// The sets of nets: each one's edges and vias by their numbers, and a semicolon behind them.
-pub fn sets_text(alloc: Global, trees: &[Tree]) -> Result<String, AllocError> {
-    let mut text = String::new(alloc);
-    for tree in trees {
-        for piece in tree.pieces() {
-            let word = match *piece {
-                Piece::Edge(Edge(e)) => format!(in alloc; " e{e}"),
-                Piece::Via(Via(v)) => format!(in alloc; " v{v}"),
-            };
-            text.push_str(word?.as_str())?;
-        }
-        text.push_str(";")?;
-    }
-    Ok(text)
 }

@@ -8,17 +8,18 @@ use route_judge::judge;
 use std::alloc::Global;
 use std::test::Fail;
 use std::thread::Threads;
-use worked_designs::{agree, design_of};
+use test_rows::{agree, four_fields, rows_of, two_fields};
+use worked_designs::design_of;
 
-/// Whether the judge answers of these routes and a certificate of them what stands behind it in the row.
+/// Fails where the judge answers something else of these routes and a certificate of them.
 fn is_answered<R: Threads + Sync>(
     rt: &R,
     alloc: Global,
     design: &Design,
     routes: &str,
-    row: &str,
+    certificate: &str,
+    answer: &str,
 ) -> Result<(), Fail> {
-    let (certificate, answer) = row.split_once('|').ok_or("bar")?;
     let grounds = design.grounds()?;
     let blocks = blocks_of(alloc, routes.as_bytes())?;
     let cert = read_cert(alloc, certificate.as_bytes())?;
@@ -30,14 +31,14 @@ fn is_answered<R: Threads + Sync>(
         blocks.as_slice(),
         &cert,
     )?;
-    agree(row, verdict_text(alloc, verdict)?.as_str(), answer)
+    agree(certificate, verdict_text(alloc, verdict)?.as_str(), answer)
 }
 
 /// The routes of the row.
 const ROW_ROUTES: &str = "a 0\n(5,5,1)-(25,5,1)\n!\n";
 
 /// A certificate of the routes of the row, and the answer. Both edges have a load of 2 of 4, and at any prices but 0 the net
-/// costs half of what the capacities do. A line that begins with `#` says what follows.
+/// costs half of what the capacities do.
 const OF_THE_ROW: &str = "# what is measured of the routes
 grouter certificate 1 nets 1 forced 0 overflow 0 wirelength 2 peak 1/2 bound 1/2 prices 2 12758 12758|yes 0 2 1/2 0
 grouter certificate 1 nets 1 forced 0 overflow 1 wirelength 2 peak 1/2 bound 1/2 prices 2 12758 12758|no 48 1 0
@@ -108,17 +109,15 @@ fn certificates_of_the_row_have_the_answers_that_were_worked_out(
     rt: HostRuntime,
 ) -> Result<(), Fail> {
     let design = design_of(rt.alloc(), "ROW")?;
-    for row in OF_THE_ROW.split('\n') {
-        if row.starts_with('#') {
-            continue;
-        }
-        is_answered(&rt, rt.alloc(), &design, ROW_ROUTES, row)?;
+    for row in rows_of(rt.alloc(), OF_THE_ROW)? {
+        let (certificate, answer) = two_fields(row)?;
+        is_answered(&rt, rt.alloc(), &design, ROW_ROUTES, certificate, answer)?;
     }
     Ok(())
 }
 
 /// A design, routes, a certificate of them, and the answer. The prices of the star are those of the edges of its tree, and
-/// the others two indices below. A line that begins with `#` says what follows.
+/// the others two indices below.
 const OF_DESIGNS: &str = "# a reason against the routes comes before all others
 ROW||grouter certificate 1 nets 1 forced 0 overflow 1 wirelength 2 peak 1/2 bound 1/2 prices 2 12758 12758|no 43 0
 ROW|a 0 (5,5,1)-(15,5,1) !|grouter certificate 1 nets 1 forced 0 overflow 0 wirelength 2 peak 1/2 bound 5/1 prices 2 12758 12758|no 47 0
@@ -178,13 +177,10 @@ STACK_OF_TWO|a 0 (5,5,1)-(5,5,2) !|grouter certificate 1 nets 1 forced 0 overflo
 #[test]
 fn certificates_have_the_answers_that_were_worked_out(rt: HostRuntime) -> Result<(), Fail> {
     let alloc = rt.alloc();
-    for row in OF_DESIGNS.split('\n') {
-        if row.starts_with('#') {
-            continue;
-        }
-        let (given, row) = row.split_once('|').ok_or("bar")?;
-        let (routes, row) = row.split_once('|').ok_or("bar")?;
-        is_answered(&rt, alloc, &design_of(alloc, given)?, routes, row)?;
+    for row in rows_of(alloc, OF_DESIGNS)? {
+        let (given, routes, certificate, answer) = four_fields(row)?;
+        let design = design_of(alloc, given)?;
+        is_answered(&rt, alloc, &design, routes, certificate, answer)?;
     }
     Ok(())
 }

@@ -3,7 +3,7 @@
 ghost use Rattle.grid_graph.specs.Grounds.{AreGrounds};
 ghost use Rattle.route_judge.specs.Limits.{AreBlocks};
 
-use crate::answers::{checked_text, sets_text};
+use crate::answers::checked_text;
 use crate::reading::blocks_of;
 use grid_graph::{Design, Ground};
 use ispd_reader::read_design;
@@ -11,13 +11,14 @@ use route_judge::{Checked, judge_routes, trees_of};
 use route_text::Block;
 use std::alloc::{AllocError, Global};
 use std::test::Fail;
+use test_rows::{agree, rows_of, sets_text, three_fields, two_fields};
 use tree_set::Tree;
-use worked_designs::{agree, design_of, vast};
+use worked_designs::{design_of, vast};
 
 /// What follows the first net's block in each of these texts: a block of the third net.
 const LAST_BLOCK: &str = "\nc 9 (15,25,1)-(15,25,2) (15,25,2)-(15,35,2) !\n";
 
-/// A block of the first net of the design with walls, and the answer. A line that begins with `#` says what follows.
+/// A block of the first net of the design with walls, and the answer.
 const FIRST_BLOCKS: &str = "a 7 (15,25,1)-(35,25,1) !|yes 0 4 1/2 0
 # the borders of the grid belong to its outer tiles
 a 7 (10,20,1)-(40,20,1) !|yes 0 4 1/2 0
@@ -77,7 +78,7 @@ a 7 (15,25,1)-(41,25,1) (15,25,1)-(15,35,1) !|no 44 0 0
 a 7 (15,25,1)-(25,25,1) (15,25,1)-(25,35,1) !|no 45 0 1
 a 7 (15,25,1)-(25,35,1) (15,25,1)-(15,35,1) !|no 45 0 0";
 
-/// Whether the judge answers this of the routes.
+/// Fails where the judge answers something else of the routes.
 fn is_answered(alloc: Global, design: &Design, routes: &str, answer: &str) -> Result<(), Fail> {
     let grounds = design.grounds()?;
     let blocks = blocks_of(alloc, routes.as_bytes())?;
@@ -89,18 +90,15 @@ fn is_answered(alloc: Global, design: &Design, routes: &str, answer: &str) -> Re
 fn segments_have_the_answers_that_were_worked_out(rt: HostRuntime) -> Result<(), Fail> {
     let alloc = rt.alloc();
     let design = design_of(alloc, "LAYERED_WALLS")?;
-    for row in FIRST_BLOCKS.split('\n') {
-        if row.starts_with('#') {
-            continue;
-        }
-        let (block, answer) = row.split_once('|').ok_or("bar")?;
+    for row in rows_of(alloc, FIRST_BLOCKS)? {
+        let (block, answer) = two_fields(row)?;
         let routes = format!(in alloc; "{block}{LAST_BLOCK}")?;
         is_answered(alloc, &design, routes.as_str(), answer)?;
     }
     Ok(())
 }
 
-/// A design, routes, and the answer. A line that begins with `#` says what follows.
+/// A design, routes, and the answer.
 const TEXTS: &str = "# nets with two terminals and no block, in the order of the design
 LAYERED_WALLS||no 43 7
 LAYERED_WALLS|a 7 (15,25,1)-(35,25,1) !|no 43 9
@@ -149,12 +147,8 @@ FORCED|b 1 (5,15,1)-(15,15,1) (15,15,1)-(15,5,1) ! c 2 (5,15,1)-(5,5,1) !|no 43 
 #[test]
 fn routes_have_the_answers_that_were_worked_out(rt: HostRuntime) -> Result<(), Fail> {
     let alloc = rt.alloc();
-    for row in TEXTS.split('\n') {
-        if row.starts_with('#') {
-            continue;
-        }
-        let (given, row) = row.split_once('|').ok_or("bar")?;
-        let (routes, answer) = row.split_once('|').ok_or("bar")?;
+    for row in rows_of(alloc, TEXTS)? {
+        let (given, routes, answer) = three_fields(row)?;
         is_answered(alloc, &design_of(alloc, given)?, routes, answer)?;
     }
     Ok(())
@@ -187,9 +181,8 @@ SIX_IN_A_ROW|a 0 (25,5,1)-(35,5,1) (15,5,1)-(45,5,1) (25,5,1)-(5,5,1) (5,5,1)-(3
 #[test]
 fn each_net_has_the_set_of_its_block(rt: HostRuntime) -> Result<(), Fail> {
     let alloc = rt.alloc();
-    for row in SETS.split('\n') {
-        let (given, row) = row.split_once('|').ok_or("bar")?;
-        let (routes, sets) = row.split_once('|').ok_or("bar")?;
+    for row in rows_of(alloc, SETS)? {
+        let (given, routes, sets) = three_fields(row)?;
         let design = design_of(alloc, given)?;
         let grounds = design.grounds()?;
         let blocks = blocks_of(alloc, routes.as_bytes())?;

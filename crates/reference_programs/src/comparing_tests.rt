@@ -1,7 +1,7 @@
 //! Merging and the flood that is used join the same, on all small grids.
 
 use crate::known::{are_pieces, are_vertices};
-use crate::plain_joins::joins_by_merging;
+use crate::reference_joins::joins_by_merging;
 use grid_base::{Edge, Piece, Size, Vertex, Via};
 use std::alloc::{AllocError, Global};
 use std::test::Fail;

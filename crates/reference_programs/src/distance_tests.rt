@@ -1,10 +1,10 @@
-//! Distances on small grids, beside a plain program that lowers numbers as long as a piece lowers one.
+//! Distances on small grids, beside a reference program that lowers numbers as long as a piece lowers one.
 
 ghost use Rattle.std.specs.Prelude.{◌≡◌, ◌≤◌, IfOk, IfSome};
 ghost use Rattle.grid_base.specs.Numbers.{IsVertex};
 
 use crate::listed::Listed;
-use crate::plain_paths::plain_distances;
+use crate::reference_paths::reference_distances;
 use grid_base::{Edge, NoMemory, Piece, Size, Vertex, Via};
 use grid_graph::{FlooredWeights, Weights};
 use shortest_paths::{FloorBound, Labels};
@@ -60,16 +60,16 @@ pub(crate) fn drawn(
     Ok(Listed::of(size, pieces))
 }
 
-/// Whether the labels answer for each vertex what the plain program does.
+/// Whether the labels answer for each vertex what the reference program does.
 fn agree(alloc: Global, weights: &Listed, size: Size, source: Vertex) -> Result<bool, NoMemory>
     requires size { weights.now.size ≡ size }
     requires source { IsVertex size source.0 }
 {
-    let plain = plain_distances(alloc, size, weights.pieces(), source)?;
+    let wanted = reference_distances(alloc, size, weights.pieces(), source)?;
     let mut labels = Labels::new(alloc, size, 1)?;
     labels.distances(weights, source, &[]);
     for v in 0..size.vertices() {
-        if plain.get(v as usize).copied() != Some(labels.distance(Vertex(v))) {
+        if wanted.get(v as usize).copied() != Some(labels.distance(Vertex(v))) {
             return Ok(false);
         }
     }
@@ -88,8 +88,8 @@ fn path_agrees(
     requires source { IsVertex size source.0 }
     requires goal { IsVertex size goal.0 }
 {
-    let plain = plain_distances(alloc, size, weights.pieces(), source)?;
-    let expected = plain.get(goal.0 as usize).copied();
+    let wanted = reference_distances(alloc, size, weights.pieces(), source)?;
+    let expected = wanted.get(goal.0 as usize).copied();
     if !weights.is_positive() {
         return Ok(false);
     }
@@ -118,7 +118,7 @@ fn a_path_weighs_as_much_as_the_distance(rt: HostRuntime) -> Result<(), Fail> {
 }
 
 #[test]
-fn distances_are_those_of_a_plain_program(rt: HostRuntime) -> Result<(), Fail> {
+fn distances_are_those_of_a_reference_program(rt: HostRuntime) -> Result<(), Fail> {
     for (cols, rows, layers) in [(6, 5, 1), (4, 3, 3), (1, 1, 5), (9, 1, 2)] {
         let size = Size::new(cols, rows, layers).ok_or("size")?;
         for seed in 0..4 {

@@ -1,16 +1,17 @@
-//! Plain slow programs beside the fast ones, for sets of pieces, distances and trees.
+//! Reference programs for sets of pieces, distances and trees, which are slow, beside the fast ones.
 //!
-//! A plain program answers by a method that is evident and slow, so that a reader who trusts it trusts the definition
+//! A reference program answers by a method that is evident and slow, so that a reader who trusts it trusts the definition
 //! that its contract cites, and the tests compare it with the program that is used:
 //!
 //! ```text
 //! let joined = joins_by_merging(alloc, size, pieces, terminals)?;          // as tree_set::joins
-//! let distances = plain_distances(alloc, size, weighed_pieces, source)?;    // as shortest_paths::Labels::distances
-//! let least = plain_least_weight(alloc, size, weighed_pieces, terminals)?; // of a least tree, where pieces are few
+//! let distances = reference_distances(alloc, size, weighed_pieces, source)?;    // as shortest_paths::Labels::distances
+//! let least = reference_least_weight(alloc, size, weighed_pieces, terminals)?; // of a least tree, where pieces are few
 //! ```
 //!
 //! It stands on the libraries whose programs and definitions it compares: `tree_set`, `shortest_paths`, `steiner_exact` and
-//! `steiner_span`, over `grid_graph` and `grid_base`. Nothing stands on it. Plain readers of texts are in `reference_readers`.
+//! `steiner_span`, over `grid_graph` and `grid_base`. Nothing stands on it. Those for texts are in
+//! `reference_readers`.
 //!
 //! The programs stand with the tests that call them, so that they are proved once.
 //!
@@ -31,13 +32,11 @@ mod listing;
 #[cfg(test)]
 mod lows;
 #[cfg(test)]
-mod plain_joins;
+mod reference_joins;
 #[cfg(test)]
-mod plain_paths;
+mod reference_paths;
 #[cfg(test)]
-mod plain_weights;
-#[cfg(test)]
-mod rows;
+mod reference_weights;
 #[cfg(test)]
 mod size_tests;
 #[cfg(test)]

@@ -9,8 +9,8 @@ ghost use Rattle.shortest_paths.specs.LabelWords.{labels_size};
 use crate::distance_tests::drawn;
 use crate::known::{are_pieces, are_vertices};
 use crate::listed::Listed;
-use crate::plain_joins::joins_by_merging;
-use crate::plain_paths::plain_distances;
+use crate::reference_joins::joins_by_merging;
+use crate::reference_paths::reference_distances;
 use crate::tree_tests::{drawn_terminals, is_tree};
 use grid_base::{NoMemory, Piece, Size, Vertex};
 use shortest_paths::Labels;
@@ -80,7 +80,7 @@ fn taken_in(
 }
 
 /// The weight of a spanning tree of the terminals by distances, which takes in the nearest one each time (Prim 1957).
-fn plain_spanning_weight(
+fn reference_spanning_weight(
     alloc: Global,
     weights: &Listed,
     size: Size,
@@ -93,7 +93,7 @@ fn plain_spanning_weight(
     let mut total: u64 = 0;
     let mut taken = 0;
     for _ in 1..terminals.len() {
-        let distances = plain_distances(alloc, size, weights.pieces(), terminals[taken])?;
+        let distances = reference_distances(alloc, size, weights.pieces(), terminals[taken])?;
         outside = taken_in(
             alloc,
             outside.as_slice(),
@@ -133,7 +133,7 @@ fn is_light(
         return Ok(true);
     }
     let (tree, weight) = spanning_tree(weights, terminals, labels)?;
-    let limit = plain_spanning_weight(alloc, weights, size, terminals)?;
+    let limit = reference_spanning_weight(alloc, weights, size, terminals)?;
     Ok(weight <= limit && is_tree(alloc, weights, size, terminals, &tree, weight)?)
 }
 

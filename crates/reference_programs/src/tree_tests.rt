@@ -10,7 +10,7 @@ ghost use Rattle.steiner_exact.specs.TreeLabelWords.{AreTreeLabels};
 use crate::distance_tests::{drawn, mixed};
 use crate::known::{are_pieces, are_vertices};
 use crate::listed::Listed;
-use crate::plain_weights::plain_least_weight;
+use crate::reference_weights::reference_least_weight;
 use grid_base::{NoMemory, Size, Vertex};
 use grid_graph::Weights;
 use shortest_paths::Labels;
@@ -99,7 +99,7 @@ fn agree(
     }
     let expected = least_by_table(alloc, weights, size, terminals)?;
     let pieces = weights.pieces();
-    if pieces.len() <= FEW && plain_least_weight(alloc, size, pieces, terminals)? != expected {
+    if pieces.len() <= FEW && reference_least_weight(alloc, size, pieces, terminals)? != expected {
         return Ok(false);
     }
     if expected.is_none() {
@@ -124,7 +124,7 @@ const SIZES: [(u32, u32, u32); 10] = [
 ];
 
 #[test]
-fn least_trees_weigh_what_plain_programs_find(rt: HostRuntime) -> Result<(), Fail> {
+fn least_trees_weigh_what_reference_programs_find(rt: HostRuntime) -> Result<(), Fail> {
     for (cols, rows, layers) in SIZES {
         let size = Size::new(cols, rows, layers).ok_or("size")?;
         let mut labels = TreeLabels::new(rt.alloc(), size)?;

@@ -6,30 +6,28 @@ use crate::distance_tests::drawn;
 use crate::known::are_vertices;
 use crate::listed::Listed;
 use crate::listing::are_light_pieces;
-use crate::plain_weights::plain_least_weight;
-use crate::rows::{size_of, vertices_of, weighed_pieces_of};
+use crate::reference_weights::reference_least_weight;
 use grid_base::{Piece, Size, Vertex};
 use shortest_paths::Labels;
 use std::alloc::Global;
 use std::test::Fail;
+use test_rows::{agree, four_fields, number_of, piece_of, rows_of, size_of, vertices_of};
 
 /// Columns, rows and layers; the pieces with their weights; the terminals; and the least weight, if any.
-const CASES: &str = "\
-# the four edges of a square, of which the first weighs more than the way round
-2 2 1|0:5 1:1 3:2 4:1||0
-2 2 1|0:5 1:1 3:2 4:1|3|0
-2 2 1|0:5 1:1 3:2 4:1|0 1|4
-2 2 1|0:5 1:1 3:2 4:1|3 0|2
-2 2 1|0:5 1:1 3:2 4:1|3 0 1|4
+const CASES: &str = "# the four edges of a square, of which the first weighs more than the way round
+2 2 1|e0:5 e1:1 e3:2 e4:1||0
+2 2 1|e0:5 e1:1 e3:2 e4:1|3|0
+2 2 1|e0:5 e1:1 e3:2 e4:1|0 1|4
+2 2 1|e0:5 e1:1 e3:2 e4:1|3 0|2
+2 2 1|e0:5 e1:1 e3:2 e4:1|3 0 1|4
 # two of them
-2 2 1|0:5 3:2|0 3|7
-2 2 1|0:5 3:2|0 2|none
+2 2 1|e0:5 e3:2|0 3|7
+2 2 1|e0:5 e3:2|0 2|none
 # two tiles on two layers, where the edge below weighs more than the way over the upper layer
-2 1 2|0:9 4:2 v0:1 v1:1|0 1|4
+2 1 2|e0:9 e4:2 v0:1 v1:1|0 1|4
 # nine tiles, with light edges from the one in the middle
-3 3 1|0:3 1:3 2:3 3:1 5:3 6:1 7:3 8:1 9:1 11:3 12:3 14:3|1 3 5 7|4
-3 3 1|0:3 1:3 2:3 3:1 5:3 6:1 7:3 8:1 9:1 11:3 12:3 14:3|0 2 4|7
-";
+3 3 1|e0:3 e1:3 e2:3 e3:1 e5:3 e6:1 e7:3 e8:1 e9:1 e11:3 e12:3 e14:3|1 3 5 7|4
+3 3 1|e0:3 e1:3 e2:3 e3:1 e5:3 e6:1 e7:3 e8:1 e9:1 e11:3 e12:3 e14:3|0 2 4|7";
 
 /// The least weight, where these are pieces and vertices.
 fn least(
@@ -41,31 +39,32 @@ fn least(
     if !are_light_pieces(size, pieces) || !are_vertices(size, terminals) {
         return Err(Fail::new("no piece or no vertex"));
     }
-    Ok(plain_least_weight(alloc, size, pieces, terminals)?)
+    Ok(reference_least_weight(alloc, size, pieces, terminals)?)
 }
 
-/// The least weight of a row's pieces that join its terminals, as a text.
-fn least_of(alloc: Global, row: &str) -> Result<String, Fail> {
-    let (size, rest) = row.split_once('|').ok_or("pieces")?;
-    let (pieces, terminals) = rest.split_once('|').ok_or("terminals")?;
-    let size = size_of(size)?;
-    let pieces = weighed_pieces_of(alloc, pieces)?;
-    let terminals = vertices_of(alloc, terminals)?;
-    match least(alloc, size, pieces.as_slice(), terminals.as_slice())? {
-        Some(weight) => Ok(format!(in alloc; "{weight}")?),
-        None => Ok("none".to_string(alloc)?),
+/// The pieces that a field lists, each with its weight behind a colon, as in `e0:9 v1:2`.
+fn weighed_pieces_of(alloc: Global, field: &'static str) -> Result<Vec<(Piece, u64)>, Fail> {
+    let mut pieces = Vec::new(alloc);
+    for entry in field.split_whitespace() {
+        let (name, weight) = entry.split_once(':').ok_or("a weight")?;
+        pieces.push((piece_of(name)?, number_of(weight)?))?;
     }
+    Ok(pieces)
 }
 
 #[test]
 fn least_weights_are_those_that_were_worked_out(rt: HostRuntime) -> Result<(), Fail> {
-    for line in CASES.lines() {
-        if line.starts_with('#') {
-            continue;
-        }
-        let (row, wanted) = line.rsplit_once('|').ok_or("a least weight")?;
-        let found = least_of(rt.alloc(), row)?;
-        assert!(rt; found.as_str() == wanted, "found {found} in the row {line}");
+    let alloc = rt.alloc();
+    for row in rows_of(alloc, CASES)? {
+        let (size, pieces, terminals, wanted) = four_fields(row)?;
+        let size = size_of(size)?.ok_or("size")?;
+        let pieces = weighed_pieces_of(alloc, pieces)?;
+        let terminals = vertices_of(alloc, terminals)?;
+        let found = match least(alloc, size, &pieces, &terminals)? {
+            Some(weight) => weight.to_string(alloc)?,
+            None => String::from_str(alloc, "none")?,
+        };
+        agree(row, found.as_str(), wanted)?;
     }
     Ok(())
 }

@@ -3,7 +3,6 @@
 ghost use Rattle.std.specs.Prelude.{IsTrue};
 ghost use Rattle.edge_prices.specs.Budgets.{IsWithinLimits};
 
-use crate::fields::fraction_text;
 use dual_bound::bound;
 use edge_prices::are_edge_prices;
 use grid_base::{Edge, Piece, Vertex, Via};
@@ -11,8 +10,9 @@ use grid_graph::{Design, Grid, Ground};
 use std::alloc::{AllocError, Global};
 use std::test::Fail;
 use std::thread::Threads;
+use test_rows::{agree, four_fields, fraction_text, number_of, rows_of, two_fields};
 use tree_set::Budget;
-use worked_designs::{agree, design_of};
+use worked_designs::design_of;
 
 fn is_within_limits(budget: Option<Budget>) -> bool
     ensures { IsTrue result → IsWithinLimits budget }
@@ -25,9 +25,9 @@ fn is_within_limits(budget: Option<Budget>) -> bool
 
 /// The prices of all edge numbers, where those of the open edges are given in order. The last one is that of all that
 /// follow.
-fn prices_of(alloc: Global, grid: &Grid, of_open: &str) -> Result<Vec<u32>, Fail> {
+fn prices_of(alloc: Global, grid: &Grid, of_open: &'static str) -> Result<Vec<u32>, Fail> {
     let mut prices = Vec::new(alloc);
-    let mut given = of_open.split(' ');
+    let mut given = of_open.split_whitespace();
     let mut price = 0;
     for e in 0..2 * grid.size().vertices() {
         if grid.capacity(Edge(e)) == 0 {
@@ -35,19 +35,22 @@ fn prices_of(alloc: Global, grid: &Grid, of_open: &str) -> Result<Vec<u32>, Fail
             continue;
         }
         if let Some(word) = given.next() {
-            price = word.parse()?;
+            price = number_of(word)?;
         }
         prices.push(price)?;
+    }
+    if given.next().is_some() {
+        return Err(Fail::new("more prices than open edges"));
     }
     Ok(prices)
 }
 
 /// The budget that a field stands for: a wirelength of 1 at a price, or none.
-fn budget_of(field: &str) -> Result<Option<Budget>, Fail> {
+fn budget_of(field: &'static str) -> Result<Option<Budget>, Fail> {
     if field == "" {
         return Ok(None);
     }
-    let price = field.parse()?;
+    let price = number_of(field)?;
     Ok(Some(Budget { most: 1, price }))
 }
 
@@ -56,7 +59,7 @@ fn bound_at<R: Threads + Sync>(
     rt: &R,
     alloc: Global,
     design: &Design,
-    of_open: &str,
+    of_open: &'static str,
     budget: Option<Budget>,
 ) -> Result<String, Fail> {
     let grounds = design.grounds().map_err(|_| Fail::new("grounds"))?;
@@ -75,8 +78,7 @@ fn bound_at<R: Threads + Sync>(
     Ok(fraction_text(alloc, found)?)
 }
 
-/// A design, the prices of its open edges, the price of the wirelength where there is a budget, and the bound. A line that
-/// begins with `#` says what follows.
+/// A design, the prices of its open edges, the price of the wirelength where there is a budget, and the bound.
 const BOUNDS: &str = "ROW|12758||1/2
 ROW 119 144 0;0;|12758||0/1
 CROWDED_ROW|12758||3/2
@@ -93,54 +95,44 @@ SIX_IN_A_ROW|12758||1/2
 WIDE_WIRES|12142 12142 12142 12758||6379/49800
 LAYERED|12758 12758 12446 12446 12446 12446 12446 12446 12758 12446 12446 12758||6223/94125
 # there is no open edge, there are two that the net doesn't need, and there are two without a price
-STACK|0||none
+STACK|||none
 STACK_OF_TWO|12758||0/1
 ROW|0||none
 # the wirelength counts where there is a budget
 ROW|3885|12758|20528/21919
 ROW|0|1|2/1
-STACK|0|1|1/1";
+STACK||1|1/1";
 
-/// Five rows and columns, and a net with a pin in each tile, row by row; and the fields of rows of it. Halves of 25 terminals
-/// are more than what five of them cost. Where the edges out of the tile in the middle alone have a price, the five that are
-/// spread have one in the middle, and half of what it costs is less.
-const PIN_IN_EACH_TILE: (&str, &str) = (
-    "ROW 0 144 grid 5 5 1;vertical capacity 4;horizontal capacity 4;minimum width 1;minimum spacing 1;via spacing 1;0 0 10 10;num net 1;a 0 25 1;5 5 1;15 5 1;25 5 1;35 5 1;45 5 1;5 15 1;15 15 1;25 15 1;35 15 1;45 15 1;5 25 1;15 25 1;25 25 1;35 25 1;45 25 1;5 35 1;15 35 1;25 35 1;35 35 1;45 35 1;5 45 1;15 45 1;25 45 1;35 45 1;45 45 1;0;",
-    "1||5/32
-0 0 0 0 0 0 0 0 0 0 0 0 0 0 1 0 0 0 0 0 1 0 1 1 0||1/8",
-);
+/// Five rows and columns, and a net with a pin in each tile, row by row.
+const PIN_IN_EACH_TILE: &str =
+    "ROW 0 144 grid 5 5 1;vertical capacity 4;horizontal capacity 4;minimum width 1;minimum spacing 1;via spacing 1;0 0 10 10;num net 1;a 0 25 1;5 5 1;15 5 1;25 5 1;35 5 1;45 5 1;5 15 1;15 15 1;25 15 1;35 15 1;45 15 1;5 25 1;15 25 1;25 25 1;35 25 1;45 25 1;5 35 1;15 35 1;25 35 1;35 35 1;45 35 1;5 45 1;15 45 1;25 45 1;35 45 1;45 45 1;0;";
 
-/// Fails where the bound of a design is not that of the fields behind it.
-fn bound_agrees<R: Threads + Sync>(
-    rt: &R,
-    alloc: Global,
-    given: &str,
-    fields: &str,
-) -> Result<(), Fail> {
-    let (of_open, rest) = fields.split_once('|').ok_or("prices")?;
-    let (budget, wanted) = rest.split_once('|').ok_or("budget")?;
-    let design = design_of(alloc, given)?;
-    let found = bound_at(rt, alloc, &design, of_open, budget_of(budget)?)?;
-    agree(fields, found.as_str(), wanted)
-}
+/// The prices of its open edges, and the bound. Halves of 25 terminals are more than what five of them cost. Where the edges
+/// out of the tile in the middle alone have a price, the five that are spread have one in the middle, and half of what it
+/// costs is less.
+const BOUNDS_OF_MANY_PINS: &str = "1|5/32
+0 0 0 0 0 0 0 0 0 0 0 0 0 0 1 0 0 0 0 0 1 0 1 1 0|1/8";
 
 #[test]
 fn designs_have_the_bounds_that_were_worked_out(rt: HostRuntime) -> Result<(), Fail> {
-    for row in BOUNDS.split('\n') {
-        if row.starts_with('#') {
-            continue;
-        }
-        let (given, fields) = row.split_once('|').ok_or("bar")?;
-        bound_agrees(&rt, rt.alloc(), given, fields)?;
+    let alloc = rt.alloc();
+    for row in rows_of(alloc, BOUNDS)? {
+        let (given, of_open, budget, wanted) = four_fields(row)?;
+        let design = design_of(alloc, given)?;
+        let found = bound_at(&rt, alloc, &design, of_open, budget_of(budget)?)?;
+        agree(row, found.as_str(), wanted)?;
     }
     Ok(())
 }
 
 #[test]
 fn a_net_of_many_pins_has_the_greater_of_two_bounds(rt: HostRuntime) -> Result<(), Fail> {
-    let (given, rows) = PIN_IN_EACH_TILE;
-    for fields in rows.split('\n') {
-        bound_agrees(&rt, rt.alloc(), given, fields)?;
+    let alloc = rt.alloc();
+    let design = design_of(alloc, PIN_IN_EACH_TILE)?;
+    for row in rows_of(alloc, BOUNDS_OF_MANY_PINS)? {
+        let (of_open, wanted) = two_fields(row)?;
+        let found = bound_at(&rt, alloc, &design, of_open, None)?;
+        agree(row, found.as_str(), wanted)?;
     }
     Ok(())
 }
@@ -278,7 +270,7 @@ ROW 0 144 grid 2 2 2;vertical capacity 4 4;horizontal capacity 4 4;minimum width
 
 #[test]
 fn bounds_are_those_over_all_sets_of_pieces(rt: HostRuntime) -> Result<(), Fail> {
-    for given in CUBES.split('\n') {
+    for given in rows_of(rt.alloc(), CUBES)? {
         let design = design_of(rt.alloc(), given)?;
         for seed in 0..3 {
             assert!(rt;

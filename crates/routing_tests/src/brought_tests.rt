@@ -4,7 +4,6 @@ ghost use Rattle.std.specs.Prelude.{◌≡◌, ◌<◌, All, IsTrue, length};
 ghost use Rattle.grid_base.specs.Numbers.{IsVertex};
 ghost use Rattle.edge_prices.specs.Costings.{costed_size};
 
-use crate::fields::numbers_of;
 use brought_bounds::{Moats, Radii, Rows, Table, moats_hold, table_holds};
 use edge_prices::{Costing, are_edge_prices};
 use grid_base::{NoMemory, Size, Vertex};
@@ -12,7 +11,8 @@ use grid_graph::{Design, Ground};
 use shortest_paths::Labels;
 use std::alloc::Global;
 use std::test::Fail;
-use worked_designs::{agree, design_of};
+use test_rows::{agree, numbers_of, rows_of, two_fields};
+use worked_designs::design_of;
 
 fn are_vertices(size: Size, terminals: &[Vertex]) -> bool
     ensures { IsTrue result → All (λ v. IsVertex size v.0) terminals.now }
@@ -79,8 +79,8 @@ fn tables_and_moats_hold_up_to_the_distance(rt: HostRuntime) -> Result<(), Fail>
     if design.nets.list().is_empty() {
         return Err(Fail::new("no net"));
     }
-    for row in BROUGHT.split('\n') {
-        let (numbers, wanted) = row.split_once('|').ok_or("bar")?;
+    for row in rows_of(alloc, BROUGHT)? {
+        let (numbers, wanted) = two_fields(row)?;
         let hold = hold_for_first(alloc, &design, numbers_of(alloc, numbers)?)?;
         agree(row, if hold { "yes" } else { "no" }, wanted)?;
     }

@@ -6,7 +6,6 @@
 ghost use Rattle.edge_prices.specs.Weights.{AreEdgePrices};
 ghost use Rattle.grid_graph.specs.Grounds.{AreGrounds};
 
-use crate::fields::fraction_text;
 use dual_bound::bound;
 use grid_base::Edge;
 use grid_graph::{Design, Ground};
@@ -14,11 +13,12 @@ use hot_cuts::hot_cuts;
 use std::alloc::Global;
 use std::test::Fail;
 use std::thread::Threads;
+use test_rows::{agree, fraction_text, rows_of, three_fields, two_numbers};
 use tree_set::Fraction;
-use worked_designs::{agree, design_of};
+use worked_designs::design_of;
 
 /// A design, the loads of routes by their edges, and what price lists can prove of it: a bound, and how much overflow every
-/// routing has. A line that begins with `#` says what follows.
+/// routing has.
 const CUTS: &str =
     "# three nets from the left column to the right one, over two edges with room for one each: three halves, and whichever edge
 # the third net takes has an overflow of 2
@@ -32,14 +32,15 @@ ROW 0 144 grid 3 3 1;vertical capacity 20;horizontal capacity 20;minimum width 1
 # there is no open edge
 STACK||none 0";
 
-/// The loads of all edge numbers.
-fn loads_of(alloc: Global, design: &Design, field: &str) -> Result<Vec<u64>, Fail> {
+/// The loads of all edge numbers, of which a field has those that are not 0, each behind its edge.
+fn loads_of(alloc: Global, design: &Design, field: &'static str) -> Result<Vec<u64>, Fail> {
     let mut loads = vec![in alloc; 0; 2 * design.grid.size().vertices() as usize]?;
+    if field == "" {
+        return Ok(loads);
+    }
     for pair in field.split(',') {
-        if let Some((e, load)) = pair.split_once(' ') {
-            let place: usize = e.parse()?;
-            *loads.get_mut(place).ok_or("an edge")? = load.parse()?;
-        }
+        let (e, load) = two_numbers::<u64>(pair)?;
+        *loads.get_mut(e as usize).ok_or("an edge")? = load;
     }
     Ok(loads)
 }
@@ -111,12 +112,8 @@ fn evidence_text<R: Threads + Sync>(
 #[test]
 fn cuts_prove_what_can_be_proved_on_paper(rt: HostRuntime) -> Result<(), Fail> {
     let alloc = rt.alloc();
-    for row in CUTS.split('\n') {
-        if row.starts_with('#') {
-            continue;
-        }
-        let (given, rest) = row.split_once('|').ok_or("bar")?;
-        let (loads, wanted) = rest.split_once('|').ok_or("loads")?;
+    for row in rows_of(alloc, CUTS)? {
+        let (given, loads, wanted) = three_fields(row)?;
         let design = design_of(alloc, given)?;
         let loads = loads_of(alloc, &design, loads)?;
         let found = evidence_text(&rt, alloc, &design, loads.as_slice())?;

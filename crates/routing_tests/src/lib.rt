@@ -11,13 +11,13 @@ mod brought_tests;
 #[cfg(test)]
 mod cut_tests;
 #[cfg(test)]
-mod fields;
-#[cfg(test)]
 mod meeting;
 #[cfg(test)]
 mod pick_tests;
 #[cfg(test)]
 mod repair_tests;
+#[cfg(test)]
+mod routings;
 #[cfg(test)]
 mod settings;
 #[cfg(test)]

@@ -2,8 +2,8 @@
 
 ghost use Rattle.routing_stages.specs.Settings.{AreSettings};
 
-use crate::fields::routing_text;
 use crate::meeting::Meeting;
+use crate::routings::routing_agrees;
 use crate::settings::settings_of;
 use grid_graph::Design;
 use ripup_repair::repair;
@@ -13,8 +13,9 @@ use sharing_phases::share;
 use std::alloc::{AllocError, Global};
 use std::test::Fail;
 use std::thread::Threads;
+use test_rows::{agree, five_fields, rows_of};
 use tree_set::measure_of;
-use worked_designs::{agree, design_of};
+use worked_designs::design_of;
 
 /// A design's sets and their overflow, after the phases, the picks of the seed and at most so many rounds.
 fn repaired_by<R: Threads + Sync, G: Gate>(
@@ -74,99 +75,70 @@ const BETTER_THEN_AS_GOOD: &str =
 const CHOKED_MIDDLE: &str =
     "ROW 0 144 grid 4 1 2;vertical capacity 0 0;horizontal capacity 4 4;minimum width 3 1;minimum spacing 1 1;via spacing 1 1;0 0 10 10;num net 1;a 0 2 2;5 5 1;35 5 1;2;1 0 1 2 0 1 0;1 0 2 2 0 2 0;";
 
-/// Designs, and of each how many workers, phases and rounds at most there are and the seed; the overflow before repair, the
-/// rounds and the overflow behind it; the set of each net, and the loads of all edges, with that of the wirelength at their
-/// end. A line that begins with `#` says what follows.
-const REPAIRED: [(&str, &str); 9] = [
-    (
-        "ROW",
-        "# no overflow, no round
-1 1 4 0|0 0 0| e0 e2;| 2 0 2 0 0 0 2",
-    ),
-    (
-        "CROWDED_ROW",
-        "# one way for each net
-1 1 4 0|4 4 4| e0 e2; e0 e2; e0 e2;| 6 0 6 0 0 0 6
-2 1 4 0|4 4 4| e0 e2; e0 e2; e0 e2;| 6 0 6 0 0 0 6
-4 1 16 0|4 16 4| e0 e2; e0 e2; e0 e2;| 6 0 6 0 0 0 6",
-    ),
-    (
-        "TWO_ALONG",
-        "# the first round removes all overflow
-1 1 0 0|4 0 4| e0 e2; e0 e2;| 4 0 4 0 0 0 0 0 0 0 0 0 4
-1 1 4 0|4 1 0| e1 e5 e6 e8; e0 e2;| 2 2 2 0 0 2 2 0 2 0 0 0 6",
-    ),
-    (
-        PICKS_THAT_MEET,
-        "# the first round removes all overflow
-1 4 0 4|2 0 2| e0; e0 e3; e0 e3;| 6 0 0 4 0 0 0 0 5
-1 4 4 4|2 1 0| e0; e1 e4; e0 e3;| 4 2 0 2 2 0 0 0 5",
-    ),
-    (
-        "NO_WAY_ROUND",
-        "# each round makes it more, and the chosen sets are the result
-1 1 1 0|2 1 2| e0; e0;| 4 0 0 0 0 0 0 0 2
-1 1 4 0|2 4 2| e0; e0;| 4 0 0 0 0 0 0 0 2",
-    ),
-    (
-        BETTER_THEN_WORSE,
-        "# the second round makes it more again, and the sets after the first one are the result
-1 4 0 3|9 0 9| e1 e3 e4; e0; e1 e3 e4;| 2 5 0 5 5 0 0 0 7
-1 4 1 3|9 1 3| e0; e0; e1 e3 e4;| 5 2 0 2 2 0 0 0 5
-1 4 4 3|9 4 3| e0; e0; e1 e3 e4;| 5 2 0 2 2 0 0 0 5",
-    ),
-    (
-        BETTER_THEN_AS_GOOD,
-        "# the second round changes the sets for others of as much overflow, and those before it are the result
-1 4 0 1|8 0 8| e0; e3; e1 e3 e4;| 2 4 0 6 4 0 0 0 5
-1 4 4 1|8 4 4| e0; e3; e0;| 6 0 0 2 0 0 0 0 3",
-    ),
-    (
-        "ROW 142 144 1;0 0 1 1 0 1 0;",
-        "# a choked edge with load is no reason to route a net anew
-1 1 4 0|2 4 2| e0 e2;| 2 0 2 0 0 0 2",
-    ),
-    (
-        CHOKED_MIDDLE,
-        "# nor is an open one that is full
-1 3 0 2|4 0 4| e0 e2 e4;| 4 0 4 0 4 0 0 0 0 0 0 0 0 0 0 0 3
-1 3 4 2|4 4 4| e0 e2 e4;| 4 0 4 0 4 0 0 0 0 0 0 0 0 0 0 0 3",
-    ),
-];
-
-/// What came of repair, as the fields of a row.
-fn repaired_text(alloc: Global, routed: &Routed, overflow: u64) -> Result<String, AllocError> {
-    let (rounded, rounds) = (routed.rounded, routed.rounds);
-    let mut text = format!(in alloc; "{rounded} {rounds} {overflow}|")?;
-    let routing = routing_text(alloc, routed.trees.list(), routed.loads.as_slice())?;
-    text.push_str(routing.as_str())?;
-    Ok(text)
+/// The design that a field names: one of these four, or a worked one.
+fn field_of_design(field: &'static str) -> &'static str {
+    match field {
+        "PICKS_THAT_MEET" => PICKS_THAT_MEET,
+        "BETTER_THEN_WORSE" => BETTER_THEN_WORSE,
+        "BETTER_THEN_AS_GOOD" => BETTER_THEN_AS_GOOD,
+        "CHOKED_MIDDLE" => CHOKED_MIDDLE,
+        _ => field,
+    }
 }
 
-/// Fails where repair makes something else of a design than one of its rows says.
-fn rows_agree<R: Threads + Sync>(
-    rt: &R,
-    alloc: Global,
-    design: &Design,
-    rows: &str,
-) -> Result<(), Fail> {
-    for row in rows.split('\n') {
-        if row.starts_with('#') {
-            continue;
-        }
-        let (settings, wanted) = row.split_once('|').ok_or("bar")?;
-        let settings = settings_of(settings)?;
-        let (routed, overflow) = repaired_by(rt, alloc, design, &settings, &OpenGate)?;
-        let found = repaired_text(alloc, &routed, overflow)?;
-        agree(row, found.as_str(), wanted)?;
-    }
-    Ok(())
+/// A design; how many workers, phases and rounds at most there are, and the seed; the overflow before repair, the rounds and
+/// the overflow behind it; the set of each net; and the loads of all edges, with that of the wirelength at their end.
+const REPAIRED: &str = "# no overflow, no round
+ROW|1 1 4 0|0 0 0| e0 e2;| 2 0 2 0 0 0 2
+# one way for each net
+CROWDED_ROW|1 1 4 0|4 4 4| e0 e2; e0 e2; e0 e2;| 6 0 6 0 0 0 6
+CROWDED_ROW|2 1 4 0|4 4 4| e0 e2; e0 e2; e0 e2;| 6 0 6 0 0 0 6
+CROWDED_ROW|4 1 16 0|4 16 4| e0 e2; e0 e2; e0 e2;| 6 0 6 0 0 0 6
+# the first round removes all overflow
+TWO_ALONG|1 1 0 0|4 0 4| e0 e2; e0 e2;| 4 0 4 0 0 0 0 0 0 0 0 0 4
+TWO_ALONG|1 1 4 0|4 1 0| e1 e5 e6 e8; e0 e2;| 2 2 2 0 0 2 2 0 2 0 0 0 6
+# the first round removes all overflow
+PICKS_THAT_MEET|1 4 0 4|2 0 2| e0; e0 e3; e0 e3;| 6 0 0 4 0 0 0 0 5
+PICKS_THAT_MEET|1 4 4 4|2 1 0| e0; e1 e4; e0 e3;| 4 2 0 2 2 0 0 0 5
+# each round makes it more, and the chosen sets are the result
+NO_WAY_ROUND|1 1 1 0|2 1 2| e0; e0;| 4 0 0 0 0 0 0 0 2
+NO_WAY_ROUND|1 1 4 0|2 4 2| e0; e0;| 4 0 0 0 0 0 0 0 2
+# the second round makes it more again, and the sets after the first one are the result
+BETTER_THEN_WORSE|1 4 0 3|9 0 9| e1 e3 e4; e0; e1 e3 e4;| 2 5 0 5 5 0 0 0 7
+BETTER_THEN_WORSE|1 4 1 3|9 1 3| e0; e0; e1 e3 e4;| 5 2 0 2 2 0 0 0 5
+BETTER_THEN_WORSE|1 4 4 3|9 4 3| e0; e0; e1 e3 e4;| 5 2 0 2 2 0 0 0 5
+# the second round changes the sets for others of as much overflow, and those before it are the result
+BETTER_THEN_AS_GOOD|1 4 0 1|8 0 8| e0; e3; e1 e3 e4;| 2 4 0 6 4 0 0 0 5
+BETTER_THEN_AS_GOOD|1 4 4 1|8 4 4| e0; e3; e0;| 6 0 0 2 0 0 0 0 3
+# a choked edge with load is no reason to route a net anew
+ROW 142 144 1;0 0 1 1 0 1 0;|1 1 4 0|2 4 2| e0 e2;| 2 0 2 0 0 0 2
+# nor is an open one that is full
+CHOKED_MIDDLE|1 3 0 2|4 0 4| e0 e2 e4;| 4 0 4 0 4 0 0 0 0 0 0 0 0 0 0 0 3
+CHOKED_MIDDLE|1 3 4 2|4 4 4| e0 e2 e4;| 4 0 4 0 4 0 0 0 0 0 0 0 0 0 0 0 3";
+
+/// The overflow before repair, the rounds and the overflow behind it, as a field.
+fn overflows_text(alloc: Global, routed: &Routed, overflow: u64) -> Result<String, AllocError> {
+    let (rounded, rounds) = (routed.rounded, routed.rounds);
+    format!(in alloc; "{rounded} {rounds} {overflow}")
 }
 
 #[test]
 fn the_first_routing_of_least_overflow_is_the_result(rt: HostRuntime) -> Result<(), Fail> {
-    for (given, rows) in REPAIRED {
-        rows_agree(&rt, rt.alloc(), &design_of(rt.alloc(), given)?, rows)?;
+    let alloc = rt.alloc();
+    for row in rows_of(alloc, REPAIRED)? {
+        let (given, settings, overflows, sets, loads) = five_fields(row)?;
+        let design = design_of(alloc, field_of_design(given))?;
+        let settings = settings_of(settings)?;
+        let (routed, overflow) = repaired_by(&rt, alloc, &design, &settings, &OpenGate)?;
+        let found = overflows_text(alloc, &routed, overflow)?;
+        agree(row, found.as_str(), overflows)?;
+        routing_agrees(
+            alloc,
+            row,
+            routed.trees.list(),
+            &routed.loads,
+            (sets, loads),
+        )?;
     }
     Ok(())
 }

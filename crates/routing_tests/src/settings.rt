@@ -5,19 +5,14 @@ ghost use Rattle.routing_stages.specs.Settings.{AreSettings};
 
 use routing_stages::Settings;
 use std::test::Fail;
+use test_rows::{number_of, three_numbers};
 
 /// The settings that a field stands for: how many workers, phases and rounds, and the seed. There is no budget.
-pub fn settings_of(field: &str) -> Result<Settings, Fail>
+pub fn settings_of(field: &'static str) -> Result<Settings, Fail>
     ensures { IfOk result AreSettings }
 {
-    let (workers, field) = field.split_once(' ').ok_or("workers")?;
-    let (phases, field) = field.split_once(' ').ok_or("phases")?;
-    let (rounds, seed) = field.split_once(' ').ok_or("rounds")?;
-    let (workers, phases, rounds): (u32, u32, u32) = (
-        workers.parse()?,
-        phases.parse()?,
-        rounds.parse()?,
-    );
+    let (counts, seed) = field.rsplit_once(' ').ok_or("a seed")?;
+    let (workers, phases, rounds) = three_numbers::<u32>(counts)?;
     if workers < 1 || workers > 8 || phases < 1 || phases > 16 || rounds > 16 {
         return Err(Fail::new("no such settings"));
     }
@@ -25,7 +20,7 @@ pub fn settings_of(field: &str) -> Result<Settings, Fail>
         workers,
         phases,
         rounds,
-        seed: seed.parse()?,
+        seed: number_of(seed)?,
         budget: None,
     })
 }

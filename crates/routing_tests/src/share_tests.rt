@@ -2,17 +2,17 @@
 
 ghost use Rattle.routing_stages.specs.Settings.{AreSettings};
 
-use crate::fields::{numbers_text, prices_text, sets_text};
 use crate::meeting::Meeting;
 use crate::settings::settings_of;
 use grid_base::{Edge, Piece};
 use grid_graph::{Design, Grid};
 use routing_stages::{Gate, OpenGate, Settings, Shared};
 use sharing_phases::share;
-use std::alloc::{AllocError, Global};
+use std::alloc::Global;
 use std::test::Fail;
 use std::thread::Threads;
-use worked_designs::{STAR_SET, agree, design_of};
+use test_rows::{agree, five_fields, numbers_text, rows_of, set_of, sets_text};
+use worked_designs::design_of;
 
 /// All phases of a design.
 fn shared_by<R: Threads + Sync, G: Gate>(
@@ -29,8 +29,7 @@ fn shared_by<R: Threads + Sync, G: Gate>(
 }
 
 /// A design; how many workers and phases there are, no rounds, and the seed; the set of each net in each phase, or `free` where
-/// it may be another one in each; and the loads and the prices of all edges, with those of the wirelength at their end. A line
-/// that begins with `#` says what follows.
+/// it may be another one in each; and the loads and the prices of all edges, with those of the wirelength at their end.
 ///
 /// In the row there is one way for each net, and in the square one net, whose second set goes the other way: so the loads
 /// are the same for any number of workers. The net with the wide wires goes over the upper layer, whose three edges are then
@@ -71,52 +70,46 @@ fn phases_agree(
     Ok(())
 }
 
-/// The loads, a bar, and the prices of all edges.
-fn loaded_text(alloc: Global, loads: &[u64], prices: &[u32]) -> Result<String, AllocError> {
-    let mut text = numbers_text(alloc, loads)?;
-    text.push_str("|")?;
-    text.push_str(prices_text(alloc, prices)?.as_str())?;
-    Ok(text)
-}
-
-/// Fails where the phases make something else of a design than the row says, of which these are the fields behind the design.
-fn row_agrees<R: Threads + Sync>(
+/// What the phases of a row make of its design, beside the sets that the row wants.
+fn shared_of_row<R: Threads + Sync>(
     rt: &R,
     alloc: Global,
-    row: &str,
     design: &Design,
-    fields: &str,
-) -> Result<(), Fail> {
-    let (settings, rest) = fields.split_once('|').ok_or("settings")?;
-    let (sets, wanted) = rest.split_once('|').ok_or("sets")?;
+    settings: &'static str,
+    sets: &str,
+) -> Result<Shared, Fail> {
     let settings = settings_of(settings)?;
     let shared = shared_by(rt, alloc, design, &settings, &OpenGate)?;
     if shared.phases.list().len() != settings.phases as usize {
         return Err(Fail::new("another number of phases"));
     }
-    phases_agree(alloc, row, &shared, design.nets.list().len(), sets)?;
-    let found = loaded_text(alloc, shared.loads.as_slice(), shared.prices.as_slice())?;
-    agree(row, found.as_str(), wanted)
+    phases_agree(alloc, sets, &shared, design.nets.list().len(), sets)?;
+    Ok(shared)
 }
 
 #[test]
 fn all_phases_load_the_edges_as_was_worked_out(rt: HostRuntime) -> Result<(), Fail> {
-    for row in LOADED.split('\n') {
-        if row.starts_with('#') {
-            continue;
-        }
-        let (given, fields) = row.split_once('|').ok_or("bar")?;
-        row_agrees(&rt, rt.alloc(), row, &design_of(rt.alloc(), given)?, fields)?;
+    let alloc = rt.alloc();
+    for row in rows_of(alloc, LOADED)? {
+        let (given, settings, sets, loads, prices) = five_fields(row)?;
+        let design = design_of(alloc, given)?;
+        let shared = shared_of_row(&rt, alloc, &design, settings, sets)?;
+        agree(row, numbers_text(alloc, &shared.loads)?.as_str(), loads)?;
+        agree(row, numbers_text(alloc, &shared.prices)?.as_str(), prices)?;
     }
     Ok(())
 }
 
-/// The fields of the star behind its settings: its set, and the loads and the prices of all edges. Eight edges have a quarter
-/// of their capacity, all others nothing: these are two steps of the price below those.
-fn star_text(alloc: Global, grid: &Grid) -> Result<String, AllocError> {
+/// The set of the star's net.
+const STAR_SET: &str = " e5 e15 e20 e22 e24 e25 e26 e35 v12";
+
+/// The loads and the prices of all edges. Eight edges have a quarter of their capacity, all others nothing: these are two
+/// steps of the price below those.
+fn star_numbers(alloc: Global, grid: &Grid) -> Result<(Vec<u64>, Vec<u32>), Fail> {
     let (mut loads, mut prices) = (Vec::new(alloc), Vec::new(alloc));
+    let star = set_of(alloc, STAR_SET)?;
     for e in 0..2 * grid.size().vertices() {
-        let (load, price) = if STAR_SET.contains(&Piece::Edge(Edge(e))) {
+        let (load, price) = if star.contains(Piece::Edge(Edge(e))) {
             (2, 12758)
         } else if grid.capacity(Edge(e)) > 0 {
             (0, 12142)
@@ -128,15 +121,18 @@ fn star_text(alloc: Global, grid: &Grid) -> Result<String, AllocError> {
     }
     loads.push(9)?;
     prices.push(0)?;
-    loaded_text(alloc, loads.as_slice(), prices.as_slice())
+    Ok((loads, prices))
 }
 
 #[test]
 fn the_star_loads_its_own_edges(rt: HostRuntime) -> Result<(), Fail> {
-    let design = design_of(rt.alloc(), "STAR")?;
-    let mut fields = String::from_str(rt.alloc(), "1 1 0 0| e5 e15 e20 e22 e24 e25 e26 e35 v12;|")?;
-    fields.push_str(star_text(rt.alloc(), &design.grid)?.as_str())?;
-    row_agrees(&rt, rt.alloc(), "STAR", &design, fields.as_str())
+    let alloc = rt.alloc();
+    let design = design_of(alloc, "STAR")?;
+    let sets = " e5 e15 e20 e22 e24 e25 e26 e35 v12;";
+    let shared = shared_of_row(&rt, alloc, &design, "1 1 0 0", sets)?;
+    let (loads, prices) = star_numbers(alloc, &design.grid)?;
+    assert!(rt; shared.loads == loads && shared.prices == prices);
+    Ok(())
 }
 
 /// Whether the sets of two nets have a piece in common.

@@ -8,14 +8,15 @@ ghost use Rattle.grid_graph.specs.Grounds.{AreGrounds, IsGround};
 ghost use Rattle.load_core.specs.Parties.{share_at};
 ghost use Rattle.price_workers.specs.TreeLoads.{HasRoomForSet, HoldsTree};
 
-use crate::fields::{numbers_of, numbers_text, routing_text, set_of};
+use crate::routings::routing_agrees;
 use grid_graph::{Design, Ground};
 use load_table::{LoadTable, Share};
 use price_workers::Worker;
 use std::alloc::Global;
 use std::test::Fail;
+use test_rows::{five_fields, numbers_of, numbers_text, rows_of, set_of, three_fields};
 use tree_set::{Tree, add_load, inside};
-use worked_designs::{agree, design_of};
+use worked_designs::design_of;
 
 /// No set puts more than this on a word.
 const MAX_TREE_LOAD: u64 = 1 << 25;
@@ -104,12 +105,12 @@ fn workers_give_each_net_its_set_and_put_its_load_on_the_table(
     rt: HostRuntime,
 ) -> Result<(), Fail> {
     let alloc = rt.alloc();
-    for row in ROUTED.split('\n') {
-        let (given, wanted) = row.split_once('|').ok_or("bar")?;
+    for row in rows_of(alloc, ROUTED)? {
+        let (given, sets, wanted) = three_fields(row)?;
         let design = design_of(alloc, given)?;
         let grounds = design.grounds()?;
         let (trees, loads) = routed(alloc, &design, grounds.as_slice())?;
-        agree(row, routing_text(alloc, &trees, &loads)?.as_str(), wanted)?;
+        routing_agrees(alloc, row, &trees, &loads, (sets, wanted))?;
     }
     Ok(())
 }
@@ -236,33 +237,28 @@ fn repaired(
 }
 
 /// A design, the set of its first net with the load of each entry, the wirelength's last, before the net's turn in a round of
-/// repair, and both behind it. A line that begins with `#` says what follows.
+/// repair, and both behind it.
 const REPAIRED: &str = "# others use both edges of its way
-SQUARE| e0 e3;| 4 0 0 4 0 0 0 0 4| e1 e4;| 2 2 0 2 2 0 0 0 4
+SQUARE| e0 e3| 4 0 0 4 0 0 0 0 4| e1 e4;| 2 2 0 2 2 0 0 0 4
 # its own load alone made its way dearer than the other one
-SQUARE| e0 e3;| 2 1 0 2 1 0 0 0 4| e0 e3;| 2 1 0 2 1 0 0 0 4
+SQUARE| e0 e3| 2 1 0 2 1 0 0 0 4| e0 e3;| 2 1 0 2 1 0 0 0 4
 # its set went both ways, of which others use one
-SQUARE| e0 e1 e3 e4;| 2 4 0 2 4 0 0 0 6| e0 e3;| 2 2 0 2 2 0 0 0 4
+SQUARE| e0 e1 e3 e4| 2 4 0 2 4 0 0 0 6| e0 e3;| 2 2 0 2 2 0 0 0 4
 # there is one way
-CROWDED_ROW| e0 e2;| 6 0 6 0 0 0 6| e0 e2;| 6 0 6 0 0 0 6
+CROWDED_ROW| e0 e2| 6 0 6 0 0 0 6| e0 e2;| 6 0 6 0 0 0 6
 # a wire of the upper layer uses less
-WIDE_WIRES| e0 e2 e4;| 4 0 4 0 4 0 0 0 0 0 0 0 0 0 0 0 3| e8 e10 e12 v0 v3;| 0 0 0 0 0 0 0 0 3 0 3 0 3 0 0 0 5";
+WIDE_WIRES| e0 e2 e4| 4 0 4 0 4 0 0 0 0 0 0 0 0 0 0 0 3| e8 e10 e12 v0 v3;| 0 0 0 0 0 0 0 0 3 0 3 0 3 0 0 0 5";
 
 #[test]
 fn repair_takes_out_the_old_set_of_a_net_and_puts_a_new_one(rt: HostRuntime) -> Result<(), Fail> {
     let alloc = rt.alloc();
-    for row in REPAIRED.split('\n') {
-        if row.starts_with('#') {
-            continue;
-        }
-        let (given, rest) = row.split_once('|').ok_or("bar")?;
-        let (set, rest) = rest.split_once(";|").ok_or("set")?;
-        let (loads, wanted) = rest.split_once('|').ok_or("loads")?;
+    for row in rows_of(alloc, REPAIRED)? {
+        let (given, set, loads, sets, wanted) = five_fields(row)?;
         let design = design_of(alloc, given)?;
         let grounds = design.grounds()?;
         let (tree, loads) = (set_of(alloc, set)?, numbers_of(alloc, loads)?);
         let (trees, loads) = repaired(alloc, &design, grounds.as_slice(), tree, loads.as_slice())?;
-        agree(row, routing_text(alloc, &trees, &loads)?.as_str(), wanted)?;
+        routing_agrees(alloc, row, &trees, &loads, (sets, wanted))?;
     }
     Ok(())
 }

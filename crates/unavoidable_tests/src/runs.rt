@@ -1,46 +1,56 @@
-//! A run on some words, over a desk with three files.
+//! Runs of `unavoidable` over a desk in memory.
+//!
+//! Before the words of a paragraph stands how many of them the desk expects: the first so many where they belong, and no
+//! other name.
 
-use gr_desk::{CallKind, Fail as FailedCall, MemDesk, Port};
-use std::alloc::{AllocError, Global};
+use gr_desk::Port;
+use run_tables::{Left, Told, desk_of, left_agrees, left_of, told_of, words_of};
+use std::alloc::Global;
+use std::test::Fail;
 use std::thread::Threads;
+use test_rows::{number_of, paragraphs_of};
 use unavoidable_cli::run_unavoidable;
-
-/// The words of a run. The desk has files under the first three.
-pub const WORDS: &[&str] = &["a.gr", "a.routes", "a.cert", "new.cert"];
 
 /// Where the words of a run belong, in the order of work.
 const PORTS: [Port; 4] = [Port::In, Port::RoutesIn, Port::CertIn, Port::CertOut];
 
-/// What a run on these words leaves: its status, and the desk with the texts of the design, of the routes and of the
-/// certificate. The desk expects the first so many words where they belong, and no other name.
-pub fn after_run<R: Threads + Sync>(
+/// The first so many words, each with its port.
+fn names_of(
+    alloc: Global,
+    line: &'static str,
+    count: usize,
+) -> Result<Vec<(Port, &'static str)>, Fail> {
+    let mut names = Vec::new(alloc);
+    for (port, word) in PORTS.iter().zip(line.split(' ')).take(count) {
+        names.push((*port, word))?;
+    }
+    if names.len() != count {
+        return Err(Fail::new("fewer words than names"));
+    }
+    Ok(names)
+}
+
+/// What the run of a paragraph leaves.
+pub fn after_run<R: Threads + Sync>(rt: &R, alloc: Global, told: Told) -> Result<Left, Fail> {
+    let (count, line) = told.line.split_once(' ').ok_or("how many names")?;
+    let names = names_of(alloc, line, number_of(count)?)?;
+    let words = words_of(alloc, line)?;
+    let mut desk = desk_of(alloc, told.texts, told.failing, names.as_slice())?;
+    let status = run_unavoidable(rt, alloc, &words, &mut desk);
+    Ok(left_of(alloc, status, &desk)?)
+}
+
+/// Fails where a run of the table leaves something else.
+pub fn runs_agree<R: Threads + Sync>(
     rt: &R,
     alloc: Global,
-    words: &[&str],
-    texts: [&[u8]; 3],
-    expected: usize,
-    fails: Option<(Port, CallKind)>,
-) -> Result<(u8, MemDesk), AllocError> {
-    let mut all = Vec::new(alloc);
-    for word in words {
-        all.push(String::from_str(alloc, word)?)?;
+    table: &'static str,
+) -> Result<(), Fail> {
+    for paragraph in paragraphs_of(alloc, table)? {
+        let told = told_of(alloc, paragraph)?;
+        let wanted = told.wanted;
+        let left = after_run(rt, alloc, told)?;
+        left_agrees(alloc, paragraph, &left, wanted)?;
     }
-    let mut files = Vec::new(alloc);
-    for (name, text) in WORDS.iter().zip(texts) {
-        files.push((
-            String::from_str(alloc, name)?,
-            Vec::from_slice(alloc, text)?,
-        ))?;
-    }
-    let mut names = Vec::new(alloc);
-    for (port, name) in PORTS.iter().zip(words).take(expected) {
-        names.push((*port, String::from_str(alloc, name)?))?;
-    }
-    let mut failing = Vec::new(alloc);
-    if let Some((port, call)) = fails {
-        failing.push(FailedCall { port, call, nth: 0 })?;
-    }
-    let mut desk = MemDesk::expecting(alloc, files, failing, names);
-    let status = run_unavoidable(rt, alloc, &all, &mut desk);
-    Ok((status, desk))
+    Ok(())
 }
