@@ -17,7 +17,7 @@
 //! for the nets' grounds, `route_text` and `cert_text` for the texts, `route_judge` for the verdict on them, `tree_set` for
 //! measures, `gr_desk` to write to, and `grid_base`. It knows nothing of how routes are found, so whoever trusts `judge` alone
 //! reads the definitions of these crates and of those that `route_judge` leads to (`edge_prices`, `dual_bound`, `lower_bound`,
-//! `shortest_paths`), and no others.
+//! `label_search`, `steiner_tables`), and no others.
 //!
 //! Promised, in the words of `specs/MeasureRun.antt` and `specs/JudgeRun.antt` and of `CommandRun` of `command_runs`: where the
 //! status is 0, nothing can be objected to what was read, and the report says what is measured of it; where it is 1, the report has

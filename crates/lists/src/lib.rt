@@ -11,7 +11,7 @@
 //! let first = name.list()[0];
 //! ```
 //!
-//! It stands on nothing, and takes no memory.
+//! It stands on nothing. `Items::push` and `append` alone can want memory.
 //!
 //! Promised: a list is the one that it was made of, and a kept one obeys its rule.
 
