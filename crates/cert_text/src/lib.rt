@@ -30,7 +30,7 @@
 mod cert;
 mod cert_error;
 mod digits;
-mod fractions;
+mod fraction_text;
 mod laws;
 mod price_list;
 mod ratio;

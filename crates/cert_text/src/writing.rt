@@ -6,7 +6,7 @@ ghost use Rattle.cert_text.specs.Versions.{version_text};
 ghost use Rattle.cert_text.specs.CertText.{labelled, fraction_text, budget_text, price_text, cert_text};
 
 use crate::cert::Cert;
-use crate::fractions::put_fraction;
+use crate::fraction_text::put_fraction;
 use crate::version::Version;
 use gr_desk::{Desk, Failed, Pen, Port};
 use itoa::Integer;

@@ -12,7 +12,7 @@ ghost use Rattle.unavoidable_cli.specs.ShownLists.{IsShownList};
 
 use crate::finding::Finding;
 use crate::improved::improve;
-use crate::lists::priced_edges;
+use crate::price_lists::priced_edges;
 use crate::priced_edge::PricedEdge;
 use crate::shown_list::{ShownList, best_for_bound, best_for_overflow, shown_lists};
 use cert_text::Cert;

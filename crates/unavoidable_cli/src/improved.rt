@@ -6,7 +6,7 @@ ghost use Rattle.edge_prices.specs.Budgets.{most_of};
 ghost use Rattle.unavoidable_cli.specs.Findings.{IsAbove, IsBetter, IsSameOrBetter};
 ghost use Rattle.unavoidable_cli.specs.ShownLists.{IsShownList};
 
-use crate::lists::priced_edges;
+use crate::price_lists::priced_edges;
 use crate::priced_edge::PricedEdge;
 use crate::shown_list::{ShownList, is_above};
 use cert_text::Cert;

@@ -34,9 +34,9 @@
 mod finding;
 mod found;
 mod improved;
-mod lists;
 mod names;
 mod outcome;
+mod price_lists;
 mod priced_edge;
 mod report;
 mod show;

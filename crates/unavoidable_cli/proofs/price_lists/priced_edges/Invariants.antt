@@ -1,7 +1,7 @@
 use Rattle.std.proofs.Common.{◌≡◌}
 use Rattle.judge_laws.proofs.Kept.{kept}
 use Rattle.unavoidable_cli.proofs.PricedEdges.{has_price, with_price}
-use Rattle.unavoidable_cli.proofs.lists.priced_edges.Given as goal
+use Rattle.unavoidable_cli.proofs.price_lists.priced_edges.Given as goal
 
 -- those with a price among the edges that were looked at
 abbrev pub invariant-loop-e : goal.invariant-loop-e

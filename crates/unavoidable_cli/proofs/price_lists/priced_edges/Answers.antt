@@ -4,8 +4,8 @@ use Rattle.std.proofs.lemmas.Bool.{lt-ltb, le-ltb}
 use Rattle.unavoidable_cli.specs.declared.priced_edge.PricedEdge.{PricedEdge}
 use Rattle.judge_laws.proofs.Kept.{kept-more, kept-same}
 use Rattle.unavoidable_cli.proofs.PricedEdges.{has_price, with_price}
-use Rattle.unavoidable_cli.proofs.lists.priced_edges.Goals as goal
-use Rattle.unavoidable_cli.proofs.lists.priced_edges.Goals.{then-price-gt0+in_ok-push, else-price-gt0}
+use Rattle.unavoidable_cli.proofs.price_lists.priced_edges.Goals as goal
+use Rattle.unavoidable_cli.proofs.price_lists.priced_edges.Goals.{then-price-gt0+in_ok-push, else-price-gt0}
 
 pub loop-e-preserved : goal.loop-e-preserved
 loop-e-preserved c =
