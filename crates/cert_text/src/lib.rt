@@ -42,7 +42,7 @@ mod writing;
 
 pub use cert::Cert;
 pub use cert_error::CertError;
-pub use fractions::put_fraction;
+pub use fraction_text::put_fraction;
 pub use laws::written_certificates_read_back;
 pub use price_list::PriceList;
 pub use reading::read_cert;
