@@ -1,9 +1,8 @@
 -- Sums of net bounds, part after part.
-use Rattle.std.proofs.Common.{◌≡◌, ℕ, zero, suc, ◌+◌, ◌-◌, ◌*◌, ◌/◌, ◌≤◌, ◌<◌, Option, List, [], ◌∷◌, ◌++◌, length, map, take, drop, Result, Ok, Err, IfOk, MatchResult, sum, refl, sym, ◌∙◌, ap, subst, arith, zero-add}
+use Rattle.std.proofs.Common.{◌≡◌, ℕ, zero, suc, ◌+◌, ◌-◌, ◌≤◌, Option, List, [], ◌∷◌, ◌++◌, length, map, take, drop, Result, Ok, Err, IfOk, MatchResult, sum, refl, sym, ◌∙◌, ap, subst, arith, zero-add}
 use Rattle.std.specs.List.{AllZip, range_with_len, slice_range}
-use Rattle.std.proofs.Math.Nat.{mul-div_cancel_left, zero-div, mul-le-mul_right, div-le_of_le-mul, mul-div-le, le-div_iff_mul-le, mul_comm}
 use Rattle.std.proofs.Math.Seq.{take-add}
-use Rattle.std.proofs.lemmas.List.{drop-drop, take_all}
+use Rattle.std.proofs.lemmas.List.{drop-drop}
 use Rattle.std.proofs.lemmas.List.Sums.{sum_by-cons, sum_by-append}
 use Rattle.rayon.proofs.ListFacts.{AllZip-append}
 use Rattle.grid_graph.specs.declared.grid.Grid.{Grid}
@@ -65,31 +64,11 @@ module _ (g : Grid) (prices : List ℕ) (budget : Option Budget) (nets : List Ne
       (subst (λ (ns : List NetSpec). IsSumOfBounds g prices budget ns (y + sum sums)) nets_join both))
 
   -- what is collected of all parts
-  pub all_parts : {E V : Type 0} (items : V → List ℕ) (Q : E → Type 0) (count : ℕ) (us : List (Result ℕ E)) (r : Result V E)
+  pub parts_summed : {E V : Type 0} (items : V → List ℕ) (Q : E → Type 0) (count : ℕ) (us : List (Result ℕ E)) (r : Result V E)
       → AllZip (λ part r. PartSums g prices budget nets start part {E = E} r) (range_with_len 0 count) us
       → MatchResult r (λ v. (ys : List ℕ) × (us ≡ map Ok ys) × (items v ≡ ys)) Q
       → IfOk r (λ v. IsSumOfBounds g prices budget (slice_range nets (start 0) (start count)) (sum (items v)))
-  all_parts {E = E} items Q count us (Ok v) each made =
+  parts_summed {E = E} items Q count us (Ok v) each made =
       let joined = parts_joined E count 0 made.0 (subst (λ (z : List (Result ℕ E)). AllZip (λ part r. PartSums g prices budget nets start part {E = E} r) (range_with_len 0 count) z) made.1 each) in
       rw made.2 (subst (λ (k : ℕ). IsSumOfBounds g prices budget (slice_range nets (start 0) (start k)) (sum made.0)) (zero-add count) joined)
-  all_parts items Q count us (Err e) each made = tt
-
--- the parts go from the first net to the last
-pub first_of_part-first : (parts nets : ℕ) → 0 * nets / parts ≡ 0
-first_of_part-first parts nets = let none : 0 * nets ≡ 0 = omega arith in ap (λ k. k / parts) none ∙ zero-div parts
-
-pub first_of_part-last : (parts nets : ℕ) → 0 < parts → parts * nets / parts ≡ nets
-first_of_part-last parts nets some = mul-div_cancel_left nets some
-
-pub first_of_part-rises : (parts nets part : ℕ) → 0 < parts → part * nets / parts ≤ (part + 1) * nets / parts
-first_of_part-rises parts nets part some =
-    let more : (part + 1) * nets ≡ part * nets + nets = omega arith in
-    let low = mul-div-le (part * nets) parts in
-    (le-div_iff_mul-le some).1 (omega (arith, low, more, mul_comm (part * nets / parts) parts))
-
--- and no part goes past the last net
-pub first_of_part-within : (parts nets part : ℕ) → 0 < parts → part ≤ parts → part * nets / parts ≤ nets
-first_of_part-within parts nets part some within = div-le_of_le-mul parts (mul-le-mul_right nets within)
-
-pub slice_range-whole : {X : Type 0} (xs : List X) → slice_range xs 0 (length xs) ≡ xs
-slice_range-whole xs = let long : length xs - 0 ≡ length xs = omega arith in ap (λ k. take k xs) long ∙ take_all (length xs) xs (omega arith)
+  parts_summed items Q count us (Err e) each made = tt

@@ -1,15 +1,12 @@
 -- How the nets of a design are divided in parts, each of which is summed alone.
-use Rattle.std.specs.Prelude.{ℕ, ◌+◌, ◌*◌, ◌/◌, List, length}
+use Rattle.std.specs.Prelude.{ℕ, ◌+◌, List, length}
 use Rattle.std.specs.List.{slice_range}
+use Rattle.even_parts.specs.EvenParts.{part_start}
 use Rattle.grid_graph.specs.declared.grid.Grid.{Grid}
 use Rattle.grid_graph.specs.declared.net_spec.NetSpec.{NetSpec}
 use Rattle.grid_graph.specs.Grounds.{AreGrounds}
 use Rattle.dual_bound.specs.declared.priced.Priced.{Priced}
 use Rattle.dual_bound.specs.DesignBounds.{IsSumOfBounds}
-
--- the place of the first net of a part, where so many nets are divided in so many parts
-abbrev pub first_of_part : ℕ → ℕ → ℕ → ℕ
-first_of_part parts nets part = part * nets / parts
 
 -- the grid, and the nets
 abbrev pub priced_grid : Priced → Grid
@@ -29,4 +26,5 @@ IsSumOver p nets total = IsSumOfBounds (priced_grid p) p.prices.now p.budget net
 -- that of the nets of a part
 abbrev pub IsSumOfPart : Priced → ℕ → ℕ → ℕ → Type 0
 IsSumOfPart p parts part total =
-    IsSumOver p (slice_range (priced_nets p) (first_of_part parts (length (priced_nets p)) part) (first_of_part parts (length (priced_nets p)) (part + 1))) total
+    let nets : List NetSpec = priced_nets p in
+    IsSumOver p (slice_range nets (part_start parts (length nets) part) (part_start parts (length nets) (part + 1))) total

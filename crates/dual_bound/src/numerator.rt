@@ -1,15 +1,14 @@
 //! The sum of the net bounds of a design.
 
-ghost use Rattle.std.specs.Prelude.{◌≡◌, ◌+◌, ◌*◌, ◌/◌, ◌≤◌, ◌<◌, length, IfOk};
+ghost use Rattle.std.specs.Prelude.{◌≤◌, ◌<◌, IfOk};
 ghost use Rattle.std.specs.List.{sum};
 ghost use Rattle.grid_base.specs.Limits.{max_vertices};
 ghost use Rattle.fractions.specs.Limits.{numerator_limit};
-ghost use Rattle.grid_graph.specs.Limits.{max_nets};
 ghost use Rattle.dual_bound.specs.Limits.{max_parts};
-ghost use Rattle.dual_bound.specs.Parts as words;
 ghost use Rattle.dual_bound.specs.Parts.{priced_nets, HasGrounds, IsSumOver, IsSumOfPart};
 
 use crate::priced::Priced;
+use even_parts::part_start;
 use grid_base::NoMemory;
 use label_search::MAX_LABELLED;
 use rayon::prelude::*;
@@ -29,17 +28,6 @@ fn part_count(vertices: u32) -> usize
     (MAX_LABELLED / vertices).min(MAX_PARTS) as usize
 }
 
-/// The place of the first net of a part.
-fn first_of_part(parts: usize, nets: usize, part: usize) -> usize
-    requires parts { 1 ≤ parts }
-    requires most { parts ≤ max_parts }
-    requires part { part ≤ parts }
-    requires nets { nets ≤ max_nets }
-    ensures { result ≡ words.first_of_part parts nets part }
-{
-    part * nets / parts
-}
-
 /// The sum of the net bounds of a part.
 fn sum_of_part(alloc: Global, priced: &Priced, parts: usize, part: usize) -> Result<u128, NoMemory>
     requires grounds { HasGrounds priced.now }
@@ -48,8 +36,8 @@ fn sum_of_part(alloc: Global, priced: &Priced, parts: usize, part: usize) -> Res
     ensures { IfOk result (IsSumOfPart priced.now parts part) }
 {
     let nets = priced.design.nets.list().len();
-    let from = first_of_part(parts, nets, part);
-    let to = first_of_part(parts, nets, part + 1);
+    let from = part_start(parts, nets, part);
+    let to = part_start(parts, nets, part + 1);
     priced.sum_between_with(alloc, from, to)
 }
 

@@ -25,7 +25,8 @@ use Rattle.tree_set.specs.Routings.{IsRoute, IsRouting}
 use Rattle.sharing_runs.specs.Parts.{IsInPart}
 use Rattle.sharing_runs.specs.RepairRuns.{IsRepairTurn, at_positions, nets_to_repair}
 use Rattle.routing_passes.specs.Histories.{parts_history}
-use Rattle.routing_passes.proofs.Parts.{all_parts, find_part, first_start, last_start}
+use Rattle.even_parts.proofs.PartStarts.{all_parts, first_start, last_start}
+use Rattle.routing_passes.proofs.Parts.{find_part}
 use Rattle.routing_passes.proofs.Sums.{load_between-here, no_load}
 use Rattle.ripup_repair.specs.Exchanged.{with_elements}
 use Rattle.routing_passes.specs.Passes.{IsPass, Pass, ServesTurns, AreSets, old_load, old_sets, pass_nets, positions_load, turns_start}

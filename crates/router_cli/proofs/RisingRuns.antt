@@ -18,7 +18,8 @@ use Rattle.rounding_pick.specs.ChosenRoutings.{set_in_phase, chosen_routing}
 use Rattle.rounding_pick.specs.Picks.{pick}
 use Rattle.routing_passes.proofs.Positions.{AreWithin, at_positions-at, at_positions-long}
 use Rattle.ripup_repair.proofs.RepairNets.{repair-within}
-use Rattle.routing_passes.proofs.Parts.{find_part, last_start}
+use Rattle.even_parts.proofs.PartStarts.{last_start}
+use Rattle.routing_passes.proofs.Parts.{find_part}
 use Rattle.sharing_runs.specs.Parts.{part_start}
 use Rattle.sharing_runs.specs.RepairRuns.{at_positions, holds_overfull, nets_to_repair, IsRepairRound, IsRepairRun}
 use Rattle.sharing_runs.specs.SharingRuns.{IsSharingRun}

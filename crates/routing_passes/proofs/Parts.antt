@@ -1,18 +1,8 @@
 -- The parts of the workers, and the stretches of a part.
-use Rattle.std.proofs.Common.{◌≡◌, ℕ, zero, suc, ◌+◌, ◌-◌, ◌*◌, ◌/◌, ◌≤◌, ◌<◌, List, length, slice_range, ◌∙◌, ap, subst, arith, ⊎_elim}
-use Rattle.std.proofs.Math.Nat.{div-mul-le_self, mul-le-mul_right, mul-div_cancel_left, zero-div}
-use Rattle.std.proofs.lemmas.Nat.{le-div}
+use Rattle.std.proofs.Common.{◌≡◌, ℕ, zero, suc, ◌+◌, ◌≤◌, ◌<◌, subst, arith, ⊎_elim}
 use Rattle.std.proofs.lemmas.Bool.{cases_lt}
-use Rattle.std.proofs.lemmas.List.{take_all}
-use Rattle.grid_base.specs.declared.piece.Piece.{Piece}
+use Rattle.even_parts.proofs.PartStarts.{first_start, part_start-le, part_start-within}
 use Rattle.sharing_runs.specs.Parts.{part_start, stretch_start, IsInPart}
-
--- a later part doesn't begin before an earlier one
-pub part_start-le : (workers nets a b : ℕ) → 0 < workers → a ≤ b → part_start workers nets a ≤ part_start workers nets b
-part_start-le workers nets a b some low =
-    let less : a * nets / workers * workers ≤ a * nets = div-mul-le_self (a * nets) workers in
-    let more : a * nets ≤ b * nets = mul-le-mul_right nets low in
-    le-div (a * nets / workers) (b * nets) workers some (omega (arith, less, more))
 
 -- a position behind the begin of a part is in no earlier part
 pub not_earlier : (workers nets k worker position : ℕ) → 0 < workers → part_start workers nets k ≤ position
@@ -38,26 +28,15 @@ one_part workers nets a b position some first second =
       not_earlier workers nets b a position some second.from first,
     )
 
--- a stretch begins in its part, and not behind its nets
+-- a stretch begins in its part
 pub stretch_start-from : (part position : ℕ) → part ≤ position → part ≤ stretch_start part position
 stretch_start-from part position behind = omega arith
-
-pub stretch_start-le : (part position : ℕ) → part ≤ position → stretch_start part position ≤ position
-stretch_start-le part position behind = omega arith
 
 -- a net of a part is one of the design's
 pub in_design : (workers nets worker position : ℕ) → 0 < workers → worker < workers
     → position < part_start workers nets (worker + 1) → position < nets
 in_design workers nets worker position some exists before =
-    let last : part_start workers nets workers ≡ nets = mul-div_cancel_left nets some in
-    omega (arith, before, last, part_start-le workers nets (worker + 1) workers some (omega (arith, exists)))
-
--- the parts begin with the first net and end with the last
-pub first_start : (workers nets : ℕ) → part_start workers nets 0 ≡ 0
-first_start workers nets = ap (λ n. n / workers) (omega arith) ∙ zero-div workers
-
-pub last_start : (workers nets : ℕ) → 0 < workers → part_start workers nets workers ≡ nets
-last_start workers nets some = mul-div_cancel_left nets some
+    omega (arith, before, part_start-within workers nets (worker + 1) some (omega (arith, exists)))
 
 -- each net is in a part
 pub find_part : (workers nets position some : ℕ) → some ≤ workers → position < part_start workers nets some
@@ -75,11 +54,3 @@ find_part workers nets position (suc k) most before =
       },
     ))
     (cases_lt position (part_start workers nets k))
-
--- all parts together are all nets
-pub all_parts : (workers nets : ℕ) (sets : List (List Piece)) → 0 < workers → length sets ≡ nets
-    → slice_range sets (part_start workers nets 0) (part_start workers nets workers) ≡ sets
-all_parts workers nets sets some long =
-    ap (λ k. slice_range sets k (part_start workers nets workers)) (first_start workers nets)
-    ∙ ap (λ k. slice_range sets 0 k) (last_start workers nets some)
-    ∙ take_all (nets - 0) sets (omega (arith, long))

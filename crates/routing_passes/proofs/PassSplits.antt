@@ -16,7 +16,7 @@ use Rattle.routing_passes.specs.Histories.{parts_history}
 use Rattle.routing_passes.specs.Passes.{AreHalves, AreSplit, Pass, ServesTurns, least_allotment, old_sets, pass_nets, turns_load}
 use Rattle.routing_passes.specs.Passes.{turns_start}
 use Rattle.routing_passes.specs.PassTurns.{HadTurns, new_load}
-use Rattle.routing_passes.proofs.Parts.{part_start-le}
+use Rattle.even_parts.proofs.PartStarts.{part_start-le}
 use Rattle.routing_passes.proofs.Ranges.{until}
 use Rattle.routing_passes.proofs.Readings.{parts_history-append}
 use Rattle.routing_passes.proofs.Sums.{load_between-split, load_on-behind_append, sum_by-both}

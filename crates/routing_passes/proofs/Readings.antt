@@ -4,7 +4,7 @@ use Rattle.std.specs.List.{flat_map, range_with_len}
 use Rattle.price_workers.specs.Readings.{loads_of_reading}
 use Rattle.sharing_runs.specs.Parts.{part_start, nets_per_reading}
 use Rattle.routing_passes.specs.Histories.{stretches, nets_history, part_history, parts_history}
-use Rattle.routing_passes.proofs.Parts.{part_start-le}
+use Rattle.even_parts.proofs.PartStarts.{part_start-le}
 use Rattle.routing_passes.proofs.Ranges.{flat_map-more, flat_map-split, flat_map-one, flat_map-same, until, until-below}
 use Rattle.routing_passes.proofs.Ranges.{until-from}
 

@@ -10,9 +10,10 @@ use Rattle.grid_graph.specs.Grids.{entries}
 use Rattle.edge_prices.specs.Vectors.{IsLoadList}
 use Rattle.sharing_runs.specs.NetSteps.{IsStep}
 use Rattle.sharing_runs.specs.Parts.{part_start, IsInPart}
-use Rattle.routing_passes.proofs.Parts.{not_earlier, one_part, part_start-le, stretch_start-from, stretch_start-le}
+use Rattle.even_parts.proofs.PartStarts.{first_start, part_start-le}
+use Rattle.sharing_runs.proofs.Turns.{stretch_start-le}
+use Rattle.routing_passes.proofs.Parts.{not_earlier, one_part, stretch_start-from}
 use Rattle.routing_passes.proofs.Ranges.{until, until-below, until-from, until-all}
-use Rattle.routing_passes.proofs.Parts.{first_start}
 use Rattle.routing_passes.proofs.Slices.{slice-first, slice-second, slice-rest, slice-last}
 use Rattle.routing_passes.proofs.Sums.{load_between-here}
 use Rattle.routing_passes.specs.Passes.{Pass, all_load, old_load, pass_nets, staying_load, turns_start}

@@ -34,7 +34,8 @@ use Rattle.price_workers.proofs.NetLoads.{tree_load-beyond}
 use Rattle.price_workers.proofs.Taken.{without_tree-at}
 use Rattle.price_workers.proofs.TurnFacts.{route_pieces}
 use Rattle.routing_passes.specs.Histories.{nets_history, parts_history}
-use Rattle.routing_passes.proofs.Parts.{stretch_start-from, stretch_start-le}
+use Rattle.sharing_runs.proofs.Turns.{stretch_start-le}
+use Rattle.routing_passes.proofs.Parts.{stretch_start-from}
 use Rattle.routing_passes.proofs.Ranges.{until, until-below, until-from, until-all}
 use Rattle.routing_passes.proofs.Readings.{nets_history-same, nets_history-begins, nets_history-goes_on, parts_history-one}
 use Rattle.routing_passes.proofs.Sums.{load_between-here, load_between-next, load_between-split, load_on-behind_push}

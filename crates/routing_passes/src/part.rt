@@ -1,15 +1,13 @@
 //! The turns of one worker in a pass.
 
-ghost use Rattle.std.specs.Prelude.{◌≡◌, ◌+◌, ◌≤◌, ◌<◌, true, false, length, IfOk};
-ghost use Rattle.grid_graph.specs.Limits.{max_nets};
-ghost use Rattle.routing_stages.specs.Limits.{max_workers};
+ghost use Rattle.std.specs.Prelude.{◌≡◌, ◌+◌, ◌<◌, true, false, length, IfOk};
 ghost use Rattle.price_workers.specs.Workers.{WorksOn, KeepsWork, IsUnchanged};
-ghost use Rattle.sharing_runs.specs.Parts.{part_start};
 ghost use Rattle.routing_passes.specs.Passes.{pass_of, HasRead, IsPass, ServesTurns};
 ghost use Rattle.routing_passes.specs.PassTurns.{HadTurns};
 
 use crate::old_sets::copies;
 use crate::plan::Plan;
+use even_parts::part_start;
 use grid_base::NoMemory;
 use grid_graph::{Design, Ground};
 use load_table::{LoadTable, Share};
@@ -19,16 +17,6 @@ use tree_set::Tree;
 
 /// So many nets a worker routes at most between two readings of the table: a reading costs a load of each word.
 const NETS_PER_READING: usize = 32;
-
-/// The position of the first net of a worker's part, or where the parts end, for the number of workers. Parts differ by at
-/// most one net.
-pub(crate) fn part_start(workers: u32, nets: usize, worker: u32) -> usize
-    requires workers { (1 ≤ workers) × (worker ≤ max_workers) }
-    requires nets { nets ≤ max_nets }
-    ensures start { result ≡ part_start workers nets worker }
-{
-    worker as usize * nets / workers as usize
-}
 
 /// The nets of a worker's part get their new sets, one after another.
 pub(crate) fn route_part<G: Gate>(
@@ -51,8 +39,9 @@ pub(crate) fn route_part<G: Gate>(
 {
     let alloc = *plan.positions.allocator();
     let positions = plan.positions.as_slice();
-    let from = part_start(plan.workers, positions.len(), worker);
-    let to = part_start(plan.workers, positions.len(), worker + 1);
+    let workers = plan.workers as usize;
+    let from = part_start(workers, positions.len(), worker as usize);
+    let to = part_start(workers, positions.len(), worker as usize + 1);
     let sets = copies(alloc, before, positions, from, to)?;
     let Ok(mut pricing) = Worker::new(alloc, design, share, sets, plan.scale, plan.budget) else {
         return Err(NoMemory);

@@ -6,8 +6,9 @@ ghost use Rattle.routing_passes.specs.Passes.{pass_of, AreHalves, IsPass, Serves
 ghost use Rattle.routing_passes.specs.PassTurns.{HadTurns};
 
 use crate::loads::loads_of;
-use crate::part::{part_start, route_part};
+use crate::part::route_part;
 use crate::plan::Plan;
+use even_parts::part_start;
 use grid_base::NoMemory;
 use grid_graph::{Design, Ground};
 use load_table::{LoadTable, Share};
@@ -101,8 +102,9 @@ fn split_for(
         first middle last share.old share.new other) }
 {
     let positions = plan.positions.as_slice();
-    let from = part_start(plan.workers, positions.len(), middle);
-    let to = part_start(plan.workers, positions.len(), last);
+    let workers = plan.workers as usize;
+    let from = part_start(workers, positions.len(), middle as usize);
+    let to = part_start(workers, positions.len(), last as usize);
     let given = loads_of(
         *plan.positions.allocator(),
         design,

@@ -30,7 +30,8 @@ use Rattle.routing_passes.specs.Histories.{parts_history}
 use Rattle.routing_passes.specs.Passes.{AreSets, IsPass, Pass, ServesTurns, all_load, old_load, old_sets, pass_nets}
 use Rattle.routing_passes.specs.Passes.{positions_load, staying_load, turns_start}
 use Rattle.routing_passes.specs.PassTurns.{HadTurns, IsPassTurn, new_load}
-use Rattle.routing_passes.proofs.Parts.{all_parts, find_part, first_start, in_design, last_start}
+use Rattle.even_parts.proofs.PartStarts.{all_parts, first_start, last_start}
+use Rattle.routing_passes.proofs.Parts.{find_part, in_design}
 use Rattle.routing_passes.proofs.PartSteps.{routing_pieces}
 use Rattle.routing_passes.proofs.Positions.{at_positions-all}
 use Rattle.routing_passes.proofs.Ranges.{flat_map-more, flat_map-same, until, until-below, until-from, until-all}

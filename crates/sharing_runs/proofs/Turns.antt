@@ -13,17 +13,14 @@ use Rattle.grid_graph.specs.declared.net_spec.NetSpec.{NetSpec}
 use Rattle.grid_base.specs.Lists.{At}
 use Rattle.edge_prices.specs.Vectors.{IsLoadList}
 use Rattle.tree_set.specs.Loads.{load_between, load_list}
+use Rattle.even_parts.proofs.PartStarts.{first_start}
 use Rattle.sharing_runs.specs.Parts.{part_start, stretch_start, IsInPart}
 use Rattle.sharing_runs.specs.SharingRuns.{IsTurn, IsSharingRun}
 use Rattle.sharing_runs.specs.NetSteps.{IsStep}
 use Rattle.sharing_runs.proofs.Between.{load_on-between, load_on-first, load_list-at, take-none}
 
--- the first worker's part begins with the first net
-first_part : (nets : ℕ) → part_start 1 nets 0 ≡ 0
-first_part nets = omega arith
-
 -- a stretch begins at its nets or before them
-stretch_start-le : (part position : ℕ) → part ≤ position → stretch_start part position ≤ position
+pub stretch_start-le : (part position : ℕ) → part ≤ position → stretch_start part position ≤ position
 stretch_start-le part position behind = omega arith
 
 -- what stands in a list of one element is that element, at the first place
@@ -47,7 +44,7 @@ turn_alone : (d : Design) (trees : List (List Piece)) (position : ℕ) → AreSt
 turn_alone d trees position turns =
     let start : ℕ = stretch_start (part_start 1 (length d.nets) 0) position in
     let behind : start ≤ position = stretch_start-le (part_start 1 (length d.nets) 0) position
-    (omega (arith, first_part (length d.nets))) in
+    (omega (arith, first_start 1 (length d.nets))) in
     record {
       step = turns.steps position;
       loads = turns.loads position;
@@ -57,7 +54,7 @@ turn_alone d trees position turns =
           (sym (load_list-at d.grid d.nets (take start trees) r within));
       alone = λ one r within. load_list-at d.grid d.nets (take position trees) r within
           ∙ load_on-first d.grid d.nets trees position r
-          ∙ ap (λ first. load_between d.grid d.nets trees first position r) (sym (first_part (length d.nets)))
+          ∙ ap (λ first. load_between d.grid d.nets trees first position r) (sym (first_start 1 (length d.nets)))
           ∙ omega arith;
       beside = λ more. omega (arith, more);
     }

@@ -1,13 +1,10 @@
 -- How the nets of a design are divided among workers.
 use Rattle.std.specs.Prelude.{ℕ, ◌+◌, ◌-◌, ◌*◌, ◌/◌, ◌≤◌, ◌<◌}
+pub use Rattle.even_parts.specs.EvenParts.{part_start}
 
 -- so many nets a worker routes at most between two readings of the shared loads
 abbrev pub nets_per_reading : ℕ
 nets_per_reading = 32
-
--- the position of the first net of a worker's part, where so many workers share so many nets
-abbrev pub part_start : ℕ → ℕ → ℕ → ℕ
-part_start workers nets worker = worker * nets / workers
 
 -- the net at this position is in the worker's part
 pub record IsInPart (workers nets worker position : ℕ) : Type 0 where

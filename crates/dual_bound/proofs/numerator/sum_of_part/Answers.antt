@@ -1,11 +1,11 @@
 use Rattle.std.proofs.Common.{◌+◌, length, ap, arith}
-use Rattle.dual_bound.proofs.PartSums.{first_of_part-within}
+use Rattle.even_parts.proofs.PartStarts.{part_start-within}
 use Rattle.dual_bound.proofs.numerator.sum_of_part.Goals as goal
 
 pub sum_between_with-requires-clause-inside : goal.sum_between_with-requires-clause-inside
 sum_between_with-requires-clause-inside c = omega (
   arith,
-  c.first_of_part-to.ensures,
-  first_of_part-within c.args.parts (length c.list-nets.result.now) (c.args.part + 1) (omega (arith, c.requires.part)) (omega (arith, c.requires.part)),
+  c.part_start-to.ensures,
+  part_start-within c.args.parts (length c.list-nets.result.now) (c.args.part + 1) (omega (arith, c.requires.part)) (omega (arith, c.requires.part)),
   ap length c.list-nets.ensures.items,
 )

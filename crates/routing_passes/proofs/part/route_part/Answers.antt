@@ -10,7 +10,7 @@ use Rattle.sharing_runs.specs.Parts.{part_start}
 use Rattle.sharing_runs.specs.RepairRuns.{at_positions}
 use Rattle.routing_passes.specs.Passes.{IsPass, Pass, old_sets, pass_of, turns_start}
 use Rattle.routing_passes.specs.PassTurns.{IsWithinPart}
-use Rattle.routing_passes.proofs.Parts.{last_start, part_start-le}
+use Rattle.even_parts.proofs.PartStarts.{last_start, part_start-le}
 use Rattle.routing_passes.proofs.PartSteps.{count, ready, sets_within}
 use Rattle.routing_passes.proofs.PassSplits.{turns_start-le}
 use Rattle.routing_passes.proofs.WorkerSteps.{begins_turns, ends_turns, may_repair, reprice_in_part}

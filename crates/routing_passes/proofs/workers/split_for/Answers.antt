@@ -7,7 +7,7 @@ use Rattle.sharing_runs.specs.Parts.{part_start}
 use Rattle.sharing_runs.specs.RepairRuns.{at_positions}
 use Rattle.routing_passes.specs.Passes.{AreHalves, IsPass, Pass, least_allotment, pass_nets, pass_of, positions_load, turns_load}
 use Rattle.routing_passes.specs.Passes.{turns_start}
-use Rattle.routing_passes.proofs.Parts.{part_start-le, last_start}
+use Rattle.even_parts.proofs.PartStarts.{last_start, part_start-le}
 use Rattle.routing_passes.proofs.PartSteps.{count}
 use Rattle.routing_passes.proofs.PassSplits.{IsGiven, halves_served, may_be_given}
 use Rattle.routing_passes.proofs.workers.split_for.Goals as goal
