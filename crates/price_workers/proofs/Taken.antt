@@ -29,7 +29,7 @@ cond-le true n = omega arith
 cond-le false n = omega arith
 
 -- an edge that comes now was not counted before
-pub none_before : (g : Grid) (width : ℕ) (ps : List Piece) (i : ℕ) (d : Piece) (x : EdgeNumber) (first loads : List ℕ)
+none_before : (g : Grid) (width : ℕ) (ps : List Piece) (i : ℕ) (d : Piece) (x : EdgeNumber) (first loads : List ℕ)
     → IsRising ps → i < length ps → get_or ps i d ≡ Edge x → x.0 < length loads → demand_on g width x.0 ≤ max_demand
     → IsCounted g width ps i first loads → net_load g width (take i ps) x.0 ≡ 0
 none_before g width ps i d x first loads rising within is inside small before =
@@ -89,7 +89,7 @@ pub tree_load-edge : (g : Grid) (width : ℕ) (ps : List Piece) (r : ℕ) → (e
 tree_load-edge g width ps r other = ap (λ (b : Bool). cond b (length ps) (net_load g width ps r)) (ne_eqb r (edge_numbers g) (λ same. other (sym same)))
 
 -- what is taken of the edges and of the wirelength is the load of the set
-pub tree_load-taken : (g : Grid) (width : ℕ) (ps : List Piece) (first loads : List ℕ) (r : ℕ) → ArePieces (size_of g) ps → length loads ≡ entries g
+tree_load-taken : (g : Grid) (width : ℕ) (ps : List Piece) (first loads : List ℕ) (r : ℕ) → ArePieces (size_of g) ps → length loads ≡ entries g
     → length ps ≤ slice_index loads (edge_numbers g)
     → ((e : ℕ) → slice_index first e ≡ slice_index loads e + net_load g width ps e)
     → slice_index first r ≡ slice_index (slice_set loads (edge_numbers g) (slice_index loads (edge_numbers g) - length ps)) r + tree_load g width ps r
@@ -106,10 +106,26 @@ tree_load-taken g width ps first loads r pieces long enough edges =
     (cases_eq last r)
 
 -- a list that has the load of the set less is the list without it
-pub is_without : (g : Grid) (width : ℕ) (ps : List Piece) (old new : List ℕ) → length new ≡ length old
+is_without : (g : Grid) (width : ℕ) (ps : List Piece) (old new : List ℕ) → length new ≡ length old
     → ((r : ℕ) → slice_index old r ≡ slice_index new r + tree_load g width ps r) → new ≡ without_tree g width ps old
 is_without g width ps old new long value =
     fill_by_all (λ r. slice_index old r - tree_load g width ps r) new (length old) 0 long (λ k short. omega (arith, value k))
+
+-- the number of pieces is still in what is left where the edges were taken
+pub pieces_left : (g : Grid) (width : ℕ) (ps : List Piece) (first loads : List ℕ) → ArePieces (size_of g) ps
+    → ((e : ℕ) → slice_index first e ≡ slice_index loads e + net_load g width ps e) → ((r : ℕ) → tree_load g width ps r ≤ slice_index first r)
+    → length ps ≤ slice_index loads (edge_numbers g)
+pieces_left g width ps first loads pieces edges had =
+    let last : ℕ = edge_numbers g in
+    omega (arith, net_load-beyond g width ps last pieces (omega arith), edges last, had last, tree_load-last g width ps)
+
+-- and where it is taken too, the set's load is
+pub all_taken : (g : Grid) (width : ℕ) (ps : List Piece) (first loads : List ℕ) → ArePieces (size_of g) ps → length first ≡ entries g → length loads ≡ entries g
+    → ((e : ℕ) → slice_index first e ≡ slice_index loads e + net_load g width ps e) → ((r : ℕ) → tree_load g width ps r ≤ slice_index first r)
+    → slice_set loads (edge_numbers g) (slice_index loads (edge_numbers g) - length ps) ≡ without_tree g width ps first
+all_taken g width ps first loads pieces wide long edges had =
+    is_without g width ps first _ (length-set loads (edge_numbers g) _ ∙ long ∙ sym wide)
+    (λ r. tree_load-taken g width ps first loads r pieces long (pieces_left g width ps first loads pieces edges had) edges)
 
 -- an entry of the list without the set
 pub without_tree-at : (g : Grid) (width : ℕ) (ps : List Piece) (old : List ℕ) (r : ℕ) → slice_index (without_tree g width ps old) r ≡ slice_index old r - tree_load g width ps r

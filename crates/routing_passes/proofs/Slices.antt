@@ -1,9 +1,9 @@
 -- Parts of lists.
-use Rattle.std.proofs.Common.{◌≡◌, ℕ, zero, suc, ◌+◌, ◌-◌, ◌≤◌, ◌<◌, List, [], ◌∷◌, ◌++◌, length, take, drop, slice_get}
-use Rattle.std.proofs.Common.{slice_range, refl, sym, ◌∙◌, ap, subst, arith, get_or}
+use Rattle.std.proofs.Common.{◌≡◌, ℕ, zero, suc, ◌+◌, ◌-◌, ◌≤◌, List, [], ◌∷◌, ◌++◌, length, take, drop, slice_get}
+use Rattle.std.proofs.Common.{slice_range, refl, sym, ◌∙◌, ap, arith, get_or}
 use Rattle.std.proofs.Math.Seq.{take-append_seam, drop-append_seam, drop-cons, take-take, drop-drop}
 use Rattle.std.proofs.lemmas.List.{drop-take}
-use Rattle.std.proofs.lemmas.Option.{slice_get_within, get_or_from_slice_get, slice_get-get_or}
+use Rattle.std.proofs.lemmas.Option.{slice_get_within, get_or_from_slice_get}
 use Rattle.grid_base.specs.Lists.{At}
 
 -- the first part of a slice
@@ -53,8 +53,3 @@ slice-last all s y x a k whole long low at =
     let next : 1 ≡ k + 1 - k = omega arith in
     let first : take 1 (drop k all) ≡ slice_range all k (k + 1) = ap (λ n. take n (drop k all)) next in
     ap (λ xs. get_or xs 0 x) (sym one ∙ sym first ∙ take_one all k x at)
-
--- what is read of a list that is the same stands in it
-pub read_at : {X : Type 0} (xs list : List X) (k : ℕ) (d : X) → list ≡ xs → k < length xs → At xs k (get_or list k d)
-read_at xs list k d same within =
-    subst (λ ys. At ys k (get_or list k d)) same (slice_get-get_or list k d (omega (arith, within, ap length same)))

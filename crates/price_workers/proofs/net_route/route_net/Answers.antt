@@ -1,8 +1,4 @@
-use Rattle.std.proofs.Common.{◌≡◌, ℕ, List, length, sym, ap, subst, arith}
-use Rattle.grid_base.specs.declared.piece.Piece.{Piece}
-use Rattle.grid_graph.specs.declared.ground.Ground.{Ground}
-use Rattle.grid_graph.specs.declared.net_spec.NetSpec.{NetSpec}
-use Rattle.edge_prices.specs.PieceLists.{AreGroundPieces}
+use Rattle.std.proofs.Common.{List, length, sym, ap, subst, arith}
 use Rattle.grid_base.specs.declared.size.Size.{Size}
 use Rattle.grid_base.specs.declared.vertex.Vertex.{Vertex}
 use Rattle.grid_base.specs.Walks.{Joins, JoinsList, InVertices}
@@ -18,48 +14,37 @@ use Rattle.steiner_span.specs.LightTrees.{IsLightTree}
 use Rattle.steiner_exact.proofs.TwoTerminals.{joined_vertices}
 use Rattle.price_workers.proofs.LightSteps.{joined_by_pieces, none_weighs_nothing, step_from_least, step_from_light, step_moved}
 use Rattle.price_workers.proofs.net_route.route_net.Goals as goal
-
--- the ground's pieces with their weights join what the net's list has
-joined_listed : (g : Grid) (s : Size) (over : Ground) (prices : List ℕ) (pieces : List (Piece × ℕ)) (n : NetSpec) (terminals : List Vertex)
-    → s ≡ size_of g → terminals ≡ n.terminals → AreGroundPieces g over (piece_weight g n.width prices) pieces → IsGround g n.terminals over
-    → Joins s (IsAllowed pieces) (InVertices terminals)
-joined_listed g s over prices pieces n terminals size same are ground =
-    subst (λ (z : Size). Joins z (IsAllowed pieces) (InVertices terminals)) (sym size)
-    (subst (λ (ts : List Vertex). Joins (size_of g) (IsAllowed pieces) (InVertices ts)) (sym same)
-    (joined_by_pieces g over (piece_weight g n.width prices) pieces n are ground))
+use Rattle.price_workers.proofs.net_route.route_net.Goals.{After-list-terminals}
 
 -- the net's ground is one in the keeper's grid
-ground_kept : (g h : Grid) (n : NetSpec) (over : Ground) → h ≡ g → IsGround g n.terminals over → IsGround h n.terminals over
-ground_kept g h n over same ground = subst (λ (x : Grid). IsGround x n.terminals over) (sym same) ground
+ground_kept : (c : After-list-terminals) → IsGround (grid_of c.renew.new.self) c.args.net.now.terminals c.args.over
+ground_kept c = subst (λ (x : Grid). IsGround x c.args.net.now.terminals c.args.over) (sym c.renew.ensures.setting.grid) c.requires.ground
+
+-- the ground's pieces with their weights join what the net's list has
+joined_listed : (c : After-list-terminals)
+    → Joins (weighed_size c.weighing-weighing.result) (IsAllowed (weighed_pieces c.weighing-weighing.result)) (InVertices c.list-terminals.result.now)
+joined_listed c =
+    let kept = c.renew.new.self in
+    let pieces = weighed_pieces c.weighing-weighing.result in
+    subst (λ (z : Size). Joins z (IsAllowed pieces) (InVertices c.list-terminals.result.now)) (sym c.weighing-weighing.ensures.size)
+    (subst (λ (ts : List Vertex). Joins (size_of (grid_of kept)) (IsAllowed pieces) (InVertices ts)) (sym c.list-terminals.ensures.items)
+    (joined_by_pieces (grid_of kept) c.args.over (piece_weight (grid_of kept) c.args.net.now.width (vector_of kept)) pieces c.args.net.now
+    c.weighing-weighing.ensures.pieces (ground_kept c)))
 
 pub least_tree-requires-clause-joined : goal.least_tree-requires-clause-joined
-least_tree-requires-clause-joined c =
-    let kept = c.renew.new.self in
-    let w = c.weighing-weighing.result in
-    joined_listed (grid_of kept) (weighed_size w) c.args.over (vector_of kept) (weighed_pieces w) c.args.net.now c.list-terminals.result.now
-    c.weighing-weighing.ensures.size c.list-terminals.ensures.items c.weighing-weighing.ensures.pieces
-    (ground_kept (grid_of c.args.kept.now) (grid_of kept) c.args.net.now c.args.over c.renew.ensures.setting.grid c.requires.ground)
+least_tree-requires-clause-joined c = joined_listed (goal.at.least_tree-requires-clause-joined c).After-list-terminals
 
 pub least_tree-requires-clause-positive : goal.least_tree-requires-clause-positive
 least_tree-requires-clause-positive c =
     none_weighs_nothing (grid_of c.renew.new.self) c.args.over c.args.net.now.width (vector_of c.renew.new.self) (weighed_pieces c.weighing-weighing.result) c.weighing-weighing.ensures.pieces
 
 pub spanning_tree-requires-clause-joined : goal.spanning_tree-requires-clause-joined
-spanning_tree-requires-clause-joined c =
-    let kept = c.renew.new.self in
-    let w = c.weighing-weighing.result in
-    joined_listed (grid_of kept) (weighed_size w) c.args.over (vector_of kept) (weighed_pieces w) c.args.net.now c.list-terminals.result.now
-    c.weighing-weighing.ensures.size c.list-terminals.ensures.items c.weighing-weighing.ensures.pieces
-    (ground_kept (grid_of c.args.kept.now) (grid_of kept) c.args.net.now c.args.over c.renew.ensures.setting.grid c.requires.ground)
+spanning_tree-requires-clause-joined c = joined_listed (goal.at.spanning_tree-requires-clause-joined c).After-list-terminals
 
 pub spanning_tree-requires-clause-terminals : goal.spanning_tree-requires-clause-terminals
 spanning_tree-requires-clause-terminals c =
-    let kept = c.renew.new.self in
     let w = c.weighing-weighing.result in
-    λ i d short. joined_vertices (weighed_size w) (IsAllowed (weighed_pieces w)) c.list-terminals.result.now
-    (joined_listed (grid_of kept) (weighed_size w) c.args.over (vector_of kept) (weighed_pieces w) c.args.net.now c.list-terminals.result.now
-    c.weighing-weighing.ensures.size c.list-terminals.ensures.items c.weighing-weighing.ensures.pieces
-    (ground_kept (grid_of c.args.kept.now) (grid_of kept) c.args.net.now c.args.over c.renew.ensures.setting.grid c.requires.ground)) i d short
+    λ i d short. joined_vertices (weighed_size w) (IsAllowed (weighed_pieces w)) c.list-terminals.result.now (joined_listed (goal.at.spanning_tree-requires-clause-terminals c).After-list-terminals) i d short
 
 pub spanning_tree-requires-clause-positive : goal.spanning_tree-requires-clause-positive
 spanning_tree-requires-clause-positive c =
@@ -81,7 +66,7 @@ returns-then-terminals-gt-FEW_TERMINALS-clause-step c =
     c.renew.ensures.setting.grid c.renew.ensures.loads c.renew.ensures.setting.scale c.renew.ensures.setting.budget
     (step_from_light g n c.args.over (vector_of kept) pieces found.0 found.1 c.weighing-weighing.ensures.pieces
     (omega (arith, c.if-terminals-gt-FEW_TERMINALS.true, ap (λ (ts : List Vertex). length ts) c.list-terminals.ensures.items))
-    (ground_kept (grid_of c.args.kept.now) g n c.args.over c.renew.ensures.setting.grid c.requires.ground) there)
+    (ground_kept (goal.at.returns-then-terminals-gt-FEW_TERMINALS-clause-step c).After-list-terminals) there)
 
 pub returns-clause-step : goal.returns-clause-step
 returns-clause-step c =
@@ -101,4 +86,4 @@ returns-clause-step c =
     c.renew.ensures.setting.grid c.renew.ensures.loads c.renew.ensures.setting.scale c.renew.ensures.setting.budget
     (step_from_least g n c.args.over (vector_of kept) pieces found.0 c.weighing-weighing.ensures.pieces
     (omega (arith, c.if-terminals-gt-FEW_TERMINALS.false, ap (λ (ts : List Vertex). length ts) c.list-terminals.ensures.items))
-    (ground_kept (grid_of c.args.kept.now) g n c.args.over c.renew.ensures.setting.grid c.requires.ground) least.rising joined lightest)
+    (ground_kept (goal.at.returns-clause-step c).After-list-terminals) least.rising joined lightest)

@@ -11,10 +11,11 @@ use Rattle.sharing_runs.specs.RepairRuns.{at_positions}
 use Rattle.routing_passes.specs.Passes.{IsPass, Pass, old_sets, pass_of, turns_start}
 use Rattle.routing_passes.specs.PassTurns.{IsWithinPart}
 use Rattle.even_parts.proofs.PartStarts.{last_start, part_start-le}
-use Rattle.routing_passes.proofs.PartSteps.{count, ready, sets_within}
+use Rattle.routing_passes.proofs.PartSteps.{IsReady, count, ready, sets_within}
 use Rattle.routing_passes.proofs.PassSplits.{turns_start-le}
 use Rattle.routing_passes.proofs.WorkerSteps.{begins_turns, ends_turns, may_repair, reprice_in_part}
 use Rattle.routing_passes.proofs.part.route_part.Goals as goal
+use Rattle.routing_passes.proofs.part.route_part.Goals.{After-read_if}
 
 -- where turns begin, by the list of the positions
 start_of_list : (p : Pass) (worker from : ℕ) (found : List ℕ) → IsPass p → found ≡ p.positions
@@ -54,34 +55,32 @@ loop-turn-init g c =
     ∙ ap (λ k. slice_range (old_sets p) (turns_start p c.args.worker) k) end)
     c.in-Ok.ensures.grid c.in-Ok.ensures.scale c.in-Ok.ensures.budget)
 
-pub offset_bounds-positions-turn : goal.offset_bounds-positions-turn
-offset_bounds-positions-turn g c =
+-- the worker's next turn is due
+due : (g : _) (c : After-read_if g) → IsReady (pass_of c.args.design.now c.args.grounds.now c.args.table.now c.args.earlier.now
+    c.args.before.now c.args.plan.now) c.args.worker c.args.share c.loop-turn.turn c.part_start-from.result
+    (get_or c.as_slice-positions.result.now c.loop-turn.turn 0) c.read_if.new.worker
+due g c =
     let p = pass_of c.args.design.now c.args.grounds.now c.args.table.now c.args.earlier.now c.args.before.now c.args.plan.now in
-    let now = ready p c.args.worker c.args.share c.loop-turn.turn c.part_start-from.result c.part_start-to.result
+    ready p c.args.worker c.args.share c.loop-turn.turn c.part_start-from.result c.part_start-to.result
     c.as_slice-positions.result.now c.loop-turn.pricing c.read_if.new.worker c.requires.pass c.requires.worker c.requires.share
     c.as_slice-positions.ensures.value c.part_start-from.ensures.start c.part_start-to.ensures.start
     (omega (arith, c.loop-turn-test.true, c.loop-turn.auto.turn-end)) c.read_if.ensures.read c.read_if.ensures.same
-    c.read_if.ensures.work c.loop-turn.invariant in
+    c.read_if.ensures.work c.loop-turn.invariant
+
+pub offset_bounds-positions-turn : goal.offset_bounds-positions-turn
+offset_bounds-positions-turn g c =
+    let now = due g (goal.at.offset_bounds-positions-turn g c).After-read_if in
     omega (arith, now.short, c.requires.pass.few)
 
 pub bounds-positions-turn : goal.bounds-positions-turn
 bounds-positions-turn g c =
-    let p = pass_of c.args.design.now c.args.grounds.now c.args.table.now c.args.earlier.now c.args.before.now c.args.plan.now in
-    let now = ready p c.args.worker c.args.share c.loop-turn.turn c.part_start-from.result c.part_start-to.result
-    c.as_slice-positions.result.now c.loop-turn.pricing c.read_if.new.worker c.requires.pass c.requires.worker c.requires.share
-    c.as_slice-positions.ensures.value c.part_start-from.ensures.start c.part_start-to.ensures.start
-    (omega (arith, c.loop-turn-test.true, c.loop-turn.auto.turn-end)) c.read_if.ensures.read c.read_if.ensures.same
-    c.read_if.ensures.work c.loop-turn.invariant in
+    let now = due g (goal.at.bounds-positions-turn g c).After-read_if in
     omega (arith, now.short, ap length c.as_slice-positions.ensures.value)
 
 pub bounds-grounds-net : goal.bounds-grounds-net
 bounds-grounds-net g c =
     let p = pass_of c.args.design.now c.args.grounds.now c.args.table.now c.args.earlier.now c.args.before.now c.args.plan.now in
-    let now = ready p c.args.worker c.args.share c.loop-turn.turn c.part_start-from.result c.part_start-to.result
-    c.as_slice-positions.result.now c.loop-turn.pricing c.read_if.new.worker c.requires.pass c.requires.worker c.requires.share
-    c.as_slice-positions.ensures.value c.part_start-from.ensures.start c.part_start-to.ensures.start
-    (omega (arith, c.loop-turn-test.true, c.loop-turn.auto.turn-end)) c.read_if.ensures.read c.read_if.ensures.same
-    c.read_if.ensures.work c.loop-turn.invariant in
+    let now = due g (goal.at.bounds-grounds-net g c).After-read_if in
     omega (
       arith,
       AllZip-long (λ (m : NetSpec) (found : Ground). IsGround p.design.grid m.terminals found) p.design.nets p.grounds
@@ -92,32 +91,18 @@ bounds-grounds-net g c =
 pub reprice_net-requires-clause-may : goal.reprice_net-requires-clause-may
 reprice_net-requires-clause-may g c =
     let p = pass_of c.args.design.now c.args.grounds.now c.args.table.now c.args.earlier.now c.args.before.now c.args.plan.now in
-    let now = ready p c.args.worker c.args.share c.loop-turn.turn c.part_start-from.result c.part_start-to.result
-    c.as_slice-positions.result.now c.loop-turn.pricing c.read_if.new.worker c.requires.pass c.requires.worker c.requires.share
-    c.as_slice-positions.ensures.value c.part_start-from.ensures.start c.part_start-to.ensures.start
-    (omega (arith, c.loop-turn-test.true, c.loop-turn.auto.turn-end)) c.read_if.ensures.read c.read_if.ensures.same
-    c.read_if.ensures.work c.loop-turn.invariant in
+    let now = due g (goal.at.reprice_net-requires-clause-may g c).After-read_if in
     may_repair p c.args.worker c.args.share c.loop-turn.turn (length p.positions) c.read_if.new.worker c.requires.share now.short
     c.requires.pass.few now.within
 
 pub reprice_net-requires-clause-net : goal.reprice_net-requires-clause-net
 reprice_net-requires-clause-net g c =
-    let p = pass_of c.args.design.now c.args.grounds.now c.args.table.now c.args.earlier.now c.args.before.now c.args.plan.now in
-    let now = ready p c.args.worker c.args.share c.loop-turn.turn c.part_start-from.result c.part_start-to.result
-    c.as_slice-positions.result.now c.loop-turn.pricing c.read_if.new.worker c.requires.pass c.requires.worker c.requires.share
-    c.as_slice-positions.ensures.value c.part_start-from.ensures.start c.part_start-to.ensures.start
-    (omega (arith, c.loop-turn-test.true, c.loop-turn.auto.turn-end)) c.read_if.ensures.read c.read_if.ensures.same
-    c.read_if.ensures.work c.loop-turn.invariant in
+    let now = due g (goal.at.reprice_net-requires-clause-net g c).After-read_if in
     now.inside
 
 pub reprice_net-requires-clause-at : goal.reprice_net-requires-clause-at
 reprice_net-requires-clause-at g c =
-    let p = pass_of c.args.design.now c.args.grounds.now c.args.table.now c.args.earlier.now c.args.before.now c.args.plan.now in
-    let now = ready p c.args.worker c.args.share c.loop-turn.turn c.part_start-from.result c.part_start-to.result
-    c.as_slice-positions.result.now c.loop-turn.pricing c.read_if.new.worker c.requires.pass c.requires.worker c.requires.share
-    c.as_slice-positions.ensures.value c.part_start-from.ensures.start c.part_start-to.ensures.start
-    (omega (arith, c.loop-turn-test.true, c.loop-turn.auto.turn-end)) c.read_if.ensures.read c.read_if.ensures.same
-    c.read_if.ensures.work c.loop-turn.invariant in
+    let now = due g (goal.at.reprice_net-requires-clause-at g c).After-read_if in
     slice_get_within _ (c.loop-turn.turn - c.part_start-from.result) now.before now.own
 
 pub reprice_net-requires-clause-ground : goal.reprice_net-requires-clause-ground
@@ -136,22 +121,13 @@ reprice_net-requires-clause-ground g c = λ m at.
 
 pub reprice_net-requires-clause-had : goal.reprice_net-requires-clause-had
 reprice_net-requires-clause-had g c =
-    let p = pass_of c.args.design.now c.args.grounds.now c.args.table.now c.args.earlier.now c.args.before.now c.args.plan.now in
-    let now = ready p c.args.worker c.args.share c.loop-turn.turn c.part_start-from.result c.part_start-to.result
-    c.as_slice-positions.result.now c.loop-turn.pricing c.read_if.new.worker c.requires.pass c.requires.worker c.requires.share
-    c.as_slice-positions.ensures.value c.part_start-from.ensures.start c.part_start-to.ensures.start
-    (omega (arith, c.loop-turn-test.true, c.loop-turn.auto.turn-end)) c.read_if.ensures.read c.read_if.ensures.same
-    c.read_if.ensures.work c.loop-turn.invariant in
+    let now = due g (goal.at.reprice_net-requires-clause-had g c).After-read_if in
     now.had
 
 pub loop-turn-preserved : goal.loop-turn-preserved
 loop-turn-preserved g c =
     let p = pass_of c.args.design.now c.args.grounds.now c.args.table.now c.args.earlier.now c.args.before.now c.args.plan.now in
-    let now = ready p c.args.worker c.args.share c.loop-turn.turn c.part_start-from.result c.part_start-to.result
-    c.as_slice-positions.result.now c.loop-turn.pricing c.read_if.new.worker c.requires.pass c.requires.worker c.requires.share
-    c.as_slice-positions.ensures.value c.part_start-from.ensures.start c.part_start-to.ensures.start
-    (omega (arith, c.loop-turn-test.true, c.loop-turn.auto.turn-end)) c.read_if.ensures.read c.read_if.ensures.same
-    c.read_if.ensures.work c.loop-turn.invariant in
+    let now = due g (goal.at.loop-turn-preserved g c).After-read_if in
     reprice_in_part p c.args.worker c.args.share c.loop-turn.turn (c.loop-turn.turn - c.part_start-from.result) now.net now.before
     c.read_if.new.worker c.reprice_net.new.self c.requires.pass.some now.place c.requires.share now.of now.within
     (c.in_ok-reprice_net.ensures.repriced now.net now.before now.stands now.own) c.reprice_net.ensures.setting

@@ -5,9 +5,6 @@ use Rattle.std.proofs.lemmas.List.Elements.{All-nil, All-replicate}
 use Rattle.std.proofs.lemmas.List.FromFn.{get_or-range_with_len, length-range_with_len}
 use Rattle.grid_base.specs.declared.piece.Piece.{Piece}
 use Rattle.grid_base.specs.Numbers.{IsPiece}
-use Rattle.atomic_table.specs.Seated.{TableId}
-use Rattle.grid_graph.specs.declared.design.Design.{Design}
-use Rattle.grid_graph.specs.declared.ground.Ground.{Ground}
 use Rattle.grid_graph.specs.Grids.{entries, size_of}
 use Rattle.grid_graph.specs.Grounds.{AreGrounds}
 use Rattle.edge_prices.specs.Limits.{IsBudget}
@@ -18,6 +15,7 @@ use Rattle.routing_passes.specs.Passes.{Pass, pass_of}
 use Rattle.sharing_phases.specs.PhaseWords.{IsPhasePlan, IsRunSoFar, empty_sets}
 use Rattle.sharing_phases.proofs.Phased.{IsPhase, IsRunSoFar-push, routings_are_sets, run_begins, serves_all}
 use Rattle.sharing_phases.proofs.sharing.route_phases.Goals as goal
+use Rattle.sharing_phases.proofs.sharing.route_phases.Goals.{After-as_slice-in-loop}
 
 -- a pass by the plan of a phase, where no net has a set before, is a phase
 begins_phase : (p : Pass) (plan : Plan) → IsPhasePlan (length p.design.nets) plan → p.positions ≡ plan.positions.items
@@ -58,15 +56,31 @@ begins_phase p plan planned positions scale none are words within budget routing
       scale = one;
     }
 
-phase_of_plan : (d : Design) (grounds : List Ground) (table : TableId) (earlier : List (List (List Piece)))
-    (before : List (List Piece)) (plan : Plan)
-    → IsPhasePlan (length d.nets) plan → before ≡ empty_sets (length d.nets)
-    → AreGrounds d.grid d.nets grounds → table.words ≡ entries d.grid
-    → (1 ≤ plan.workers) × (plan.workers ≤ max_workers) → IsBudget plan.budget
-    → All (IsRouting d.grid d.nets) earlier → length earlier < max_phases
-    → IsPhase (pass_of d grounds table earlier before plan)
-phase_of_plan d grounds table earlier before plan planned none are words within budget routings few =
-    begins_phase (pass_of d grounds table earlier before plan) plan planned refl refl none are words within budget routings few
+-- in each round of the loop the pass is a phase
+phase_here : (g : _) (c : After-as_slice-in-loop g) → IsPhase (pass_of c.args.design.now c.args.grounds.now
+    c.args.table.now c.as_slice.result.now c.as_slice-in-loop.result.now c.args.plan.now)
+phase_here g c =
+    let d = c.args.design.now in
+    begins_phase (pass_of d c.args.grounds.now c.args.table.now c.as_slice.result.now c.as_slice-in-loop.result.now c.args.plan.now)
+    c.args.plan.now c.requires.plan refl refl
+    (c.as_slice-in-loop.ensures.value ∙ c.in_ok-none.ensures.sets ∙ ap (λ ns. empty_sets (length ns)) c.list.ensures.items)
+    c.requires.grounds c.requires.words c.requires.workers c.requires.budget
+    (subst (All (IsRouting d.grid d.nets)) (sym c.as_slice.ensures.value) c.loop.invariant.run.routings)
+    (omega (
+      arith,
+      c.loop.invariant.count,
+      ap length c.as_slice.ensures.value,
+      c.loop-test.true,
+      c.loop.auto.counter-end,
+      c.requires.count,
+    ))
+
+-- behind the run of the phases so far
+run_here : (g : _) (c : After-as_slice-in-loop g) → IsRunSoFar c.args.design.now c.args.plan.now.workers
+    c.args.plan.now.budget c.args.table.now c.loop.share c.as_slice.result.now
+run_here g c =
+    subst (IsRunSoFar c.args.design.now c.args.plan.now.workers c.args.plan.now.budget c.args.table.now c.loop.share)
+    (sym c.as_slice.ensures.value) c.loop.invariant.run
 
 pub loop-init : goal.loop-init
 loop-init g c =
@@ -77,41 +91,12 @@ loop-init g c =
     })
 
 pub route_parts-requires-clause-pass : goal.route_parts-requires-clause-pass
-route_parts-requires-clause-pass g c κs within =
-    let d = c.args.design.now in
-    let phase = phase_of_plan d c.args.grounds.now c.args.table.now c.as_slice.result.now c.as_slice-in-loop.result.now c.args.plan.now
-    c.requires.plan (c.as_slice-in-loop.ensures.value ∙ c.in_ok-none.ensures.sets ∙ ap (λ ns. empty_sets (length ns)) c.list.ensures.items)
-    c.requires.grounds c.requires.words c.requires.workers c.requires.budget
-    (subst (All (IsRouting d.grid d.nets)) (sym c.as_slice.ensures.value) c.loop.invariant.run.routings)
-    (omega (
-      arith,
-      c.loop.invariant.count,
-      ap length c.as_slice.ensures.value,
-      c.loop-test.true,
-      c.loop.auto.counter-end,
-      c.requires.count,
-    )) in
-    phase.pass
+route_parts-requires-clause-pass g c κs within = (phase_here g c).pass
 
 pub route_parts-requires-clause-share : goal.route_parts-requires-clause-share
 route_parts-requires-clause-share g c κs within =
-    let d = c.args.design.now in
-    let plan = c.args.plan.now in
-    let phase = phase_of_plan d c.args.grounds.now c.args.table.now c.as_slice.result.now c.as_slice-in-loop.result.now c.args.plan.now
-    c.requires.plan (c.as_slice-in-loop.ensures.value ∙ c.in_ok-none.ensures.sets ∙ ap (λ ns. empty_sets (length ns)) c.list.ensures.items)
-    c.requires.grounds c.requires.words c.requires.workers c.requires.budget
-    (subst (All (IsRouting d.grid d.nets)) (sym c.as_slice.ensures.value) c.loop.invariant.run.routings)
-    (omega (
-      arith,
-      c.loop.invariant.count,
-      ap length c.as_slice.ensures.value,
-      c.loop-test.true,
-      c.loop.auto.counter-end,
-      c.requires.count,
-    )) in
-    serves_all (pass_of d c.args.grounds.now c.args.table.now c.as_slice.result.now c.as_slice-in-loop.result.now plan) c.loop.share
-    phase (subst (IsRunSoFar d plan.workers plan.budget c.args.table.now c.loop.share) (sym c.as_slice.ensures.value)
-    c.loop.invariant.run)
+    serves_all (pass_of c.args.design.now c.args.grounds.now c.args.table.now c.as_slice.result.now
+    c.as_slice-in-loop.result.now c.args.plan.now) c.loop.share (phase_here g c) (run_here g c)
 
 pub loop-preserved : goal.loop-preserved
 loop-preserved g c =
@@ -119,24 +104,11 @@ loop-preserved g c =
     let plan = c.args.plan.now in
     let table = c.args.table.now in
     let sets = c.in_ok-next.sets.items in
-    let phase = phase_of_plan d c.args.grounds.now c.args.table.now c.as_slice.result.now c.as_slice-in-loop.result.now c.args.plan.now
-    c.requires.plan (c.as_slice-in-loop.ensures.value ∙ c.in_ok-none.ensures.sets ∙ ap (λ ns. empty_sets (length ns)) c.list.ensures.items)
-    c.requires.grounds c.requires.words c.requires.workers c.requires.budget
-    (subst (All (IsRouting d.grid d.nets)) (sym c.as_slice.ensures.value) c.loop.invariant.run.routings)
-    (omega (
-      arith,
-      c.loop.invariant.count,
-      ap length c.as_slice.ensures.value,
-      c.loop-test.true,
-      c.loop.auto.counter-end,
-      c.requires.count,
-    )) in
     rw (c.in_ok-push.ensures.items, c.of.ensures) (record {
       run = subst (λ (phases : List (List (List Piece))). IsRunSoFar d plan.workers plan.budget table c.in_ok-next.next
           (phases ++ sets ∷ [])) c.as_slice.ensures.value
-          (IsRunSoFar-push (pass_of d c.args.grounds.now table c.as_slice.result.now c.as_slice-in-loop.result.now plan) sets c.loop.share
-          c.in_ok-next.next phase
-          (subst (IsRunSoFar d plan.workers plan.budget table c.loop.share) (sym c.as_slice.ensures.value) c.loop.invariant.run)
-          c.in_ok-next.ensures.turns);
+          (IsRunSoFar-push (pass_of d c.args.grounds.now table c.as_slice.result.now c.as_slice-in-loop.result.now plan) sets
+          c.loop.share c.in_ok-next.next (phase_here g (goal.at.loop-preserved g c).After-as_slice-in-loop)
+          (run_here g (goal.at.loop-preserved g c).After-as_slice-in-loop) c.in_ok-next.ensures.turns);
       count = length-append c.loop.phases.items (sets ∷ []) ∙ omega (arith, c.loop.invariant.count);
     })

@@ -1,4 +1,4 @@
-use Rattle.std.proofs.Common.{◌≡◌, ◌<◌, ℕ, List, length, get_or, ◌∷◌, ◌++◌, [], refl, sym, ◌∙◌, ap, subst, arith}
+use Rattle.std.proofs.Common.{◌≡◌, ℕ, List, length, get_or, ◌∷◌, ◌++◌, [], refl, sym, ◌∙◌, ap, subst}
 use Rattle.std.proofs.lemmas.List.{get_or_push}
 use Rattle.std.proofs.lemmas.Option.{same_Some}
 use Rattle.grid_base.specs.declared.piece.Piece.{Piece}
@@ -13,40 +13,44 @@ use Rattle.steiner_exact.specs.TreeLabelWords.{AreTreeLabels}
 use Rattle.tree_set.specs.Routings.{ArePieces}
 use Rattle.price_workers.specs.Readings.{AreCloseTo}
 use Rattle.price_workers.proofs.LightSteps.{step_moved}
-use Rattle.price_workers.proofs.TurnFacts.{gains_moved, read_at, step_pieces, working_put}
+use Rattle.price_workers.proofs.TurnFacts.{At-read, gains_moved, step_pieces, working_put}
 use Rattle.price_workers.proofs.worker.Worker.price_net.Goals as goal
+use Rattle.price_workers.proofs.worker.Worker.price_net.Goals.{After-index, After-index-list-net}
 
 -- what was pushed is read at the length before
 read_pushed : (old all : List (List Piece)) (tree found : List Piece) → all ≡ old ++ tree ∷ [] → found ≡ get_or all (length old) found → found ≡ tree
 read_pushed old all tree found items is =
     is ∙ ap (λ (l : List (List Piece)). get_or l (length old) found) items ∙ get_or_push old tree found (length old) refl
 
+-- the net stands in the design
+here : (c : After-index-list-net) → At c.args.design.now.nets c.args.net c.index-list-net.result
+here c =
+    At-read c.args.design.now.nets c.args.net c.index-list-net.result
+    (c.index-list-net.is ∙ ap (λ (l : List NetSpec). get_or l c.args.net c.index-list-net.result) c.list.ensures.items) c.requires.net
+
+-- the set that is read is the one that was pushed
+pushed : (c : After-index) → c.index.result.now ≡ c.in_ok-tree.tree
+pushed c =
+    let w = c.args.self.now in
+    let tree : List Piece = c.in_ok-tree.tree in
+    read_pushed w.trees.items c.push.new.self.items tree c.index.result.now c.in_ok-push.ensures.items
+    (c.index.ensures ∙ ap (λ (k : ℕ). get_or c.push.new.self.items k c.index.result.now) (c.len-at.ensures ∙ w.trees.ok.0))
+
 pub route_net-requires-clause-ground : goal.route_net-requires-clause-ground
 route_net-requires-clause-ground c =
-    let d = c.args.design.now in
-    let spec = c.index-list-net.result in
-    let within : c.args.net < length c.list.result.now = omega (arith, c.requires.net, ap (λ (l : List NetSpec). length l) c.list.ensures.items) in
-    let at : At d.nets c.args.net spec = subst (λ (n : NetSpec). At d.nets c.args.net n) (sym c.index-list-net.is) (read_at d.nets c.list.result.now c.args.net spec c.list.ensures.items within) in
-    subst (λ (x : Grid). IsGround x spec.terminals c.args.over) (sym c.requires.works.on_grid) (c.requires.ground spec at)
+    subst (λ (x : Grid). IsGround x c.index-list-net.result.terminals c.args.over) (sym c.requires.works.on_grid) (c.requires.ground c.index-list-net.result (here (goal.at.route_net-requires-clause-ground c).After-index-list-net))
 
 pub put_tree-requires-clause-width : goal.put_tree-requires-clause-width
-put_tree-requires-clause-width c =
-    let d = c.args.design.now in
-    let spec = c.index-list-net.result in
-    let within : c.args.net < length c.list.result.now = omega (arith, c.requires.net, ap (λ (l : List NetSpec). length l) c.list.ensures.items) in
-    let at : At d.nets c.args.net spec = subst (λ (n : NetSpec). At d.nets c.args.net n) (sym c.index-list-net.is) (read_at d.nets c.list.result.now c.args.net spec c.list.ensures.items within) in
-    (d.limits.net c.args.net spec at).width
+put_tree-requires-clause-width c = (c.args.design.now.limits.net c.args.net c.index-list-net.result (here (goal.at.put_tree-requires-clause-width c).After-index-list-net)).width
 
 pub put_tree-requires-clause-pieces : goal.put_tree-requires-clause-pieces
 put_tree-requires-clause-pieces c =
     let d = c.args.design.now in
     let kept = c.args.self.now.kept in
     let tree : List Piece = c.in_ok-tree.tree in
-    let is : c.index.result.now ≡ tree = read_pushed c.args.self.now.trees.items c.push.new.self.items tree c.index.result.now c.in_ok-push.ensures.items
-    (c.index.ensures ∙ ap (λ (k : ℕ). get_or c.push.new.self.items k c.index.result.now) (c.len-at.ensures ∙ c.args.self.now.trees.ok.0)) in
     let pieces : ArePieces (size_of d.grid) tree = subst (λ (x : Grid). ArePieces (size_of x) tree) c.requires.works.on_grid
     (step_pieces (grid_of kept) c.index-list-net.result (price_vector (grid_of kept) (loads_of kept) (scale_of kept) (budget_of kept)) tree c.in_ok-tree.ensures.step) in
-    subst (λ (ps : List Piece). ArePieces (size_of d.grid) ps) (sym is) pieces
+    subst (λ (ps : List Piece). ArePieces (size_of d.grid) ps) (sym (pushed c)) pieces
 
 pub invariant_of-self-2 : goal.invariant_of-self-2
 invariant_of-self-2 c =
@@ -68,18 +72,14 @@ returns-clause-priced c n at =
     let w = c.args.self.now in
     let tree : List Piece = c.in_ok-tree.tree in
     let spec = c.index-list-net.result in
-    let within : c.args.net < length c.list.result.now = omega (arith, c.requires.net, ap (λ (l : List NetSpec). length l) c.list.ensures.items) in
-    let here : At d.nets c.args.net spec = subst (λ (m : NetSpec). At d.nets c.args.net m) (sym c.index-list-net.is) (read_at d.nets c.list.result.now c.args.net spec c.list.ensures.items within) in
-    let same : n ≡ spec = same_Some n spec (sym at ∙ here) in
-    let is : c.index.result.now ≡ tree = read_pushed w.trees.items c.push.new.self.items tree c.index.result.now c.in_ok-push.ensures.items
-    (c.index.ensures ∙ ap (λ (k : ℕ). get_or c.push.new.self.items k c.index.result.now) (c.len-at.ensures ∙ c.args.self.now.trees.ok.0)) in
+    let same : n ≡ spec = same_Some n spec (sym at ∙ here (goal.at.returns-clause-priced c).After-index-list-net) in
     let shares = w.share.party.shares in
     rw same (record {
       tree = tree;
       step = step_moved (grid_of w.kept) d.grid spec (loads_of w.kept) (loads_of w.kept) (scale_of w.kept) (scale_of w.kept) (budget_of w.kept) (budget_of w.kept) tree
           c.requires.works.on_grid refl refl refl c.in_ok-tree.ensures.step;
       trees = c.in_ok-push.ensures.items;
-      seen = gains_moved d.grid spec.width c.index.result.now tree (loads_of c.route_net.new.kept) (loads_of w.kept) (loads_of c.put_tree.new.kept) is c.in_ok-tree.ensures.loads c.put_tree.ensures.seen;
-      share = gains_moved d.grid spec.width c.index.result.now tree shares shares c.put_tree.new.share.party.shares is refl c.put_tree.ensures.share;
+      seen = gains_moved d.grid spec.width c.index.result.now tree (loads_of c.route_net.new.kept) (loads_of w.kept) (loads_of c.put_tree.new.kept) (pushed (goal.at.returns-clause-priced c).After-index) c.in_ok-tree.ensures.loads c.put_tree.ensures.seen;
+      share = gains_moved d.grid spec.width c.index.result.now tree shares shares c.put_tree.new.share.party.shares (pushed (goal.at.returns-clause-priced c).After-index) refl c.put_tree.ensures.share;
       counted = record { since = refl; refreshed = c.requires.may.refreshed; party = c.put_tree.ensures.party };
     })
