@@ -26,7 +26,6 @@ mod columns;
 mod counted;
 mod counting;
 mod direction;
-mod groups;
 mod joining;
 mod kinds;
 mod line_counts;
