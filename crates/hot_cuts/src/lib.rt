@@ -12,8 +12,8 @@
 //! Where all but some tile edges cost nothing, tiles that the others join are one node, and what is left is a graph of few
 //! nodes. On it, nets and prices answer each other for some rounds.
 //!
-//! It stands on `edge_prices`, `grid_graph` and `grid_base`. Want of memory alone is a free answer. Promised: both lists are
-//! price lists of the edges. How much they prove no clause says.
+//! It stands on `groups`, `edge_prices`, `grid_graph` and `grid_base`. Want of memory alone is a free answer. Promised: both
+//! lists are price lists of the edges. How much they prove no clause says.
 
 #![tactic(auto)]
 

@@ -1,57 +1,31 @@
 //! Regions of tiles.
 
-ghost use Rattle.std.specs.Prelude.{◌<◌, IfSome};
-
 use crate::tile_use::TileUse;
 use grid_base::{Axis, Edge, NoMemory, Size};
+use groups::Groups;
 use std::alloc::Global;
 
-/// Tiles in regions: each points to a lower one of its region, and the lowest to itself.
+/// Tiles in regions.
 #[derive(Drop)]
 pub(crate) struct Regions {
-    pointers: Vec<u32>,
+    groups: Groups,
 }
 
 impl Regions {
-    /// Each tile is a region of its own.
-    fn new(alloc: Global, tiles: u32) -> Result<Regions, NoMemory> {
-        let mut pointers = Vec::new(alloc);
-        for tile in 0..tiles {
-            pointers.push(tile)?;
-        }
-        Ok(Regions { pointers })
-    }
-
-    /// The tile that stands for a region: that of one of its tiles. Each tile on the way then points further.
+    /// The tile that stands for a region: that of one of its tiles, which is its lowest.
     pub fn find(&mut self, tile: u32) -> u32 {
-        let mut here = tile;
-        while let Some(next) = self.next(here) {
-            let further = self.next(next).unwrap_or(next);
-            self.point(here, further);
-            here = further;
+        if (tile as usize) < self.groups.parents.len() {
+            self.groups.root(tile as usize) as u32
+        } else {
+            tile
         }
-        here
     }
 
     /// Makes one region of those of two tiles.
     fn join(&mut self, one: u32, other: u32) {
-        let one = self.find(one);
-        let other = self.find(other);
-        self.point(one.max(other), one.min(other));
-    }
-
-    /// The lower tile that a tile points to.
-    fn next(&self, tile: u32) -> Option<u32>
-        ensures { IfSome result (λ next. next < tile) }
-    {
-        let next = self.pointers.get(tile as usize).copied()?;
-        if next < tile { Some(next) } else { None }
-    }
-
-    /// Lets a tile point to another one.
-    fn point(&mut self, from: u32, to: u32) {
-        if let Some(pointer) = self.pointers.get_mut(from as usize) {
-            *pointer = to;
+        let tiles = self.groups.parents.len();
+        if (one as usize) < tiles && (other as usize) < tiles {
+            self.groups.unite(one as usize, other as usize);
         }
     }
 }
@@ -63,7 +37,8 @@ pub(crate) fn regions_of(
     uses: &[TileUse],
     count: usize,
 ) -> Result<Regions, NoMemory> {
-    let mut regions = Regions::new(alloc, size.cols() * size.rows())?;
+    let groups = Groups::single(alloc, (size.cols() * size.rows()) as usize)?;
+    let mut regions = Regions { groups };
     for cold in uses.iter().skip(count) {
         let (start, end) = ends_of(size, cold.tile_edge);
         regions.join(start, end);

@@ -89,58 +89,58 @@ module _ (x : ClassCosts) (now : IsCurrentClass x) (terminals : List Vertex)
   their_tiles = tiles_vertices x.costs.size (size_of x.grid.now) terminals (same_tiles x.costs.size (size_of x.grid.now) now.costs.flat_of)
 
   freely : AreJoinedFreely x.costs.size (costs_between x.costs.costs.items) (InVertices (tiles_of (size_of x.grid.now) terminals))
-      (InVertices (represented x.representatives.of.items (tiles_of (size_of x.grid.now) terminals)))
-  freely = represented_freely x.costs.size (costs_between x.costs.costs.items) x.representatives.of.items
+      (InVertices (represented x.representatives.of.parents.items (tiles_of (size_of x.grid.now) terminals)))
+  freely = represented_freely x.costs.size (costs_between x.costs.costs.items) x.representatives.of.parents.items
       (tiles_of (size_of x.grid.now) terminals) now.representatives their_tiles
 
   stand_joined : Joins (size_of x.grid.now) (IsAllowed (class_pieces x)) (InVertices terminals)
       → Joins x.costs.size (IsAllowed (costs_between x.costs.costs.items))
-      (InVertices (represented x.representatives.of.items (tiles_of (size_of x.grid.now) terminals)))
+      (InVertices (represented x.representatives.of.parents.items (tiles_of (size_of x.grid.now) terminals)))
   stand_joined joins =
       let s = size_of x.grid.now in
       let across = costs_between x.costs.costs.items in
       let tiles = tiles_of s terminals in
-      joined_freely x.costs.size across (InVertices tiles) (InVertices (represented x.representatives.of.items tiles)) freely
+      joined_freely x.costs.size across (InVertices tiles) (InVertices (represented x.representatives.of.parents.items tiles)) freely
       (tiles_joined x.costs.size s (class_pieces x) across (InVertices terminals) (InVertices tiles)
       (same_tiles x.costs.size s now.costs.flat_of) now.costs.between (tiles_of_vertices s terminals vertices) joins)
 
   few_by_class : (found : List Vertex) (least : ℕ)
-      → ((v : ℕ) → InVertices found v ↔ InVertices (represented x.representatives.of.items (tiles_of (size_of x.grid.now) terminals)) v)
+      → ((v : ℕ) → InVertices found v ↔ InVertices (represented x.representatives.of.parents.items (tiles_of (size_of x.grid.now) terminals)) v)
       → IsLeastWeight x.costs.size (costs_between x.costs.costs.items) (InVertices found) least
       → IsLeastWeight (size_of x.grid.now) (class_pieces x) (InVertices terminals) least
   few_by_class found least same lightest =
       let s = size_of x.grid.now in
       let across = costs_between x.costs.costs.items in
-      let stand = InVertices (represented x.representatives.of.items (tiles_of s terminals)) in
+      let stand = InVertices (represented x.representatives.of.parents.items (tiles_of s terminals)) in
       let on_read = least_alike x.costs.size across stand (InVertices found) least (λ v. ((same v).1, (same v).0)) lightest in
       least_of_tiles x.costs.size s (class_pieces x) across terminals least (same_tiles x.costs.size s now.costs.flat_of)
       now.costs.listed.inside (vias_free x.grid.now x.width x.ground x.prices.now) now.costs.between vertices
       (least_freely x.costs.size across (InVertices (tiles_of s terminals)) stand least freely on_read)
 
-  stand_long : length (represented x.representatives.of.items (tiles_of (size_of x.grid.now) terminals)) ≡ length terminals
+  stand_long : length (represented x.representatives.of.parents.items (tiles_of (size_of x.grid.now) terminals)) ≡ length terminals
   stand_long =
-      length-map (tiles_of (size_of x.grid.now) terminals) (λ (v : Vertex). record { 0 = slice_index x.representatives.of.items v.0 })
+      length-map (tiles_of (size_of x.grid.now) terminals) (λ (v : Vertex). record { 0 = slice_index x.representatives.of.parents.items v.0 })
       ∙ tiles_long (size_of x.grid.now) terminals
 
   stand_sum : (total : ℕ)
       → IsSumOfHalves x.costs.size (costs_between x.costs.costs.items)
-      (represented x.representatives.of.items (tiles_of (size_of x.grid.now) terminals))
-      (length (represented x.representatives.of.items (tiles_of (size_of x.grid.now) terminals))) total
+      (represented x.representatives.of.parents.items (tiles_of (size_of x.grid.now) terminals))
+      (length (represented x.representatives.of.parents.items (tiles_of (size_of x.grid.now) terminals))) total
       → IsSumOfHalves (size_of x.grid.now) (class_pieces x) terminals (length terminals) total
   stand_sum total sums =
       let s = size_of x.grid.now in
       let across = costs_between x.costs.costs.items in
-      let of = x.representatives.of.items in
+      let of = x.representatives.of.parents.items in
       let tiles = tiles_of s terminals in
       sum_by_tiles x.costs.size s (class_pieces x) across terminals (length terminals) total (same_tiles x.costs.size s now.costs.flat_of)
       now.costs.listed.inside (vias_free x.grid.now x.width x.ground x.prices.now) now.costs.between vertices
       (sum_freely x.costs.size across of tiles (length terminals) total now.representatives their_tiles
       (subst (λ n. IsSumOfHalves x.costs.size across (represented of tiles) n total) stand_long sums))
 
-  pub stand_for : (read tiles : List Vertex) → read ≡ represented x.representatives.of.items (tiles_of (size_of x.grid.now) terminals)
+  pub stand_for : (read tiles : List Vertex) → read ≡ represented x.representatives.of.parents.items (tiles_of (size_of x.grid.now) terminals)
       → tiles ≡ read → StandFor x terminals tiles
   stand_for read tiles is same = subst (StandFor x terminals) (sym (same ∙ is)) (record {
-    vertices = represented_vertices x.costs.size (costs_between x.costs.costs.items) x.representatives.of.items
+    vertices = represented_vertices x.costs.size (costs_between x.costs.costs.items) x.representatives.of.parents.items
         (tiles_of (size_of x.grid.now) terminals) now.representatives their_tiles;
     long = stand_long;
     joined = stand_joined;
@@ -148,7 +148,7 @@ module _ (x : ClassCosts) (now : IsCurrentClass x) (terminals : List Vertex)
   })
 
   pub stand_once : (read found tiles : List Vertex)
-      → read ≡ represented x.representatives.of.items (tiles_of (size_of x.grid.now) terminals)
+      → read ≡ represented x.representatives.of.parents.items (tiles_of (size_of x.grid.now) terminals)
       → ((v : ℕ) → InVertices found v ↔ InVertices read v) → length found ≤ length read → tiles ≡ found → StandOnce x terminals tiles
   stand_once read found tiles is alike fewer same =
       let all = stand_for read read is refl in

@@ -1,13 +1,13 @@
 -- Vertices that stand for others.
-use Rattle.std.proofs.Common.{◌≡◌, ◌⊎◌, ℕ, ◌<◌, ◌≤◌, List, length, set, slice_index, sym, subst, ◌∙◌, ⊎_elim, arith, length-set, get_or-set_other}
-use Rattle.std.proofs.lemmas.Bool.{cases_eq}
-use Rattle.std.proofs.lemmas.Grind.{get_or-set_at}
+use Rattle.std.proofs.Common.{◌≡◌, ℕ, ◌<◌, List, length, slice_index, sym, subst, ◌∙◌, ⊎_elim, arith}
 use Rattle.grid_base.specs.declared.piece.Piece.{Piece}
 use Rattle.grid_base.specs.declared.size.Size.{Size}
 use Rattle.grid_base.specs.Numbers.{vertices}
 use Rattle.grid_base.specs.Walks.{WalkBetween}
 use Rattle.grid_base.proofs.Walks.{WalkBetween-refl, WalkBetween-sym, WalkBetween-trans}
-use Rattle.lower_bound.specs.Representatives.{IsFree, AreNoGreater, AreRepresentatives}
+use Rattle.groups.specs.Joined.{AreJoinedBy, IsParent, IsParentOr}
+use Rattle.groups.proofs.Parents.{joined-all}
+use Rattle.lower_bound.specs.Representatives.{IsFree, AreRepresentatives}
 
 -- each vertex stands for itself
 pub own_representatives : (s : Size) (pieces : List (Piece × ℕ)) (of : List ℕ) → length of ≡ vertices s → ((v : ℕ) → v < length of → slice_index of v ≡ v) → AreRepresentatives s pieces of
@@ -16,35 +16,23 @@ own_representatives s pieces of long own = record {
   leads = λ v vertex. subst (WalkBetween s (IsFree pieces) v) (sym (own v (omega (arith, vertex, long)))) (WalkBetween-refl s (IsFree pieces) v vertex);
 }
 
--- another one stands for a vertex
-pub no_greater-set : (of : List ℕ) (v n : ℕ) → AreNoGreater of → v < length of → n ≤ v → AreNoGreater (set of v n)
-no_greater-set of v n are inside low = record {
-  below = λ u at. ⊎_elim
-      (λ here. omega (arith, get_or-set_at of v u n 0 here inside, here, low))
-      (λ other. omega (arith, get_or-set_other of v u n 0 other, are.below u (omega (arith, at, length-set of v n))))
-      (cases_eq u v);
-}
+module _ (s : Size) (pieces : List (Piece × ℕ)) where
+  -- a walk without weight leads between two vertices
+  abbrev pub Free : ℕ → ℕ → Type 0
+  Free = WalkBetween s (IsFree pieces)
 
-pub representatives-set : (s : Size) (pieces : List (Piece × ℕ)) (of : List ℕ) (v n : ℕ) → AreRepresentatives s pieces of → v < length of → WalkBetween s (IsFree pieces) v n → AreRepresentatives s pieces (set of v n)
-representatives-set s pieces of v n are inside walk = record {
-  long = length-set of v n ∙ are.long;
-  leads = λ u vertex. ⊎_elim
-      (λ here. subst (WalkBetween s (IsFree pieces) u) (sym (get_or-set_at of v u n 0 here inside)) (subst (λ w. WalkBetween s (IsFree pieces) w n) (sym here) walk))
-      (λ other. subst (WalkBetween s (IsFree pieces) u) (sym (get_or-set_other of v u n 0 other)) (are.leads u vertex))
-      (cases_eq u v);
-}
+  -- what is joined by links that have such walks stands for itself again
+  pub joined_freely : (Link : ℕ → ℕ → Type 0) (old new : List ℕ) → AreRepresentatives s pieces old → length new ≡ length old
+      → ((i j : ℕ) → Link i j → Free i j) → AreJoinedBy Link new → AreRepresentatives s pieces new
+  joined_freely Link old new are long each joined = record {
+    long = long ∙ are.long;
+    leads = λ v vertex. joined-all Free Link (WalkBetween-sym s (IsFree pieces)) (WalkBetween-trans s (IsFree pieces)) each v (slice_index new v)
+        (joined v (omega (arith, vertex, long, are.long)));
+  }
 
--- on to the vertex that stands for the one that stands for a vertex
-pub leads_on : (s : Size) (pieces : List (Piece × ℕ)) (of : List ℕ) (from v : ℕ) → AreRepresentatives s pieces of → v < length of → WalkBetween s (IsFree pieces) from v → WalkBetween s (IsFree pieces) from (slice_index of v)
-leads_on s pieces of from v are inside walk = WalkBetween-trans s (IsFree pieces) from v (slice_index of v) walk (are.leads v (omega (arith, inside, are.long)))
+  pub free_up : (old : List ℕ) → AreRepresentatives s pieces old → (i j : ℕ) → IsParent old i j → Free i j
+  free_up old are i j is = subst (Free i) is.1 (are.leads i (omega (arith, is.0, are.long)))
 
--- the greater of two that stand for others now stands with the less
-pub joined_representatives : (s : Size) (pieces : List (Piece × ℕ)) (of : List ℕ) (one other a b high low : ℕ) → AreRepresentatives s pieces of → WalkBetween s (IsFree pieces) one other → WalkBetween s (IsFree pieces) one a → WalkBetween s (IsFree pieces) other b
-    → high < length of → ((high ≡ a) × (low ≡ b)) ⊎ ((high ≡ b) × (low ≡ a)) → AreRepresentatives s pieces (set of high low)
-joined_representatives s pieces of one other a b high low are walk first second inside ends =
-    let F = IsFree pieces in
-    let between : WalkBetween s F a b = WalkBetween-trans s F a one b (WalkBetween-sym s F one a first) (WalkBetween-trans s F one other b walk second) in
-    representatives-set s pieces of high low are inside (⊎_elim
-    (λ is. subst (λ v. WalkBetween s F v low) (sym is.0) (subst (WalkBetween s F a) (sym is.1) between))
-    (λ is. subst (λ v. WalkBetween s F v low) (sym is.0) (subst (WalkBetween s F b) (sym is.1) (WalkBetween-sym s F a b between)))
-    ends)
+  pub free_up_or : (old : List ℕ) (one other : ℕ) → AreRepresentatives s pieces old → Free one other → (i j : ℕ) → IsParentOr old one other i j → Free i j
+  free_up_or old one other are walk i j is = ⊎_elim (free_up old are i j)
+      (λ (here : (i ≡ one) × (j ≡ other)). subst (λ n. Free n j) (sym here.0) (subst (Free one) (sym here.1) walk)) is

@@ -32,7 +32,7 @@ tiles_size c = c.costs.size
 -- to be of
 pub record IsCurrentClass (c : ClassCosts) : Type 0 where
   pub costs : AreClassCosts c.grid.now c.width c.ground c.prices.now (tiles_size c) (costs_between c.costs.costs.items)
-  pub representatives : AreRepresentatives (tiles_size c) (costs_between c.costs.costs.items) c.representatives.of.items
+  pub representatives : AreRepresentatives (tiles_size c) (costs_between c.costs.costs.items) c.representatives.of.parents.items
   pub kept : AreKeptCosts (tiles_size c) (costs_between c.costs.costs.items) c.kept.entries.items
 
 -- nothing but what is kept changed

@@ -11,10 +11,6 @@ use Rattle.grid_graph.specs.Weighed.{Weighs}
 abbrev pub IsFree : List (Piece × ℕ) → Piece → Type 0
 IsFree pieces p = Weighs pieces p 0
 
--- each vertex has one that stands for it, and its number is no greater
-pub record AreNoGreater (representatives : List ℕ) : Type 0 where
-  pub below : (v : ℕ) → v < length representatives → slice_index representatives v ≤ v
-
 -- a walk of pieces that weigh nothing leads from each vertex to the one that stands for it
 pub record AreRepresentatives (s : Size) (pieces : List (Piece × ℕ)) (representatives : List ℕ) : Type 0 where
   pub long : length representatives ≡ vertices s

@@ -139,7 +139,7 @@ impl ClassCosts<'_> {
         requires current { IsCurrentClass self.now }
         requires vertices { All (λ v. IsVertex (size_of self.now.grid.now) v.0) terminals.now }
         ensures { IfOk result (λ tiles. tiles.items
-            ≡ words.represented self.now.representatives.of.items
+            ≡ words.represented self.now.representatives.of.parents.items
             (tile_pieces.tiles_of (size_of self.now.grid.now) terminals.now)) }
     {
         let size = self.grid.size();

@@ -19,7 +19,7 @@
 //! list that is 0 nearly everywhere took no longer than another where it was measured. Of time no clause speaks.
 //!
 //! It stands on `shortest_paths` for searches, on `steiner_exact` for tables under bounds, on `edge_prices` for costs, and on
-//! `grid_graph` and `grid_base`. Tables and moats that others bring are tested by `brought_bounds`.
+//! `groups`, `grid_graph` and `grid_base`. Tables and moats that others bring are tested by `brought_bounds`.
 //!
 //! Promised: the net bound is exactly that of its definition, which ranges over all subsets of the net's ground, and no subset
 //! that joins the terminals costs less. Want of memory alone is a free answer.

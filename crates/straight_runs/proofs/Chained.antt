@@ -1,13 +1,14 @@
 -- Walks along runs, and through groups of them.
-use Rattle.std.proofs.Common.{◌≡◌, ◌≢◌, ℕ, ◌+◌, ◌*◌, ◌<◌, ◌≤◌, min, max, All, List, Contains, length, get_or, slice_index, slice_set, refl, sym, ◌∙◌, subst, inl, ⊎_elim, arith}
-use Rattle.std.proofs.lemmas.Bool.{cases_eq, cases_lt}
-use Rattle.std.proofs.lemmas.List.{get_or_default, get_or-set_same, get_or-set_other, length-set}
+use Rattle.std.proofs.Common.{◌≡◌, ℕ, ◌+◌, ◌*◌, ◌<◌, ◌≤◌, All, List, Contains, length, get_or, slice_index, refl, sym, ◌∙◌, subst, inl, ⊎_elim, arith}
+use Rattle.std.proofs.lemmas.List.{get_or_default}
 use Rattle.grid_base.specs.declared.piece.Piece.{Piece}
 use Rattle.grid_base.specs.declared.size.Size.{Size}
 use Rattle.grid_base.specs.Numbers.{IsVertex}
 use Rattle.grid_base.specs.Walks.{InPieces, WalkBetween}
 use Rattle.grid_base.proofs.Runs.{WalkBetween-run}
-use Rattle.grid_base.proofs.Walks.{WalkBetween-piece, WalkBetween-refl, WalkBetween-sym, WalkBetween-trans, walk_vertices}
+use Rattle.grid_base.proofs.Walks.{WalkBetween-piece, WalkBetween-refl, WalkBetween-sym, WalkBetween-trans}
+use Rattle.groups.specs.Joined.{AreJoined, IsParent, IsParentOr}
+use Rattle.groups.proofs.Parents.{joined-all}
 use Rattle.straight_runs.specs.declared.run.Run.{Run}
 use Rattle.straight_runs.specs.Lines.{rise}
 use Rattle.straight_runs.specs.Runs.{IsStraightRun, pieces_of, run_piece}
@@ -56,39 +57,19 @@ walk_alone s runs i all within = WalkBetween-refl s (InPieces (pieces_of s runs)
 abbrev pub Chain : Size → List Piece → (ℕ → ℕ) → List ℕ → Type 0
 Chain s pieces at parents = (i : ℕ) → i < length parents → WalkBetween s (InPieces pieces) (at i) (at (slice_index parents i))
 
-pub stays_at : (s : Size) (pieces : List Piece) (at : ℕ → ℕ) (parents : List ℕ) (i : ℕ) → i < length parents → Chain s pieces at parents → WalkBetween s (InPieces pieces) (at i) (at i)
-stays_at s pieces at parents i within chain =
-    WalkBetween-refl s (InPieces pieces) (at i) (walk_vertices s (InPieces pieces) (at i) (at (slice_index parents i)) (chain i within)).0
+module _ (s : Size) (pieces : List Piece) (at : ℕ → ℕ) where
+  -- walks lead between the vertices of two numbers
+  abbrev pub Between : ℕ → ℕ → Type 0
+  Between i j = WalkBetween s (InPieces pieces) (at i) (at j)
 
--- the parent of the parent
-pub two_up : (s : Size) (pieces : List Piece) (at : ℕ → ℕ) (parents : List ℕ) (i far : ℕ) → i < length parents → slice_index parents i < length parents → far ≡ slice_index parents (slice_index parents i) → Chain s pieces at parents → WalkBetween s (InPieces pieces) (at i) (at far)
-two_up s pieces at parents i far within inside is chain =
-    subst (λ n. WalkBetween s (InPieces pieces) (at i) (at n)) (sym is)
-    (WalkBetween-trans s (InPieces pieces) (at i) (at (slice_index parents i)) (at (slice_index parents (slice_index parents i))) (chain i within) (chain (slice_index parents i) inside))
+  -- a walk leads between all that is joined by links that have walks
+  pub walk_joined : (Link : ℕ → ℕ → Type 0) → ((i j : ℕ) → Link i j → Between i j) → (i j : ℕ) → AreJoined Link i j → Between i j
+  walk_joined Link = joined-all Between Link (λ i j. WalkBetween-sym s (InPieces pieces) (at i) (at j))
+      (λ i j k. WalkBetween-trans s (InPieces pieces) (at i) (at j) (at k))
 
--- another parent to which a walk leads
-pub with_parent : (s : Size) (pieces : List Piece) (at : ℕ → ℕ) (parents : List ℕ) (i up : ℕ) → i < length parents → WalkBetween s (InPieces pieces) (at i) (at up) → Chain s pieces at parents → Chain s pieces at (slice_set parents i up)
-with_parent s pieces at parents i up inside walk chain k within = ⊎_elim
-    (λ (here : k ≡ i). rw (here, get_or-set_same parents i up 0 inside) walk)
-    (λ (other : k ≢ i). rw (get_or-set_other parents i k up 0 other) (chain k (omega (arith, within, length-set parents i up))))
-    (cases_eq k i)
+  pub walk_up : (parents : List ℕ) → Chain s pieces at parents → (i j : ℕ) → IsParent parents i j → Between i j
+  walk_up parents chain i j is = subst (Between i) is.1 (chain i is.0)
 
--- the greater of two with a walk between them leads to the lesser
-pub down_between : (s : Size) (pieces : List Piece) (at : ℕ → ℕ) (a b : ℕ) → WalkBetween s (InPieces pieces) (at a) (at b) → WalkBetween s (InPieces pieces) (at (max a b)) (at (min a b))
-down_between s pieces at a b walk = ⊎_elim
-    (λ (up : a < b).
-    let high : max a b ≡ b = omega arith in
-    let low : min a b ≡ a = omega arith in
-    rw (high, low) (WalkBetween-sym s (InPieces pieces) (at a) (at b) walk))
-    (λ (down : b ≤ a).
-    let high : max a b ≡ a = omega arith in
-    let low : min a b ≡ b = omega arith in
-    rw (high, low) walk)
-    (cases_lt a b)
-
--- from root to root, where walks lead to them from two with a walk between them
-pub between_roots : (s : Size) (pieces : List Piece) (at : ℕ → ℕ) (i j a b : ℕ) → WalkBetween s (InPieces pieces) (at i) (at j) → WalkBetween s (InPieces pieces) (at i) (at a) → WalkBetween s (InPieces pieces) (at j) (at b) → WalkBetween s (InPieces pieces) (at a) (at b)
-between_roots s pieces at i j a b between up_i up_j =
-    let F = InPieces pieces in
-    WalkBetween-trans s F (at a) (at i) (at b) (WalkBetween-sym s F (at i) (at a) up_i)
-    (WalkBetween-trans s F (at i) (at j) (at b) between up_j)
+  pub walk_up_or : (parents : List ℕ) (one other : ℕ) → Between one other → Chain s pieces at parents → (i j : ℕ) → IsParentOr parents one other i j → Between i j
+  walk_up_or parents one other walk chain i j is = ⊎_elim (walk_up parents chain i j)
+      (λ (here : (i ≡ one) × (j ≡ other)). subst (λ n. Between n j) (sym here.0) (subst (Between one) (sym here.1) walk)) is

@@ -6,12 +6,12 @@ ghost use Rattle.grid_base.specs.Walks.{InPieces, JoinsList, WalkBetween};
 ghost use Rattle.straight_runs.specs.Runs.{IsStraightRun, pieces_of};
 ghost use Rattle.straight_runs.specs.Touching.{AreGroups, first_of};
 
-use crate::groups::Groups;
 use crate::linking::single_runs;
 use crate::lookup::{numbers_of, run_at};
 use crate::run::Run;
 use crate::sweep::link_touching;
 use grid_base::{NoMemory, Size, Vertex};
+use groups::Groups;
 use std::alloc::Global;
 
 /// Whether all of some vertices are this one.

@@ -13,7 +13,7 @@
 //! let loads = sums.finish();
 //! ```
 //!
-//! It stands on `tree_set`, `grid_graph` and `grid_base`. Want of memory alone is a free answer.
+//! It stands on `groups`, `tree_set`, `grid_graph` and `grid_base`. Want of memory alone is a free answer.
 //!
 //! Promised: merged runs have the same pieces, none of them twice, and no two of them overlap or adjoin on one line; a count is
 //! that of the run's edges of the kind; the loads are those of the sets of the added nets; and where `joins_surely` says so,
@@ -26,7 +26,6 @@ mod columns;
 mod counted;
 mod counting;
 mod direction;
-mod groups;
 mod joining;
 mod kinds;
 mod line_counts;

@@ -4,9 +4,9 @@ ghost use Rattle.std.specs.Prelude.{◌≡◌, All, IfOk, IsTrue};
 ghost use Rattle.straight_runs.specs.Runs.{IsStraightRun};
 ghost use Rattle.straight_runs.specs.Touching.{AreGroups, IsRunWith};
 
-use crate::groups::Groups;
 use crate::run::Run;
 use grid_base::{NoMemory, Size, Vertex};
+use groups::Groups;
 use std::alloc::Global;
 
 /// A vertex of a run: the run's number in the list, and how many of its pieces lead to the vertex.

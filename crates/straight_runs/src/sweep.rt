@@ -6,11 +6,11 @@ ghost use Rattle.straight_runs.specs.Touching.{AreGroups};
 
 use crate::columns::{Columns, Upright};
 use crate::direction::Direction;
-use crate::groups::Groups;
 use crate::kinds::{Kinds, Stack};
 use crate::linking::{Spot, link};
 use crate::run::Run;
 use grid_base::{NoMemory, Size, Vertex};
+use groups::Groups;
 use std::alloc::Global;
 
 /// A run of a row, with its number in the list.

@@ -5,7 +5,9 @@ use Rattle.grid_base.specs.declared.size.Size.{Size}
 use Rattle.grid_base.specs.Numbers.{IsPiece, Connects}
 use Rattle.grid_base.proofs.Walks.{WalkBetween-piece}
 use Rattle.grid_graph.specs.Weighed.{IsAllowed, Weighs}
+use Rattle.groups.specs.Joined.{IsParentOr}
 use Rattle.lower_bound.specs.Representatives.{IsFree}
+use Rattle.lower_bound.proofs.Represented.{free_up_or, joined_freely}
 use Rattle.lower_bound.proofs.representatives.join_along.Goals as goal
 
 pub ends_of-requires : goal.ends_of-requires
@@ -14,8 +16,8 @@ ends_of-requires g c =
     let allowed : IsAllowed (g.W.Weights.pieces c.args.weights.now) p = c.if-allows.ensures.0 refl in
     subst (λ (s : Size). IsPiece s p) (sym c.requires.size) (g.met.W.Weights.inside c.args.weights.now p allowed)
 
-pub returns-then-weight-eq0-clause-leads : goal.returns-then-weight-eq0-clause-leads
-returns-then-weight-eq0-clause-leads g c =
+pub returns-then-weight-eq0 : goal.returns-then-weight-eq0
+returns-then-weight-eq0 g c =
     let s = c.args.size in
     let pieces = g.W.Weights.pieces c.args.weights.now in
     let p : Piece = Edge c.args.e in
@@ -25,4 +27,7 @@ returns-then-weight-eq0-clause-leads g c =
     let start = c.ends_of.result.0.0 in
     let end = c.ends_of.result.1.0 in
     let connects : Connects s p start end = inl (is, sym c.ends_of.ensures.start, sym c.ends_of.ensures.end) in
-    c.join.ensures.leads s pieces c.requires.leads (WalkBetween-piece s (IsFree pieces) p start end free connects)
+    let old = c.args.groups.now.parents.items in
+    let walk = WalkBetween-piece s (IsFree pieces) p start end free connects in
+    joined_freely s pieces (IsParentOr old start end) old c.unite.new.self.parents.items c.requires.leads c.unite.ensures.long
+    (free_up_or s pieces old start end c.requires.leads walk) c.unite.ensures.stay

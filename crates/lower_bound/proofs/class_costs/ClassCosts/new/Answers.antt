@@ -17,6 +17,6 @@ returns-clause-current c =
     record {
       costs = class_costs c.args.grid.now c.args.width c.args.ground c.args.prices.now new.size s (costed_size costing) (costed_pieces costing) across flat c.size-3.ensures c.requires.width c.requires.prices
           c.new-costing.ensures.size c.new-costing.ensures.list costing.listed c.renew.ensures.between;
-      representatives = subst (λ (x : Size). AreRepresentatives x across c.renew-2.new.self.of.items) c.size-4.ensures c.renew-2.ensures.leads;
+      representatives = subst (λ (x : Size). AreRepresentatives x across c.renew-2.new.self.of.parents.items) c.size-4.ensures c.renew-2.ensures.leads;
       kept = c.forget.ensures new.size across;
     }

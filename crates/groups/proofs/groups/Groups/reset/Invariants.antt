@@ -1,0 +1,9 @@
+use Rattle.std.proofs.Common.{◌≡◌, ◌<◌, ℕ, length, slice_index}
+use Rattle.groups.proofs.groups.Groups.reset.Given as goal
+
+-- the numbers so far are their own parents
+abbrev pub invariant-loop-i : goal.invariant-loop-i
+invariant-loop-i l = record {
+  long : length l.self.parents.items ≡ length l.initial.self.parents.items;
+  own : (k : ℕ) → k < l.i → slice_index l.self.parents.items k ≡ k;
+}
