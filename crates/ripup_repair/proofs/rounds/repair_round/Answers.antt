@@ -81,67 +81,44 @@ exchange-requires-clause-long g c =
     c.in_ok-share.sets.items round had
     ∙ ap length (sym (c.deref.ensures.value ∙ c.in_ok-positions.ensures.positions))
 
-pub returns-clause-done : goal.returns-clause-done
-returns-clause-done g c =
-    let d = c.args.design.now in
-    let trees : List (List Piece) = c.args.trees.now in
-    let sets : List (List Piece) = c.in_ok-share.sets.items in
-    let round = begins_round d c.args.grounds.now c.args.table.now trees c.args.workers c.args.budget c.requires.grounds
-    c.requires.words c.requires.workers c.requires.budget c.requires.routing in
-    let same = plan_of_round d c.args.grounds.now c.args.table.now c.as_slice.result.now trees (nets_to_repair d trees)
-    (record { positions = c.in_ok-positions.positions; scale = repair_scale; workers = c.args.workers; budget = c.args.budget })
-    (c.as_slice.ensures.value ∙ c.new-others.ensures.items) c.in_ok-positions.ensures.positions refl in
-    let had = subst (λ (p : Pass). HadTurns p 0 c.args.workers c.args.share c.in_ok-share.share sets) same
-    c.in_ok-share.ensures.turns in
-    subst (λ (after : List (List Piece)). IsRoundDone d c.args.workers c.args.budget c.args.table.now c.args.share
-    c.in_ok-share.share trees after)
-    (sym (c.exchange.ensures.trees
-    ∙ ap (λ ks. with_elements trees ks c.deref_mut.result.now) (c.deref.ensures.value ∙ c.in_ok-positions.ensures.positions)
-    ∙ ap (with_elements trees (nets_to_repair d trees)) c.deref_mut.ensures.value))
-    (round_done d c.args.grounds.now c.args.table.now trees c.args.workers c.args.budget c.args.share c.in_ok-share.share sets
-    round c.requires.routing c.requires.share had)
-
-pub returns-clause-positions : goal.returns-clause-positions
-returns-clause-positions g c = (
-  subst (λ (ks : List ℕ). AreWithin c.args.trees.now ks) (sym c.in_ok-positions.ensures.positions)
-      (repair-within c.args.design.now c.args.trees.now),
-  subst AreRising (sym c.in_ok-positions.ensures.positions) (repair-rising c.args.design.now c.args.trees.now),
-)
-
-pub returns-clause-sets : goal.returns-clause-sets
-returns-clause-sets g c =
-    let d = c.args.design.now in
-    let trees : List (List Piece) = c.args.trees.now in
-    ap length (written_over c.in_ok-share.sets.len c.exchange.new.sets c.in_ok-share.sets.items
-    (omega (arith, c.exchange.auto.sets, c.deref_mut.ensures.len)))
-    ∙ ap length (c.exchange.ensures.sets ∙ ap (at_positions trees)
-    (c.deref.ensures.value ∙ c.in_ok-positions.ensures.positions))
-    ∙ at_positions-long trees (nets_to_repair d trees) (repair-within d trees)
-    ∙ ap length (sym c.in_ok-positions.ensures.positions)
-
-pub returns-clause-back : goal.returns-clause-back
-returns-clause-back g c =
+pub returns : goal.returns
+returns g c =
     let d = c.args.design.now in
     let trees : List (List Piece) = c.args.trees.now in
     let sets : List (List Piece) = c.in_ok-share.sets.items in
     let ks : List ℕ = nets_to_repair d trees in
     let round = begins_round d c.args.grounds.now c.args.table.now trees c.args.workers c.args.budget c.requires.grounds
     c.requires.words c.requires.workers c.requires.budget c.requires.routing in
-    let same = plan_of_round d c.args.grounds.now c.args.table.now c.as_slice.result.now trees (nets_to_repair d trees)
+    let same = plan_of_round d c.args.grounds.now c.args.table.now c.as_slice.result.now trees ks
     (record { positions = c.in_ok-positions.positions; scale = repair_scale; workers = c.args.workers; budget = c.args.budget })
     (c.as_slice.ensures.value ∙ c.new-others.ensures.items) c.in_ok-positions.ensures.positions refl in
     let had = subst (λ (p : Pass). HadTurns p 0 c.args.workers c.args.share c.in_ok-share.share sets) same
     c.in_ok-share.ensures.turns in
+    let named : c.in_ok-positions.positions.items ≡ ks = c.in_ok-positions.ensures.positions in
+    let given : c.deref.result.now ≡ ks = c.deref.ensures.value ∙ named in
+    let put : c.exchange.new.trees ≡ with_elements trees ks sets =
+    c.exchange.ensures.trees
+    ∙ ap (λ (xs : List ℕ). with_elements trees xs c.deref_mut.result.now) given
+    ∙ ap (with_elements trees ks) c.deref_mut.ensures.value in
     let last : List (List Piece) = take c.in_ok-share.sets.len
     (c.exchange.new.sets ++ drop (length c.exchange.new.sets) sets) in
-    ap (λ xs. with_elements c.exchange.new.trees xs last) c.in_ok-positions.ensures.positions
-    ∙ ap (λ ts. with_elements ts ks last) (c.exchange.ensures.trees
-    ∙ ap (λ xs. with_elements trees xs c.deref_mut.result.now) (c.deref.ensures.value ∙ c.in_ok-positions.ensures.positions)
-    ∙ ap (with_elements trees ks) c.deref_mut.ensures.value)
-    ∙ ap (with_elements (with_elements trees ks sets) ks)
-    (written_over c.in_ok-share.sets.len c.exchange.new.sets sets (omega (arith, c.exchange.auto.sets, c.deref_mut.ensures.len))
+    let taken : last ≡ at_positions trees ks =
+    written_over c.in_ok-share.sets.len c.exchange.new.sets sets (omega (arith, c.exchange.auto.sets, c.deref_mut.ensures.len))
     ∙ c.exchange.ensures.sets
-    ∙ ap (at_positions trees) (c.deref.ensures.value ∙ c.in_ok-positions.ensures.positions))
-    ∙ with_elements-back trees ks sets (repair-within d trees) (repair-rising d trees)
-    (as_many d c.args.grounds.now c.args.table.now trees c.args.workers c.args.budget c.args.share c.in_ok-share.share sets
-    round had)
+    ∙ ap (at_positions trees) given in
+    let within : AreWithin trees ks = repair-within d trees in
+    let rising : AreRising ks = repair-rising d trees in
+    record {
+      done = subst (λ (after : List (List Piece)). IsRoundDone d c.args.workers c.args.budget c.args.table.now c.args.share
+          c.in_ok-share.share trees after) (sym put)
+          (round_done d c.args.grounds.now c.args.table.now trees c.args.workers c.args.budget c.args.share c.in_ok-share.share
+          sets round c.requires.routing c.requires.share had);
+      positions = (subst (λ (xs : List ℕ). AreWithin trees xs) (sym named) within, subst AreRising (sym named) rising);
+      sets = ap length taken ∙ at_positions-long trees ks within ∙ ap length (sym named);
+      back = ap (λ (xs : List ℕ). with_elements c.exchange.new.trees xs last) named
+          ∙ ap (λ (ts : List (List Piece)). with_elements ts ks last) put
+          ∙ ap (with_elements (with_elements trees ks sets) ks) taken
+          ∙ with_elements-back trees ks sets within rising
+          (as_many d c.args.grounds.now c.args.table.now trees c.args.workers c.args.budget c.args.share c.in_ok-share.share sets
+          round had);
+    }
