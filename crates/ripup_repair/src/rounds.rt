@@ -105,10 +105,8 @@ fn keep_if_less(
     requires words { share.now.table.words ≡ entries design.now.grid }
     requires routed { (table : TableId) × (trees : List (List Piece)) × HasLoadOf design.now table trees share.now }
     ensures overflow { IfOk result (λ over. (table : TableId) (trees : List (List Piece))
-        → HasLoadOf design.now table trees share.now → over ≡ routing_overflow design.now trees) }
-    ensures less { IfOk result (λ over. (table : TableId) (trees : List (List Piece))
-        → HasLoadOf design.now table trees share.now → over < least
-        → loads.new.items ≡ load_list design.now.grid design.now.nets trees) }
+        → HasLoadOf design.now table trees share.now → (over ≡ routing_overflow design.now trees)
+        × (over < least → loads.new.items ≡ load_list design.now.grid design.now.nets trees)) }
     ensures kept { IfOk result (λ over. least ≤ over → loads.new.items ≡ loads.old.items) }
 {
     let words = 2 * design.grid.size().vertices() + 1;

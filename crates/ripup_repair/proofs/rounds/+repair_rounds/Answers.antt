@@ -35,7 +35,7 @@ keep_if_less-requires-clause-routed g t c =
 
 pub repair_rounds-requires-clause-overflow : goal.repair_rounds-requires-clause-overflow
 repair_rounds-requires-clause-overflow g t c κs within =
-    c.in_ok-overflow.ensures.overflow c.args.table.now c.repair_round.new.trees c.in_ok-share.ensures.done.share
+    (c.in_ok-overflow.ensures.overflow c.args.table.now c.repair_round.new.trees c.in_ok-share.ensures.done.share).0
 
 pub returns : goal.returns
 returns g t c =
@@ -47,7 +47,7 @@ returns g t c =
     let over : ℕ = c.in_ok-overflow.overflow in
     let kept : List ℕ = c.keep_if_less.new.loads.items in
     let later = c.in_ok-later.later in
-    let has = c.in_ok-share.ensures.done.share in
+    let read = c.in_ok-overflow.ensures.overflow c.args.table.now after c.in_ok-share.ensures.done.share in
     let done : AreRoundsDone d c.args.workers c.args.budget
     (c.args.rounds - 1) c.args.table.now c.in_ok-share.share after left kept c.repair_rounds.new.loads.items
     (min least over) later =
@@ -68,6 +68,5 @@ returns g t c =
           after left
           c.put_back_unless.new.trees c.args.loads.now.items kept c.repair_rounds.new.loads.items least over later
           (omega (arith, c.if-rounds-eq0.false)) (omega (arith, c.if-overflow-eq0.false, c.requires.overflow))
-          (c.in_ok-overflow.ensures.overflow c.args.table.now after has) c.in_ok-share.ensures.done done
-          (c.in_ok-overflow.ensures.less c.args.table.now after has) c.in_ok-overflow.ensures.kept back stay refl refl refl;
+          read.0 c.in_ok-share.ensures.done done read.1 c.in_ok-overflow.ensures.kept back stay refl refl refl;
     }

@@ -30,14 +30,11 @@ plan_of_round d grounds table earlier before ks plan none positions scale =
 
 pub route_parts-requires-clause-pass : goal.route_parts-requires-clause-pass
 route_parts-requires-clause-pass g c κs within =
-    let d = c.args.design.now in
-    let trees : List (List Piece) = c.args.trees.now in
-    let round = begins_round d c.args.grounds.now c.args.table.now trees c.args.workers c.args.budget c.requires.grounds
-    c.requires.words c.requires.workers c.requires.budget c.requires.routing in
-    let same = plan_of_round d c.args.grounds.now c.args.table.now c.as_slice.result.now trees (nets_to_repair d trees)
+    subst IsPass (sym (plan_of_round c.args.design.now _ _ _ _ _
     (record { positions = c.in_ok-positions.positions; scale = repair_scale; workers = c.args.workers; budget = c.args.budget })
-    (c.as_slice.ensures.value ∙ c.new-others.ensures.items) c.in_ok-positions.ensures.positions refl in
-    subst IsPass (sym same) round
+    (c.as_slice.ensures.value ∙ c.new-others.ensures.items) c.in_ok-positions.ensures.positions refl))
+    (begins_round c.args.design.now c.args.grounds.now c.args.table.now c.args.trees.now c.args.workers c.args.budget
+    c.requires.grounds c.requires.words c.requires.workers c.requires.budget c.requires.routing)
 
 pub route_parts-requires-clause-share : goal.route_parts-requires-clause-share
 route_parts-requires-clause-share g c κs within =
@@ -45,7 +42,7 @@ route_parts-requires-clause-share g c κs within =
     let trees : List (List Piece) = c.args.trees.now in
     let round = begins_round d c.args.grounds.now c.args.table.now trees c.args.workers c.args.budget c.requires.grounds
     c.requires.words c.requires.workers c.requires.budget c.requires.routing in
-    let same = plan_of_round d c.args.grounds.now c.args.table.now c.as_slice.result.now trees (nets_to_repair d trees)
+    let same = plan_of_round d _ _ _ trees _
     (record { positions = c.in_ok-positions.positions; scale = repair_scale; workers = c.args.workers; budget = c.args.budget })
     (c.as_slice.ensures.value ∙ c.new-others.ensures.items) c.in_ok-positions.ensures.positions refl in
     subst (λ (p : Pass). ServesTurns p 0 c.args.workers c.args.share) (sym same)
@@ -71,7 +68,7 @@ exchange-requires-clause-long g c =
     let trees : List (List Piece) = c.args.trees.now in
     let round = begins_round d c.args.grounds.now c.args.table.now trees c.args.workers c.args.budget c.requires.grounds
     c.requires.words c.requires.workers c.requires.budget c.requires.routing in
-    let same = plan_of_round d c.args.grounds.now c.args.table.now c.as_slice.result.now trees (nets_to_repair d trees)
+    let same = plan_of_round d _ _ _ trees _
     (record { positions = c.in_ok-positions.positions; scale = repair_scale; workers = c.args.workers; budget = c.args.budget })
     (c.as_slice.ensures.value ∙ c.new-others.ensures.items) c.in_ok-positions.ensures.positions refl in
     let had = subst (λ (p : Pass). HadTurns p 0 c.args.workers c.args.share c.in_ok-share.share c.in_ok-share.sets.items) same
@@ -89,7 +86,7 @@ returns g c =
     let ks : List ℕ = nets_to_repair d trees in
     let round = begins_round d c.args.grounds.now c.args.table.now trees c.args.workers c.args.budget c.requires.grounds
     c.requires.words c.requires.workers c.requires.budget c.requires.routing in
-    let same = plan_of_round d c.args.grounds.now c.args.table.now c.as_slice.result.now trees ks
+    let same = plan_of_round d _ _ _ trees _
     (record { positions = c.in_ok-positions.positions; scale = repair_scale; workers = c.args.workers; budget = c.args.budget })
     (c.as_slice.ensures.value ∙ c.new-others.ensures.items) c.in_ok-positions.ensures.positions refl in
     let had = subst (λ (p : Pass). HadTurns p 0 c.args.workers c.args.share c.in_ok-share.share sets) same
