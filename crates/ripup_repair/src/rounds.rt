@@ -1,9 +1,12 @@
 //! Rounds, one after another.
 
-ghost use Rattle.std.specs.Prelude.{◌≡◌, ◌≤◌, ◌<◌, length, All, AllPairs, IfOk};
+ghost use Rattle.std.specs.Prelude.{◌≡◌, ◌≤◌, ◌<◌, List, length, All, AllPairs, IfOk};
+ghost use Rattle.atomic_table.specs.Seated.{TableId};
+ghost use Rattle.grid_base.specs.declared.piece.Piece.{Piece};
 ghost use Rattle.grid_graph.specs.Grids.{entries};
 ghost use Rattle.grid_graph.specs.Grounds.{AreGrounds};
 ghost use Rattle.edge_prices.specs.Limits.{IsBudget};
+ghost use Rattle.tree_set.specs.Loads.{load_list};
 ghost use Rattle.tree_set.specs.Routings.{IsRouting};
 ghost use Rattle.routing_stages.specs.Limits.{max_workers};
 ghost use Rattle.sharing_runs.specs.RepairRuns.{routing_overflow};
@@ -11,6 +14,7 @@ ghost use Rattle.ripup_repair.specs.RoundsDone.{AreRoundsDone, HasLoadOf, IsRoun
 ghost use Rattle.ripup_repair.specs.Exchanged.{with_elements};
 
 use crate::exchange::exchange;
+use crate::overflow::overflow_of;
 use crate::overfull::nets_to_repair;
 use crate::repaired::Repaired;
 use crate::replaced::Replaced;
@@ -22,7 +26,7 @@ use routing_passes::{Plan, route_parts};
 use routing_stages::{Gate, Trees, write_shares};
 use std::alloc::Global;
 use std::thread::Threads;
-use tree_set::{Tree, measure_of};
+use tree_set::Tree;
 
 /// The scale of the prices in repair.
 const REPAIR_SCALE: u32 = 16;
@@ -40,7 +44,7 @@ pub(crate) fn repair_rounds<R: Threads + Sync, G: Gate>(
     gate: &G,
     share: Share,
     trees: &mut [Tree],
-    loads: &mut [u64],
+    loads: &mut Vec<u64>,
     overflow: u64,
     least: u64,
     rounds: u32,
@@ -51,10 +55,9 @@ pub(crate) fn repair_rounds<R: Threads + Sync, G: Gate>(
     requires budget { IsBudget budget }
     requires routing { IsRouting design.now.grid design.now.nets trees.old }
     requires share { HasLoadOf design.now table.now trees.old share }
-    requires loads { length loads.old ≡ entries design.now.grid }
     requires overflow { overflow ≡ routing_overflow design.now trees.old }
     ensures done { IfOk result (λ r. AreRoundsDone design.now workers budget rounds table.now share trees.old trees.new
-        loads.old loads.new least r) }
+        loads.old.items loads.new.items least r) }
 {
     if overflow == 0 || rounds == 0 {
         return Ok(Repaired {
@@ -66,10 +69,7 @@ pub(crate) fn repair_rounds<R: Threads + Sync, G: Gate>(
     let (share, replaced) = repair_round(
         rt, alloc, design, grounds, table, workers, budget, gate, share, trees,
     )?;
-    let overflow = measure_of(alloc, design, trees)?.overflow;
-    if overflow < least {
-        write_shares(&share, 2 * design.grid.size().vertices() + 1, loads);
-    }
+    let overflow = keep_if_less(alloc, design, &share, least, loads)?;
     let later = repair_rounds(
         rt,
         alloc,
@@ -92,6 +92,31 @@ pub(crate) fn repair_rounds<R: Threads + Sync, G: Gate>(
         rounds: later.rounds + 1,
         least: later.least,
     })
+}
+
+/// The overflow by the loads that the share has. Where it is less than the least so far, these loads are kept.
+fn keep_if_less(
+    alloc: Global,
+    design: &Design,
+    share: &Share,
+    least: u64,
+    loads: &mut Vec<u64>,
+) -> Result<u64, NoMemory>
+    requires words { share.now.table.words ≡ entries design.now.grid }
+    requires routed { (table : TableId) × (trees : List (List Piece)) × HasLoadOf design.now table trees share.now }
+    ensures overflow { IfOk result (λ over. (table : TableId) (trees : List (List Piece))
+        → HasLoadOf design.now table trees share.now → (over ≡ routing_overflow design.now trees)
+        × (over < least → loads.new.items ≡ load_list design.now.grid design.now.nets trees)) }
+    ensures kept { IfOk result (λ over. least ≤ over → loads.new.items ≡ loads.old.items) }
+{
+    let words = 2 * design.grid.size().vertices() + 1;
+    let mut now = vec![in alloc; 0; words as usize]?;
+    write_shares(share, words, now.as_mut_slice());
+    let overflow = overflow_of(design, &now);
+    if overflow < least {
+        *loads = now;
+    }
+    Ok(overflow)
 }
 
 /// One round: the nets that are to be repaired get new sets.

@@ -1,0 +1,53 @@
+-- The overflow of a routing by its loads.
+use Rattle.std.proofs.Common.{◌≡◌, ℕ, ◌≤◌, ◌<◌, List, length, map, get_or, sym, ◌∙◌, ap, subst, arith, All}
+use Rattle.std.specs.List.{sum, range_with_len, zip}
+use Rattle.std.proofs.lemmas.Bool.{cond_both}
+use Rattle.std.proofs.lemmas.List.{ext_get_or}
+use Rattle.std.proofs.lemmas.List.FromFn.{get_or-map-range_with_len, length-map-range_with_len}
+use Rattle.std.proofs.lemmas.List.Sums.{sum_by-le}
+use Rattle.std.proofs.lemmas.Option.{slice_get-get_or}
+use Rattle.std.proofs.lemmas.Slice.Zip.{get_or-zip, length-zip}
+use Rattle.grid_base.specs.declared.piece.Piece.{Piece}
+use Rattle.grid_base.specs.Numbers.{edge_start, layer_of}
+use Rattle.grid_graph.specs.declared.design.Design.{Design}
+use Rattle.grid_graph.specs.declared.grid.Grid.{Grid}
+use Rattle.grid_graph.specs.declared.net_spec.NetSpec.{NetSpec}
+use Rattle.grid_graph.specs.Grids.{capacity, demand_on, edge_numbers, kind, size_of, IsNetWidth}
+use Rattle.grid_graph.specs.Limits.{max_demand}
+use Rattle.edge_prices.proofs.Layers.{layer-below}
+use Rattle.tree_set.specs.Limits.{max_routing_load}
+use Rattle.tree_set.specs.Loads.{holds, load, net_load}
+use Rattle.tree_set.specs.Measures.{excess, overflow}
+
+-- the same loads of the edges have the same overflow
+pub overflow-same : (g : Grid) (f h : ℕ → ℕ) → ((e : ℕ) → e < edge_numbers g → f e ≡ h e) → overflow g f ≡ overflow g h
+overflow-same g f h same =
+    let n : ℕ = edge_numbers g in
+    let over : (ℕ → ℕ) → ℕ → ℕ = λ l e. excess (kind g e) (l e) (capacity g e) in
+    ap sum (ext_get_or 0 (map (over f) (range_with_len 0 n)) (map (over h) (range_with_len 0 n))
+    (length-map-range_with_len (over f) 0 n ∙ sym (length-map-range_with_len (over h) 0 n))
+    (λ e short.
+    let within : e < n = omega (arith, short, length-map-range_with_len (over f) 0 n) in
+    get_or-map-range_with_len (over f) 0 n e e 0 within (omega arith)
+    ∙ ap (λ l. excess (kind g e) l (capacity g e)) (same e within)
+    ∙ sym (get_or-map-range_with_len (over h) 0 n e e 0 within (omega arith))))
+
+demand-limit : (g : Grid) (width e : ℕ) → IsNetWidth g width → e < edge_numbers g → demand_on g width e ≤ max_demand
+demand-limit g width e wide number =
+    let layer = layer_of (size_of g) (edge_start e) in
+    let below = layer-below g e number in
+    omega (arith, wide layer below, g.limits.greatest_demand layer below)
+
+-- no sets have a greater load on an edge than this
+pub load-limit : (d : Design) (trees : List (List Piece)) (e : ℕ) → e < edge_numbers d.grid
+    → load d.grid d.nets trees e ≤ max_routing_load
+load-limit d trees e number =
+    let f : NetSpec × List Piece → ℕ = λ x. net_load d.grid x.0.width x.1 e in
+    let each : All (λ x. f x ≤ max_demand) (zip d.nets trees) = λ k x below.
+    let in_nets : k < length d.nets = omega (arith, below, length-zip d.nets trees) in
+    let n : NetSpec = get_or d.nets k x.0 in
+    subst (λ y. f y ≤ max_demand) (sym (get_or-zip d.nets trees k x in_nets (omega (arith, below, length-zip d.nets trees))))
+    (cond_both (holds (get_or trees k x.1) e) (demand_on d.grid n.width e) 0 (λ y. y ≤ max_demand)
+    (λ held. demand-limit d.grid n.width e (d.limits.net k n (slice_get-get_or d.nets k x.0 in_nets)).width number)
+    (λ off. omega arith)) in
+    omega (arith, sum_by-le f max_demand (zip d.nets trees) each, length-zip d.nets trees, d.limits.count)
