@@ -13,6 +13,6 @@
 
 #![tactic(auto)]
 
-mod groups;
+mod union_find;
 
-pub use groups::Groups;
+pub use union_find::Groups;

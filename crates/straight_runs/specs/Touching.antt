@@ -4,7 +4,7 @@ use Rattle.grid_base.specs.declared.piece.Piece.{Piece}
 use Rattle.grid_base.specs.declared.size.Size.{Size}
 use Rattle.grid_base.specs.Walks.{WalkBetween, InPieces}
 use Rattle.straight_runs.specs.declared.direction.Direction.TheVariants.{East}
-use Rattle.groups.specs.declared.groups.Groups.{Groups}
+use Rattle.groups.specs.declared.union_find.Groups.{Groups}
 use Rattle.straight_runs.specs.declared.run.Run.{Run}
 use Rattle.straight_runs.specs.Lines.{rise}
 use Rattle.straight_runs.specs.Runs.{pieces_of}

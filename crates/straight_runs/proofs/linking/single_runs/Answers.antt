@@ -3,7 +3,7 @@ use Rattle.std.specs.Prelude.{IfOk}
 use Rattle.grid_base.specs.declared.no_memory.NoMemory.{NoMemory}
 use Rattle.grid_base.specs.declared.size.Size.{Size}
 use Rattle.grid_base.specs.Walks.{InPieces, WalkBetween}
-use Rattle.groups.specs.declared.groups.Groups.{Groups}
+use Rattle.groups.specs.declared.union_find.Groups.{Groups}
 use Rattle.straight_runs.specs.declared.run.Run.{Run}
 use Rattle.straight_runs.specs.Runs.{IsStraightRun, pieces_of}
 use Rattle.straight_runs.specs.Touching.{AreGroups, first_of}

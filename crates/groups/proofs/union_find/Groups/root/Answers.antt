@@ -3,7 +3,7 @@ use Rattle.std.proofs.lemmas.List.{get_or_default, length-set}
 use Rattle.groups.specs.Joined.{IsParent}
 use Rattle.groups.specs.Joined.AreJoined.{on}
 use Rattle.groups.proofs.Parents.{to_itself, to_parent, two_up, with_parent}
-use Rattle.groups.proofs.groups.Groups.root.Goals as goal
+use Rattle.groups.proofs.union_find.Groups.root.Goals as goal
 
 pub loop-root-init : goal.loop-root-init
 loop-root-init c =

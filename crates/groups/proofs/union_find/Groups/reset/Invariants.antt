@@ -1,5 +1,5 @@
 use Rattle.std.proofs.Common.{◌≡◌, ◌<◌, ℕ, length, slice_index}
-use Rattle.groups.proofs.groups.Groups.reset.Given as goal
+use Rattle.groups.proofs.union_find.Groups.reset.Given as goal
 
 -- the numbers so far are their own parents
 abbrev pub invariant-loop-i : goal.invariant-loop-i

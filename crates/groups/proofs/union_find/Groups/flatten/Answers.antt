@@ -2,10 +2,10 @@ use Rattle.std.proofs.Common.{◌≡◌, ◌∙◌, ◌<◌, length, slice_index
 use Rattle.std.proofs.lemmas.List.{get_or_default, length-set}
 use Rattle.groups.specs.Joined.{IsParent}
 use Rattle.groups.proofs.Parents.{to_parent, two_up, with_parent}
-use Rattle.groups.proofs.groups.Groups.flatten.Goals as goal
+use Rattle.groups.proofs.union_find.Groups.flatten.Goals as goal
 
 pub loop-i-init : goal.loop-i-init
-loop-i-init c = record { long = omega arith; stay = to_parent c.args.self.now.parents.items; }
+loop-i-init c = record { long = omega arith; stay = to_parent c.args.self.now.parents.items }
 
 pub loop-i-preserved : goal.loop-i-preserved
 loop-i-preserved c =

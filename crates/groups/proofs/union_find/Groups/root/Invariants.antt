@@ -1,6 +1,6 @@
 use Rattle.std.proofs.Common.{◌≡◌, ◌≤◌, length}
 use Rattle.groups.specs.Joined.{AreJoined, AreJoinedBy, IsParent}
-use Rattle.groups.proofs.groups.Groups.root.Given as goal
+use Rattle.groups.proofs.union_find.Groups.root.Given as goal
 
 -- the number is joined to where the search stands, and each number to its parent
 abbrev pub invariant-loop-root : goal.invariant-loop-root

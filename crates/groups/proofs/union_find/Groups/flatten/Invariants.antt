@@ -1,6 +1,6 @@
 use Rattle.std.proofs.Common.{◌≡◌, length}
 use Rattle.groups.specs.Joined.{AreJoinedBy, IsParent}
-use Rattle.groups.proofs.groups.Groups.flatten.Given as goal
+use Rattle.groups.proofs.union_find.Groups.flatten.Given as goal
 
 -- each number is joined to its parent
 abbrev pub invariant-loop-i : goal.invariant-loop-i

@@ -2,7 +2,7 @@ use Rattle.std.proofs.Common.{◌<◌, length, refl, inr, arith}
 use Rattle.groups.specs.Joined.{AreJoined, AreJoinedBy, IsParent, IsParentOr}
 use Rattle.groups.specs.Joined.AreJoined.{link, back, on}
 use Rattle.groups.proofs.Parents.{down_between, joined_before, with_pair, with_parent}
-use Rattle.groups.proofs.groups.Groups.unite.Goals as goal
+use Rattle.groups.proofs.union_find.Groups.unite.Goals as goal
 
 pub returns-clause-stay : goal.returns-clause-stay
 returns-clause-stay c =
