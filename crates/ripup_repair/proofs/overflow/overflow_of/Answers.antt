@@ -26,10 +26,16 @@ measure_of_loads-requires-clause-room c e =
     let n : ℕ = 2 * c.vertices.result in
     let edges : n ≡ edge_numbers d.grid = omega (arith, c.vertices.ensures, ap (λ s. vertices s) c.size.ensures) in
     ⊎_elim
-    (λ (within : e < n). omega (arith, listed_edges d c.requires.listed.0 c.args.loads.now n e c.requires.listed.1 edges within,
-    load-limit d c.requires.listed.0 e (omega (arith, within, edges))))
-    (λ (beyond : n ≤ e). omega (arith, get_or_past (take n c.args.loads.now) e 0
-    (omega (arith, beyond, length-take n c.args.loads.now))))
+    (λ (within : e < n). omega (
+      arith,
+      listed_edges d c.requires.listed.0 c.args.loads.now n e c.requires.listed.1 edges within,
+      load-limit d c.requires.listed.0 e (omega (arith, within, edges)),
+    ))
+    (λ (beyond : n ≤ e). omega (
+      arith,
+      get_or_past (take n c.args.loads.now) e 0
+          (omega (arith, beyond, length-take n c.args.loads.now)),
+    ))
     (cases_lt e n)
 
 pub returns : goal.returns

@@ -1,4 +1,4 @@
-use Rattle.std.proofs.Common.{◌≡◌, ◌≢◌, ◌<◌, ◌-◌, ℕ, List, min, refl, ◌∙◌, ap, subst, arith}
+use Rattle.std.proofs.Common.{◌≡◌, ◌≢◌, ◌<◌, ◌-◌, ℕ, List, refl, ◌∙◌, ap, subst, arith}
 use Rattle.std.proofs.lemmas.Bool.{le-ltb, lt-ltb}
 use Rattle.atomic_table.specs.Seated.{TableId}
 use Rattle.grid_base.specs.declared.piece.Piece.{Piece}
@@ -20,9 +20,7 @@ returns-then-overflow-eq0 g t c =
     ] in
     record {
       done = none_done d c.args.workers c.args.budget c.args.rounds c.args.table.now c.args.share c.args.trees.now
-          c.args.loads.now.items c.args.least
-          (record { share = c.args.share; rounds = 0; least = c.args.least }) c.requires.workers.0 over c.requires.share refl
-          refl refl;
+          c.args.loads.now.items c.args.least _ c.requires.workers.0 over c.requires.share refl refl refl;
     }
 
 pub keep_if_less-requires-clause-words : goal.keep_if_less-requires-clause-words
@@ -48,13 +46,8 @@ returns g t c =
     let kept : List ℕ = c.keep_if_less.new.loads.items in
     let later = c.in_ok-later.later in
     let read = c.in_ok-overflow.ensures.overflow c.args.table.now after c.in_ok-share.ensures.done.share in
-    let done : AreRoundsDone d c.args.workers c.args.budget
-    (c.args.rounds - 1) c.args.table.now c.in_ok-share.share after left kept c.repair_rounds.new.loads.items
-    (min least over) later =
-    subst (λ (m : ℕ). AreRoundsDone d c.args.workers c.args.budget
-    (c.args.rounds - 1) c.args.table.now c.in_ok-share.share after left kept c.repair_rounds.new.loads.items
-    m later)
-    c.min.ensures c.in_ok-later.ensures.done in
+    let done = subst (λ (m : ℕ). AreRoundsDone d c.args.workers c.args.budget (c.args.rounds - 1) c.args.table.now
+    c.in_ok-share.share after left kept c.repair_rounds.new.loads.items m later) c.min.ensures c.in_ok-later.ensures.done in
     let back : later.least ≡ least → c.put_back_unless.new.trees ≡ before =
     λ equal.
     c.put_back_unless.ensures.back (le-ltb later.least least (omega (arith, equal)))
@@ -64,8 +57,7 @@ returns g t c =
     let stay : later.least ≢ least → c.put_back_unless.new.trees ≡ left =
     λ other. c.put_back_unless.ensures.better (lt-ltb later.least least (omega (arith, other, done.within))) in
     record {
-      done = more_done d c.args.workers c.args.budget c.args.rounds c.args.table.now c.args.share c.in_ok-share.share before
-          after left
+      done = more_done d c.args.workers c.args.budget c.args.rounds c.args.table.now c.args.share _ before after left
           c.put_back_unless.new.trees c.args.loads.now.items kept c.repair_rounds.new.loads.items least over later
           (omega (arith, c.if-rounds-eq0.false)) (omega (arith, c.if-overflow-eq0.false, c.requires.overflow))
           read.0 c.in_ok-share.ensures.done done read.1 c.in_ok-overflow.ensures.kept back stay refl refl refl;

@@ -20,9 +20,11 @@ written d share n m loads old long room same is words table trees has =
 
 pub overflow_of-overflow-requires-clause-listed : goal.overflow_of-overflow-requires-clause-listed
 overflow_of-overflow-requires-clause-listed c =
-    let of = c.requires.routed in
-    (of.1, c.deref.ensures.value ∙ written _ _ _ _ _ _ c.write_shares.auto.loads c.as_mut_slice.ensures.len
-    c.write_shares.ensures.shares c.write_shares.ensures.share c.requires.words of.0 of.1 of.2)
+    let of = c.requires.routed in (
+      of.1,
+      c.deref.ensures.value ∙ written _ _ _ _ _ _ c.write_shares.auto.loads c.as_mut_slice.ensures.len
+          c.write_shares.ensures.shares c.write_shares.ensures.share c.requires.words of.0 of.1 of.2,
+    )
 
 pub returns-then-overflow-least-clause-overflow : goal.returns-then-overflow-least-clause-overflow
 returns-then-overflow-least-clause-overflow c table trees has =
@@ -31,7 +33,8 @@ returns-then-overflow-least-clause-overflow c table trees has =
     (c.overflow_of-overflow.ensures trees (c.deref.ensures.value ∙ is), λ less. is)
 
 pub returns-else-overflow-least-clause-overflow : goal.returns-else-overflow-least-clause-overflow
-returns-else-overflow-least-clause-overflow c table trees has =
-    (c.overflow_of-overflow.ensures trees (c.deref.ensures.value ∙ written _ _ _ _ _ _ c.write_shares.auto.loads
-    c.as_mut_slice.ensures.len c.write_shares.ensures.shares c.write_shares.ensures.share c.requires.words table trees has),
-    λ less. absurd (omega (arith, less, c.if-overflow-least.false)))
+returns-else-overflow-least-clause-overflow c table trees has = (
+  c.overflow_of-overflow.ensures trees (c.deref.ensures.value ∙ written _ _ _ _ _ _ c.write_shares.auto.loads
+      c.as_mut_slice.ensures.len c.write_shares.ensures.shares c.write_shares.ensures.share c.requires.words table trees has),
+  λ less. absurd (omega (arith, less, c.if-overflow-least.false)),
+)
