@@ -41,6 +41,9 @@ load-limit d trees e number =
     let n : NetSpec = get_or d.nets k x.0 in
     subst (λ y. f y ≤ max_demand) (sym (get_or-zip d.nets trees k x in_nets (omega (arith, below, length-zip d.nets trees))))
     (cond_both (holds (get_or trees k x.1) e) (demand_on d.grid n.width e) 0 (λ y. y ≤ max_demand)
-    (λ held. omega (arith, (d.limits.net k n (slice_get-get_or d.nets k x.0 in_nets)).width _ (layer-below d.grid e number),
-    d.grid.limits.greatest_demand _ (layer-below d.grid e number))) (λ off. omega arith)) in
+    (λ held. omega (
+      arith,
+      (d.limits.net k n (slice_get-get_or d.nets k x.0 in_nets)).width _ (layer-below d.grid e number),
+      d.grid.limits.greatest_demand _ (layer-below d.grid e number),
+    )) (λ off. omega arith)) in
     omega (arith, sum_by-le f max_demand (zip d.nets trees) each, length-zip d.nets trees, d.limits.count)
