@@ -8,11 +8,10 @@ use Rattle.std.proofs.lemmas.List.Sums.{sum_by-le}
 use Rattle.std.proofs.lemmas.Option.{slice_get-get_or}
 use Rattle.std.proofs.lemmas.Slice.Zip.{get_or-zip, length-zip}
 use Rattle.grid_base.specs.declared.piece.Piece.{Piece}
-use Rattle.grid_base.specs.Numbers.{edge_start, layer_of}
 use Rattle.grid_graph.specs.declared.design.Design.{Design}
 use Rattle.grid_graph.specs.declared.grid.Grid.{Grid}
 use Rattle.grid_graph.specs.declared.net_spec.NetSpec.{NetSpec}
-use Rattle.grid_graph.specs.Grids.{capacity, demand_on, edge_numbers, kind, size_of, IsNetWidth}
+use Rattle.grid_graph.specs.Grids.{capacity, demand_on, edge_numbers, kind}
 use Rattle.grid_graph.specs.Limits.{max_demand}
 use Rattle.edge_prices.proofs.Layers.{layer-below}
 use Rattle.tree_set.specs.Limits.{max_routing_load}
@@ -32,12 +31,6 @@ overflow-same g f h same =
     ∙ ap (λ l. excess (kind g e) l (capacity g e)) (same e within)
     ∙ sym (get_or-map-range_with_len (over h) 0 n e e 0 within (omega arith))))
 
-demand-limit : (g : Grid) (width e : ℕ) → IsNetWidth g width → e < edge_numbers g → demand_on g width e ≤ max_demand
-demand-limit g width e wide number =
-    let layer = layer_of (size_of g) (edge_start e) in
-    let below = layer-below g e number in
-    omega (arith, wide layer below, g.limits.greatest_demand layer below)
-
 -- no sets have a greater load on an edge than this
 pub load-limit : (d : Design) (trees : List (List Piece)) (e : ℕ) → e < edge_numbers d.grid
     → load d.grid d.nets trees e ≤ max_routing_load
@@ -48,6 +41,9 @@ load-limit d trees e number =
     let n : NetSpec = get_or d.nets k x.0 in
     subst (λ y. f y ≤ max_demand) (sym (get_or-zip d.nets trees k x in_nets (omega (arith, below, length-zip d.nets trees))))
     (cond_both (holds (get_or trees k x.1) e) (demand_on d.grid n.width e) 0 (λ y. y ≤ max_demand)
-    (λ held. demand-limit d.grid n.width e (d.limits.net k n (slice_get-get_or d.nets k x.0 in_nets)).width number)
-    (λ off. omega arith)) in
+    (λ held. omega (
+      arith,
+      (d.limits.net k n (slice_get-get_or d.nets k x.0 in_nets)).width _ (layer-below d.grid e number),
+      d.grid.limits.greatest_demand _ (layer-below d.grid e number),
+    )) (λ off. omega arith)) in
     omega (arith, sum_by-le f max_demand (zip d.nets trees) each, length-zip d.nets trees, d.limits.count)

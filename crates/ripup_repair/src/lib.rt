@@ -14,6 +14,7 @@
 #![tactic(auto)]
 
 mod exchange;
+mod left;
 mod overflow;
 mod overfull;
 mod repaired;

@@ -11,6 +11,7 @@ ghost use Rattle.routing_stages.specs.Whole.{IsWholeChosen};
 ghost use Rattle.sharing_runs.specs.RepairRuns.{routing_overflow};
 ghost use Rattle.ripup_repair.specs.RepairHistories.{IsRepaired};
 
+use crate::left::Left;
 use crate::overflow::overflow_of;
 use crate::rounds::repair_rounds;
 use grid_base::NoMemory;
@@ -59,21 +60,15 @@ pub fn repair<R: Threads + Sync, G: Gate>(
     let workers = settings.workers_in_use(design.grid.size());
     let mut list = trees.into_list();
     let rounded = overflow_of(design, &loads);
-    let done = repair_rounds(
-        rt,
-        alloc,
-        design,
-        grounds,
-        &table,
+    let left = Left {
         workers,
-        settings.budget,
-        gate,
-        share,
-        &mut list,
-        &mut loads,
-        rounded,
-        rounded,
-        settings.rounds,
+        budget: settings.budget,
+        rounds: settings.rounds,
+        overflow: rounded,
+        least: rounded,
+    };
+    let done = repair_rounds(
+        rt, alloc, design, grounds, &table, gate, share, &mut list, &mut loads, left,
     )?;
     let share = done.share;
     prove!(share.allotment() <= WHOLE_ALLOTMENT);

@@ -14,6 +14,7 @@ ghost use Rattle.ripup_repair.specs.RoundsDone.{AreRoundsDone, HasLoadOf, IsRoun
 ghost use Rattle.ripup_repair.specs.Exchanged.{with_elements};
 
 use crate::exchange::exchange;
+use crate::left::Left;
 use crate::overflow::overflow_of;
 use crate::overfull::nets_to_repair;
 use crate::repaired::Repaired;
@@ -39,54 +40,44 @@ pub(crate) fn repair_rounds<R: Threads + Sync, G: Gate>(
     design: &Design,
     grounds: &[Ground],
     table: &LoadTable,
-    workers: u32,
-    budget: Option<u64>,
     gate: &G,
     share: Share,
     trees: &mut [Tree],
     loads: &mut Vec<u64>,
-    overflow: u64,
-    least: u64,
-    rounds: u32,
+    left: Left,
 ) -> Result<Repaired, NoMemory>
     requires grounds { AreGrounds design.now.grid design.now.nets grounds.now }
     requires words { table.now.words ≡ entries design.now.grid }
-    requires workers { (1 ≤ workers) × (workers ≤ max_workers) }
-    requires budget { IsBudget budget }
+    requires workers { (1 ≤ left.workers) × (left.workers ≤ max_workers) }
+    requires budget { IsBudget left.budget }
     requires routing { IsRouting design.now.grid design.now.nets trees.old }
     requires share { HasLoadOf design.now table.now trees.old share }
-    requires overflow { overflow ≡ routing_overflow design.now trees.old }
-    ensures done { IfOk result (λ r. AreRoundsDone design.now workers budget rounds table.now share trees.old trees.new
-        loads.old.items loads.new.items least r) }
+    requires overflow { left.overflow ≡ routing_overflow design.now trees.old }
+    ensures done { IfOk result (λ r. AreRoundsDone design.now left.workers left.budget left.rounds table.now share trees.old
+        trees.new loads.old.items loads.new.items left.least r) }
 {
-    if overflow == 0 || rounds == 0 {
+    if left.overflow == 0 || left.rounds == 0 {
         return Ok(Repaired {
             share,
             rounds: 0,
-            least,
+            least: left.least,
         });
     }
     let (share, replaced) = repair_round(
-        rt, alloc, design, grounds, table, workers, budget, gate, share, trees,
+        rt, alloc, design, grounds, table, gate, share, trees, left,
     )?;
-    let overflow = keep_if_less(alloc, design, &share, least, loads)?;
-    let later = repair_rounds(
-        rt,
-        alloc,
-        design,
-        grounds,
-        table,
-        workers,
-        budget,
-        gate,
-        share,
-        trees,
-        loads,
+    let overflow = keep_if_less(alloc, design, &share, left.least, loads)?;
+    let next = Left {
+        workers: left.workers,
+        budget: left.budget,
+        rounds: left.rounds - 1,
         overflow,
-        least.min(overflow),
-        rounds - 1,
+        least: left.least.min(overflow),
+    };
+    let later = repair_rounds(
+        rt, alloc, design, grounds, table, gate, share, trees, loads, next,
     )?;
-    replaced.put_back_unless(later.least < least, trees);
+    replaced.put_back_unless(later.least < left.least, trees);
     Ok(Repaired {
         share: later.share,
         rounds: later.rounds + 1,
@@ -126,19 +117,18 @@ fn repair_round<R: Threads + Sync, G: Gate>(
     design: &Design,
     grounds: &[Ground],
     table: &LoadTable,
-    workers: u32,
-    budget: Option<u64>,
     gate: &G,
     share: Share,
     trees: &mut [Tree],
+    left: Left,
 ) -> Result<(Share, Replaced), NoMemory>
     requires grounds { AreGrounds design.now.grid design.now.nets grounds.now }
     requires words { table.now.words ≡ entries design.now.grid }
-    requires workers { (1 ≤ workers) × (workers ≤ max_workers) }
-    requires budget { IsBudget budget }
+    requires workers { (1 ≤ left.workers) × (left.workers ≤ max_workers) }
+    requires budget { IsBudget left.budget }
     requires routing { IsRouting design.now.grid design.now.nets trees.old }
     requires share { HasLoadOf design.now table.now trees.old share }
-    ensures done { IfOk result (λ r. IsRoundDone design.now workers budget table.now share r.0 trees.old trees.new) }
+    ensures done { IfOk result (λ r. IsRoundDone design.now left.workers left.budget table.now share r.0 trees.old trees.new) }
     ensures positions { IfOk result (λ r. (All (λ position. position < length trees.old) r.1.positions.items)
         × (AllPairs (λ position later. position < later) r.1.positions.items)) }
     ensures sets { IfOk result (λ r. length r.1.sets.items ≡ length r.1.positions.items) }
@@ -150,8 +140,8 @@ fn repair_round<R: Threads + Sync, G: Gate>(
     let plan = Plan {
         positions,
         scale: REPAIR_SCALE,
-        workers,
-        budget,
+        workers: left.workers,
+        budget: left.budget,
     };
     let others: Vec<Trees> = Vec::new(alloc);
     let (share, mut sets) = route_parts(
@@ -165,7 +155,7 @@ fn repair_round<R: Threads + Sync, G: Gate>(
         gate,
         share,
         0,
-        workers,
+        left.workers,
     )?;
     exchange(trees, &plan.positions, &mut sets);
     Ok((

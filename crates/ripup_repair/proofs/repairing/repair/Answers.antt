@@ -70,8 +70,7 @@ returns g c =
     ∙ sym c.allotment.ensures.share.wide.shares
     ∙ ap length (whole.share.shares ∙ whole.loads)
     ∙ load_list-long d.grid d.nets chosen.trees in
-    let done : AreRoundsDone d in_use s.budget s.rounds chosen.table chosen.share chosen.trees after chosen.loads.items loads over
-    c.in_ok-done.done =
+    let done =
     subst (λ (w : ℕ). AreRoundsDone d w s.budget s.rounds chosen.table chosen.share chosen.trees after chosen.loads.items loads
     over c.in_ok-done.done) workers
     (subst (λ (ts : List (List Piece)). AreRoundsDone d c.workers_in_use-workers.result s.budget s.rounds chosen.table
@@ -80,11 +79,9 @@ returns g c =
     c.of.ensures ∙ written_over c.into_list-list.result.len after c.into_list-list.result.items
     (omega (arith, c.repair_rounds.auto.trees, c.deref_mut.ensures.len)) in
     let is = c.overflow_of-rounded.ensures chosen.trees (c.deref.ensures.value ∙ whole.loads) in
-    let result = is_result d in_use s.budget s.rounds chosen.table chosen.share chosen.trees after chosen.loads.items loads over
-    c.in_ok-done.done done is whole.loads in
+    let result = is_result d in_use s.budget s.rounds _ _ _ _ _ _ _ _ done is whole.loads in
     record {
-      repaired = is_repaired d in_use s chosen after chosen.loads.items loads over c.in_ok-done.done _ done is whole.loads
-          c.allotment-2.ensures.share words refl refl refl now;
+      repaired = is_repaired d in_use s chosen _ _ _ _ _ _ done is whole.loads c.allotment-2.ensures.share words refl refl refl now;
       routing = subst (λ (ts : List (List Piece)). IsRouting d.grid d.nets ts) (sym now)
           (result_routing d chosen.trees after done.later whole.routing done.routings result.0);
       rounded = is;

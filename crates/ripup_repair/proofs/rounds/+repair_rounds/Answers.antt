@@ -1,4 +1,4 @@
-use Rattle.std.proofs.Common.{◌≡◌, ◌≢◌, ◌<◌, ◌-◌, ℕ, List, min, refl, ◌∙◌, ap, subst, arith}
+use Rattle.std.proofs.Common.{◌≡◌, ◌≢◌, ◌<◌, ◌-◌, ℕ, List, refl, ◌∙◌, ap, subst, arith}
 use Rattle.std.proofs.lemmas.Bool.{le-ltb, lt-ltb}
 use Rattle.atomic_table.specs.Seated.{TableId}
 use Rattle.grid_base.specs.declared.piece.Piece.{Piece}
@@ -7,22 +7,20 @@ use Rattle.ripup_repair.specs.Exchanged.{with_elements}
 use Rattle.ripup_repair.specs.RoundsDone.{AreRoundsDone}
 use Rattle.ripup_repair.proofs.RoundRuns.{more_done, none_done}
 use Rattle.ripup_repair.proofs.rounds.+repair_rounds.Goals as goal
-use Rattle.ripup_repair.proofs.rounds.+repair_rounds.Goals.{then-overflow-eq0-via-then-overflow-eq0}
-use Rattle.ripup_repair.proofs.rounds.+repair_rounds.Goals.{then-overflow-eq0-via-else-overflow-eq0+then-rounds-eq0}
+use Rattle.ripup_repair.proofs.rounds.+repair_rounds.Goals.{then-left-eq0-via-then-left-eq0}
+use Rattle.ripup_repair.proofs.rounds.+repair_rounds.Goals.{then-left-eq0-via-else-left-eq0+then-left-eq0-2}
 
-pub returns-then-overflow-eq0 : goal.returns-then-overflow-eq0
-returns-then-overflow-eq0 g t c =
+pub returns-then-left-eq0 : goal.returns-then-left-eq0
+returns-then-left-eq0 g t c =
     let d = c.args.design.now in
-    let over : 0 < c.args.rounds → routing_overflow d c.args.trees.now ≡ 0 =
-    λ left. elim c.then-overflow-eq0.branch [
-      | then-overflow-eq0-via-then-overflow-eq0 w ↦ omega (arith, w.if-overflow-eq0.true, c.requires.overflow)
-      | then-overflow-eq0-via-else-overflow-eq0+then-rounds-eq0 w ↦ absurd (omega (arith, w.if-rounds-eq0.true, left))
+    let over : 0 < c.args.left.rounds → routing_overflow d c.args.trees.now ≡ 0 =
+    λ left. elim c.then-left-eq0.branch [
+      | then-left-eq0-via-then-left-eq0 w ↦ omega (arith, w.if-left-eq0.true, c.requires.overflow)
+      | then-left-eq0-via-else-left-eq0+then-left-eq0-2 w ↦ absurd (omega (arith, w.if-left-eq0-2.true, left))
     ] in
     record {
-      done = none_done d c.args.workers c.args.budget c.args.rounds c.args.table.now c.args.share c.args.trees.now
-          c.args.loads.now.items c.args.least
-          (record { share = c.args.share; rounds = 0; least = c.args.least }) c.requires.workers.0 over c.requires.share refl
-          refl refl;
+      done = none_done d c.args.left.workers c.args.left.budget c.args.left.rounds c.args.table.now c.args.share c.args.trees.now
+          c.args.loads.now.items c.args.left.least _ c.requires.workers.0 over c.requires.share refl refl refl;
     }
 
 pub keep_if_less-requires-clause-words : goal.keep_if_less-requires-clause-words
@@ -43,18 +41,13 @@ returns g t c =
     let before : List (List Piece) = c.args.trees.now in
     let after : List (List Piece) = c.repair_round.new.trees in
     let left : List (List Piece) = c.repair_rounds.new.trees in
-    let least : ℕ = c.args.least in
+    let least : ℕ = c.args.left.least in
     let over : ℕ = c.in_ok-overflow.overflow in
     let kept : List ℕ = c.keep_if_less.new.loads.items in
     let later = c.in_ok-later.later in
     let read = c.in_ok-overflow.ensures.overflow c.args.table.now after c.in_ok-share.ensures.done.share in
-    let done : AreRoundsDone d c.args.workers c.args.budget
-    (c.args.rounds - 1) c.args.table.now c.in_ok-share.share after left kept c.repair_rounds.new.loads.items
-    (min least over) later =
-    subst (λ (m : ℕ). AreRoundsDone d c.args.workers c.args.budget
-    (c.args.rounds - 1) c.args.table.now c.in_ok-share.share after left kept c.repair_rounds.new.loads.items
-    m later)
-    c.min.ensures c.in_ok-later.ensures.done in
+    let done = subst (λ (m : ℕ). AreRoundsDone d c.args.left.workers c.args.left.budget (c.args.left.rounds - 1) c.args.table.now
+    c.in_ok-share.share after left kept c.repair_rounds.new.loads.items m later) c.min.ensures c.in_ok-later.ensures.done in
     let back : later.least ≡ least → c.put_back_unless.new.trees ≡ before =
     λ equal.
     c.put_back_unless.ensures.back (le-ltb later.least least (omega (arith, equal)))
@@ -64,9 +57,8 @@ returns g t c =
     let stay : later.least ≢ least → c.put_back_unless.new.trees ≡ left =
     λ other. c.put_back_unless.ensures.better (lt-ltb later.least least (omega (arith, other, done.within))) in
     record {
-      done = more_done d c.args.workers c.args.budget c.args.rounds c.args.table.now c.args.share c.in_ok-share.share before
-          after left
+      done = more_done d c.args.left.workers c.args.left.budget c.args.left.rounds c.args.table.now c.args.share _ before after left
           c.put_back_unless.new.trees c.args.loads.now.items kept c.repair_rounds.new.loads.items least over later
-          (omega (arith, c.if-rounds-eq0.false)) (omega (arith, c.if-overflow-eq0.false, c.requires.overflow))
+          (omega (arith, c.if-left-eq0-2.false)) (omega (arith, c.if-left-eq0.false, c.requires.overflow))
           read.0 c.in_ok-share.ensures.done done read.1 c.in_ok-overflow.ensures.kept back stay refl refl refl;
     }

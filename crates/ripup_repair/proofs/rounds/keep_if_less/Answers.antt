@@ -19,12 +19,11 @@ written d share n m loads old long room same is words table trees has =
     written_over n loads old (sym (long ∙ room)) ∙ same ∙ (whole_share d table trees share has is words).shares
 
 pub overflow_of-overflow-requires-clause-listed : goal.overflow_of-overflow-requires-clause-listed
-overflow_of-overflow-requires-clause-listed c =
-    let of = c.requires.routed in (
-      of.1,
-      c.deref.ensures.value ∙ written _ _ _ _ _ _ c.write_shares.auto.loads c.as_mut_slice.ensures.len
-          c.write_shares.ensures.shares c.write_shares.ensures.share c.requires.words of.0 of.1 of.2,
-    )
+overflow_of-overflow-requires-clause-listed c = (
+  c.requires.routed.1,
+  c.deref.ensures.value ∙ written _ _ _ _ _ _ c.write_shares.auto.loads c.as_mut_slice.ensures.len
+      c.write_shares.ensures.shares c.write_shares.ensures.share c.requires.words _ _ c.requires.routed.2,
+)
 
 pub returns-then-overflow-least-clause-overflow : goal.returns-then-overflow-least-clause-overflow
 returns-then-overflow-least-clause-overflow c table trees has =

@@ -31,23 +31,22 @@ plan_of_round d grounds table earlier before ks plan none positions scale =
 pub route_parts-requires-clause-pass : goal.route_parts-requires-clause-pass
 route_parts-requires-clause-pass g c κs within =
     subst IsPass (sym (plan_of_round c.args.design.now _ _ _ _ _
-    (record { positions = c.in_ok-positions.positions; scale = repair_scale; workers = c.args.workers; budget = c.args.budget })
+    (record { positions = c.in_ok-positions.positions; scale = repair_scale; workers = c.args.left.workers; budget = c.args.left.budget })
     (c.as_slice.ensures.value ∙ c.new-others.ensures.items) c.in_ok-positions.ensures.positions refl))
-    (begins_round c.args.design.now c.args.grounds.now c.args.table.now c.args.trees.now c.args.workers c.args.budget
+    (begins_round c.args.design.now c.args.grounds.now c.args.table.now c.args.trees.now c.args.left.workers c.args.left.budget
     c.requires.grounds c.requires.words c.requires.workers c.requires.budget c.requires.routing)
 
 pub route_parts-requires-clause-share : goal.route_parts-requires-clause-share
 route_parts-requires-clause-share g c κs within =
     let d = c.args.design.now in
     let trees : List (List Piece) = c.args.trees.now in
-    let round = begins_round d c.args.grounds.now c.args.table.now trees c.args.workers c.args.budget c.requires.grounds
-    c.requires.words c.requires.workers c.requires.budget c.requires.routing in
+    let round = begins_round d c.args.grounds.now c.args.table.now trees c.args.left.workers c.args.left.budget
+    c.requires.grounds c.requires.words c.requires.workers c.requires.budget c.requires.routing in
     let same = plan_of_round d _ _ _ trees _
-    (record { positions = c.in_ok-positions.positions; scale = repair_scale; workers = c.args.workers; budget = c.args.budget })
+    (record { positions = c.in_ok-positions.positions; scale = repair_scale; workers = c.args.left.workers; budget = c.args.left.budget })
     (c.as_slice.ensures.value ∙ c.new-others.ensures.items) c.in_ok-positions.ensures.positions refl in
-    subst (λ (p : Pass). ServesTurns p 0 c.args.workers c.args.share) (sym same)
-    (serves_all (round_of d c.args.grounds.now c.args.table.now trees (nets_to_repair d trees) c.args.workers c.args.budget)
-    c.args.share round refl c.requires.routing (repair-rising d trees) c.requires.share
+    subst (λ (p : Pass). ServesTurns p 0 c.args.left.workers c.args.share) (sym same)
+    (serves_all _ c.args.share round refl c.requires.routing (repair-rising d trees) c.requires.share
     (c.allotment.ensures.share.wide.shares ∙ ap (λ (t : TableId). t.words) c.requires.share.of_table ∙ c.requires.words)
     (λ k t at. subst IsRising (get_or_from_slice_get trees k t t at)
     (c.in_ok-positions.ensures.rising k t (slice_get_within trees k t at))))
@@ -66,16 +65,15 @@ pub exchange-requires-clause-long : goal.exchange-requires-clause-long
 exchange-requires-clause-long g c =
     let d = c.args.design.now in
     let trees : List (List Piece) = c.args.trees.now in
-    let round = begins_round d c.args.grounds.now c.args.table.now trees c.args.workers c.args.budget c.requires.grounds
-    c.requires.words c.requires.workers c.requires.budget c.requires.routing in
+    let round = begins_round d c.args.grounds.now c.args.table.now trees c.args.left.workers c.args.left.budget
+    c.requires.grounds c.requires.words c.requires.workers c.requires.budget c.requires.routing in
     let same = plan_of_round d _ _ _ trees _
-    (record { positions = c.in_ok-positions.positions; scale = repair_scale; workers = c.args.workers; budget = c.args.budget })
+    (record { positions = c.in_ok-positions.positions; scale = repair_scale; workers = c.args.left.workers; budget = c.args.left.budget })
     (c.as_slice.ensures.value ∙ c.new-others.ensures.items) c.in_ok-positions.ensures.positions refl in
-    let had = subst (λ (p : Pass). HadTurns p 0 c.args.workers c.args.share c.in_ok-share.share c.in_ok-share.sets.items) same
+    let had = subst (λ (p : Pass). HadTurns p 0 c.args.left.workers c.args.share c.in_ok-share.share c.in_ok-share.sets.items) same
     c.in_ok-share.ensures.turns in
     ap length c.deref_mut.ensures.value
-    ∙ as_many d c.args.grounds.now c.args.table.now trees c.args.workers c.args.budget c.args.share c.in_ok-share.share
-    c.in_ok-share.sets.items round had
+    ∙ as_many d _ _ _ _ _ _ _ _ round had
     ∙ ap length (sym (c.deref.ensures.value ∙ c.in_ok-positions.ensures.positions))
 
 pub returns : goal.returns
@@ -84,12 +82,12 @@ returns g c =
     let trees : List (List Piece) = c.args.trees.now in
     let sets : List (List Piece) = c.in_ok-share.sets.items in
     let ks : List ℕ = nets_to_repair d trees in
-    let round = begins_round d c.args.grounds.now c.args.table.now trees c.args.workers c.args.budget c.requires.grounds
-    c.requires.words c.requires.workers c.requires.budget c.requires.routing in
+    let round = begins_round d c.args.grounds.now c.args.table.now trees c.args.left.workers c.args.left.budget
+    c.requires.grounds c.requires.words c.requires.workers c.requires.budget c.requires.routing in
     let same = plan_of_round d _ _ _ trees _
-    (record { positions = c.in_ok-positions.positions; scale = repair_scale; workers = c.args.workers; budget = c.args.budget })
+    (record { positions = c.in_ok-positions.positions; scale = repair_scale; workers = c.args.left.workers; budget = c.args.left.budget })
     (c.as_slice.ensures.value ∙ c.new-others.ensures.items) c.in_ok-positions.ensures.positions refl in
-    let had = subst (λ (p : Pass). HadTurns p 0 c.args.workers c.args.share c.in_ok-share.share sets) same
+    let had = subst (λ (p : Pass). HadTurns p 0 c.args.left.workers c.args.share c.in_ok-share.share sets) same
     c.in_ok-share.ensures.turns in
     let named : c.in_ok-positions.positions.items ≡ ks = c.in_ok-positions.ensures.positions in
     let given : c.deref.result.now ≡ ks = c.deref.ensures.value ∙ named in
@@ -106,16 +104,14 @@ returns g c =
     let within : AreWithin trees ks = repair-within d trees in
     let rising : AreRising ks = repair-rising d trees in
     record {
-      done = subst (λ (after : List (List Piece)). IsRoundDone d c.args.workers c.args.budget c.args.table.now c.args.share
+      done = subst (λ (after : List (List Piece)). IsRoundDone d c.args.left.workers c.args.left.budget c.args.table.now c.args.share
           c.in_ok-share.share trees after) (sym put)
-          (round_done d c.args.grounds.now c.args.table.now trees c.args.workers c.args.budget c.args.share c.in_ok-share.share
-          sets round c.requires.routing c.requires.share had);
+          (round_done d _ _ _ _ _ _ _ sets round c.requires.routing c.requires.share had);
       positions = (subst (λ (xs : List ℕ). AreWithin trees xs) (sym named) within, subst AreRising (sym named) rising);
       sets = ap length taken ∙ at_positions-long trees ks within ∙ ap length (sym named);
       back = ap (λ (xs : List ℕ). with_elements c.exchange.new.trees xs last) named
           ∙ ap (λ (ts : List (List Piece)). with_elements ts ks last) put
           ∙ ap (with_elements (with_elements trees ks sets) ks) taken
           ∙ with_elements-back trees ks sets within rising
-          (as_many d c.args.grounds.now c.args.table.now trees c.args.workers c.args.budget c.args.share c.in_ok-share.share sets
-          round had);
+          (as_many d _ _ _ _ _ _ _ _ round had);
     }
