@@ -20,7 +20,7 @@ use Rattle.grid_graph.proofs.CutOff.{first_cut_off-once, cut_off-unreachable}
 use Rattle.command_runs.specs.declared.refusal.Refusal.{Refusal}
 use Rattle.command_runs.specs.declared.refusal.Refusal.TheVariants.{NoCommand, Input, Unreachable, Text, Unread, NoMemory}
 use Rattle.gr_desk.specs.declared.port.Port.{Port}
-use Rattle.gr_desk.specs.declared.port.Port.TheVariants.{In, RoutesIn, CertIn, RoutesOut, CertOut, DesignOut, Report}
+use Rattle.gr_desk.specs.declared.port.Port.TheVariants.{In, RoutesIn, CertIn, RoutesOut, CertOut, DesignOut, GuideOut, MapOut, Report}
 use Rattle.command_runs.specs.Refusals.{IsRefusedAt, IsAcceptedAt, AreUnopened, HasToBeRefused, AreAccepted, HaveAcceptedBytes, IsCause, IsCauseAt}
 use Rattle.command_runs.specs.Sources.{Source, IfTold, ports_of}
 use Rattle.command_runs.specs.Steps.{IsRefusedFor}
@@ -100,6 +100,8 @@ refused_once_at CertIn text r x h k = let same : Err r ≡ Err x = sym h ∙ k i
 refused_once_at RoutesOut text r x h k = absurd h
 refused_once_at CertOut text r x h k = absurd h
 refused_once_at DesignOut text r x h k = absurd h
+refused_once_at GuideOut text r x h k = absurd h
+refused_once_at MapOut text r x h k = absurd h
 refused_once_at Report text r x h k = absurd h
 
 -- a text that is accepted at a port is not refused there
@@ -110,6 +112,8 @@ not_refused_at CertIn text r accepted h = let same : Err r ≡ Ok accepted.0 = s
 not_refused_at RoutesOut text r accepted h = h
 not_refused_at CertOut text r accepted h = h
 not_refused_at DesignOut text r accepted h = h
+not_refused_at GuideOut text r accepted h = h
+not_refused_at MapOut text r accepted h = h
 not_refused_at Report text r accepted h = h
 
 -- where no open or read failed, what a run ended for at a file is what its text says, or want of memory

@@ -2,7 +2,7 @@
 use Rattle.std.proofs.Common.{◌≢◌, List, [], ◌∷◌, Contains, sym, subst, inl, inr}
 use Rattle.std.specs.Prelude.{IsTrue}
 use Rattle.gr_desk.specs.declared.port.Port.{Port}
-use Rattle.gr_desk.specs.declared.port.Port.TheVariants.{In, RoutesIn, CertIn, RoutesOut, CertOut, DesignOut, Report}
+use Rattle.gr_desk.specs.declared.port.Port.TheVariants.{In, RoutesIn, CertIn, RoutesOut, CertOut, DesignOut, GuideOut, MapOut, Report}
 use Rattle.gr_desk.specs.Ports.{is_input, is_output}
 use Rattle.grid_base.proofs.Lists.{head_or_rest}
 use Rattle.command_runs.specs.Sources.{Source, ports_of}
@@ -40,6 +40,8 @@ not_both CertIn input output = cc
 not_both RoutesOut input output = cc
 not_both CertOut input output = cc
 not_both DesignOut input output = cc
+not_both GuideOut input output = cc
+not_both MapOut input output = cc
 not_both Report input output = cc
 
 pub made_not_read : (read made : List Source) (p : Port) → AreInputs read → AreOutputs made → Contains (ports_of made) p

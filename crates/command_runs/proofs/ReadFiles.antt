@@ -3,7 +3,7 @@ use Rattle.std.proofs.Common.{◌≡◌, ◌≢◌, ◌<◌, ◌≤◌, ◌+◌,
 use Rattle.std.specs.Prelude.{IsTrue, Option, option_map, Result, is_err}
 use Rattle.std.specs.Io.KnownBytes.{Consumes}
 use Rattle.gr_desk.specs.declared.port.Port.{Port}
-use Rattle.gr_desk.specs.declared.port.Port.TheVariants.{In, RoutesIn, CertIn, RoutesOut, CertOut, DesignOut, Report}
+use Rattle.gr_desk.specs.declared.port.Port.TheVariants.{In, RoutesIn, CertIn, RoutesOut, CertOut, DesignOut, GuideOut, MapOut, Report}
 use Rattle.gr_desk.specs.declared.state.State.{State}
 use Rattle.gr_desk.specs.declared.state.State.TheVariants.{Ready, Refused}
 use Rattle.gr_desk.specs.Calls.{Opens, IsOrderlyRead}
@@ -140,6 +140,8 @@ too_long-refused CertIn text input long = rw (lt-ltb max_bytes (length text) lon
 too_long-refused RoutesOut text input long = cc
 too_long-refused CertOut text input long = cc
 too_long-refused DesignOut text input long = cc
+too_long-refused GuideOut text input long = cc
+too_long-refused MapOut text input long = cc
 too_long-refused Report text input long = cc
 
 too_long-cause : (port : Port) (name text : List ℕ) (a b : Told) → IsTrue (is_input port) → max_bytes < length text
@@ -153,6 +155,8 @@ too_long-cause CertIn name text a b input long told = has-either a.files name (�
 too_long-cause RoutesOut name text a b input long told = cc
 too_long-cause CertOut name text a b input long told = cc
 too_long-cause DesignOut name text a b input long told = cc
+too_long-cause GuideOut name text a b input long told = cc
+too_long-cause MapOut name text a b input long told = cc
 too_long-cause Report name text a b input long told = cc
 
 -- ---- one file is read

@@ -2,7 +2,7 @@
 use Rattle.std.specs.Prelude.{◌≡◌, ◌≢◌, ℕ, List, IsSomeAnd, IsErr, is_some, Result, OnOk, OnErr, option_and_then}
 use Rattle.std.specs.declared.option.Option.{Option}
 use Rattle.gr_desk.specs.declared.port.Port.{Port}
-use Rattle.gr_desk.specs.declared.port.Port.TheVariants.{In, RoutesIn, CertIn, RoutesOut, CertOut, DesignOut, Report}
+use Rattle.gr_desk.specs.declared.port.Port.TheVariants.{In, RoutesIn, CertIn, RoutesOut, CertOut, DesignOut, GuideOut, MapOut, Report}
 use Rattle.gr_desk.specs.declared.open_files.OpenFiles.{OpenFiles}
 
 -- the file that is open at a port
@@ -13,6 +13,8 @@ file_at files CertIn = files.cert_in
 file_at files RoutesOut = files.routes_out
 file_at files CertOut = files.cert_out
 file_at files DesignOut = files.design_out
+file_at files GuideOut = files.guide_out
+file_at files MapOut = files.map_out
 file_at files Report = files.report
 
 -- the files with another one, or none, at a port
@@ -23,6 +25,8 @@ with_file files CertIn file = record files { cert_in = file }
 with_file files RoutesOut file = record files { routes_out = file }
 with_file files CertOut file = record files { cert_out = file }
 with_file files DesignOut file = record files { design_out = file }
+with_file files GuideOut file = record files { guide_out = file }
+with_file files MapOut file = record files { map_out = file }
 with_file files Report file = record files { report = file }
 
 -- what the file at a port tells, where there is one that tells it

@@ -1,7 +1,7 @@
 -- Which ports are read and which are written, and the places of ports and calls.
 use Rattle.std.specs.Prelude.{ℕ, Bool, true, false}
 use Rattle.gr_desk.specs.declared.port.Port.{Port}
-use Rattle.gr_desk.specs.declared.port.Port.TheVariants.{In, RoutesIn, CertIn, RoutesOut, CertOut, DesignOut, Report}
+use Rattle.gr_desk.specs.declared.port.Port.TheVariants.{In, RoutesIn, CertIn, RoutesOut, CertOut, DesignOut, GuideOut, MapOut, Report}
 use Rattle.gr_desk.specs.declared.fail.CallKind.{CallKind}
 use Rattle.gr_desk.specs.declared.fail.CallKind.TheVariants.{Open, Create, Read, Write}
 
@@ -13,6 +13,8 @@ is_input CertIn = true
 is_input RoutesOut = false
 is_input CertOut = false
 is_input DesignOut = false
+is_input GuideOut = false
+is_input MapOut = false
 is_input Report = false
 
 -- a port at which a file is written
@@ -23,9 +25,11 @@ is_output CertIn = false
 is_output RoutesOut = true
 is_output CertOut = true
 is_output DesignOut = true
+is_output GuideOut = true
+is_output MapOut = true
 is_output Report = false
 
--- the place of a port among the seven
+-- the place of a port among the nine
 abbrev pub number : Port → ℕ
 number In = 0
 number RoutesIn = 1
@@ -33,7 +37,9 @@ number CertIn = 2
 number RoutesOut = 3
 number CertOut = 4
 number DesignOut = 5
-number Report = 6
+number GuideOut = 6
+number MapOut = 7
+number Report = 8
 
 -- the place of a call among the four
 abbrev pub call_number : CallKind → ℕ

@@ -16,6 +16,8 @@ pub(crate) struct OpenFiles<F> {
     routes_out: Option<F>,
     cert_out: Option<F>,
     design_out: Option<F>,
+    guide_out: Option<F>,
+    map_out: Option<F>,
     report: Option<F>,
 }
 
@@ -31,6 +33,8 @@ impl<F> OpenFiles<F> {
             routes_out: None,
             cert_out: None,
             design_out: None,
+            guide_out: None,
+            map_out: None,
             report: None,
         }
     }
@@ -47,6 +51,8 @@ impl<F> OpenFiles<F> {
             Port::RoutesOut => &mut self.routes_out,
             Port::CertOut => &mut self.cert_out,
             Port::DesignOut => &mut self.design_out,
+            Port::GuideOut => &mut self.guide_out,
+            Port::MapOut => &mut self.map_out,
             Port::Report => &mut self.report,
         }
     }

@@ -12,6 +12,8 @@ pub enum Port {
     RoutesOut,
     CertOut,
     DesignOut,
+    GuideOut,
+    MapOut,
     Report,
 }
 
@@ -27,13 +29,13 @@ impl Port {
     pub fn is_output(self) -> bool
         ensures { result ≡ is_output self }
     {
-        matches!(self, Port::RoutesOut | Port::CertOut | Port::DesignOut)
+        matches!(self, Port::RoutesOut | Port::CertOut | Port::DesignOut | Port::GuideOut | Port::MapOut)
     }
 
-    /// The place of this port among the seven.
+    /// The place of this port among the nine.
     pub(crate) fn number(self) -> usize
         ensures number { result ≡ number self }
-        ensures bound { result < 7 }
+        ensures bound { result < 9 }
     {
         match self {
             Port::In => 0,
@@ -42,7 +44,9 @@ impl Port {
             Port::RoutesOut => 3,
             Port::CertOut => 4,
             Port::DesignOut => 5,
-            Port::Report => 6,
+            Port::GuideOut => 6,
+            Port::MapOut => 7,
+            Port::Report => 8,
         }
     }
 }

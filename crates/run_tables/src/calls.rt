@@ -13,6 +13,8 @@ fn port_of(word: &str) -> Option<Port> {
         "RoutesOut" => Some(Port::RoutesOut),
         "CertOut" => Some(Port::CertOut),
         "DesignOut" => Some(Port::DesignOut),
+        "GuideOut" => Some(Port::GuideOut),
+        "MapOut" => Some(Port::MapOut),
         "Report" => Some(Port::Report),
         _ => None,
     }
