@@ -31,11 +31,11 @@ without_one links one at =
     }
 
 -- a link leads either way
-AreLinkEnds-sym : (links : List Link) (a b : ℕ) → AreLinkEnds links a b → AreLinkEnds links b a
+pub AreLinkEnds-sym : (links : List Link) (a b : ℕ) → AreLinkEnds links a b → AreLinkEnds links b a
 AreLinkEnds-sym links a b linked = record { link = linked.link; listed = linked.listed; ends = ⊎_elim (λ there. inr there) (λ back. inl back) linked.ends }
 
 -- a predicate that each link of a list carries from either end to the other
-abbrev CarriedBy : List Link → (ℕ → Type 0) → Type 0
+abbrev pub CarriedBy : List Link → (ℕ → Type 0) → Type 0
 CarriedBy links M = (a b : ℕ) → AreLinkEnds links a b → M a → M b
 
 -- a link of which neither end is reached is kept, and links as before
@@ -46,7 +46,7 @@ still_linked links rest R v next linked none beyond keeps = ⊎_elim
     linked.ends
 
 -- a vertex is led to a goal where its neighbour by a link is
-carried_back : (links : List Link) (R : ℕ → Type 0) → CarriedBy links (LedTo links R)
+pub carried_back : (links : List Link) (R : ℕ → Type 0) → CarriedBy links (LedTo links R)
 carried_back links R a b linked led = record { goal = led.goal; way = a ∷ led.way; reached = led.reached; leads = (AreLinkEnds-sym links a b linked, led.leads) }
 
 -- a vertex that a given link leads from is one of its ends

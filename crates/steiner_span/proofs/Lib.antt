@@ -1,5 +1,10 @@
 pub mod WeighedTrees
 pub mod Exchange
+pub mod Members
+pub mod JoinedWithin
+pub mod Tours
+pub mod Chains
+pub mod Spanned
 pub mod Growing
 pub mod Reaching
 pub mod LeastRest

@@ -1,8 +1,8 @@
 -- A tree that takes in a way back to it.
-use Rattle.std.proofs.Common.{◌≡◌, ◌≢◌, ℕ, ◌+◌, ◌<◌, ◌≤◌, ◌⊎◌, List, [], ◌∷◌, ◌++◌, Some, length, reverse, refl, sym, ◌∙◌, ap, subst, inl, inr, ⊎_elim, arith}
+use Rattle.std.proofs.Common.{◌≡◌, ◌≢◌, ℕ, ◌+◌, ◌<◌, ◌≤◌, ◌⊎◌, List, [], ◌∷◌, ◌++◌, length, reverse, refl, sym, ◌∙◌, ap, subst, inl, inr, ⊎_elim, arith}
 use Rattle.std.proofs.lemmas.Bool.{cases_eq, cases_lt}
 use Rattle.std.proofs.lemmas.List.{reverse-append}
-use Rattle.std.proofs.lemmas.List.Elements.{All-contains, Contains-push, Contains-push_cases, Contains-append_left}
+use Rattle.std.proofs.lemmas.List.Elements.{Contains-push, Contains-push_cases, Contains-append_left}
 use Rattle.grid_base.specs.declared.piece.Piece.{Piece}
 use Rattle.grid_base.specs.declared.size.Size.{Size}
 use Rattle.grid_base.specs.declared.vertex.Vertex.{Vertex}
@@ -15,14 +15,15 @@ use Rattle.steiner_span.specs.declared.step_back.StepBack.{StepBack}
 use Rattle.steiner_span.specs.Growths.{AfterOffer, AreKeys, AreBehind, AreLight, IsGrowing, IsTaken, FallsTo, IsWayBack, IsGrown}
 use Rattle.shortest_paths.specs.LabelWords.{labels_number}
 use Rattle.shortest_paths.specs.LedSearches.{IsOpen}
-use Rattle.label_search.specs.Sets.{IsSetOf, IsDistance, RisesSlowly, weight}
-use Rattle.shortest_paths.specs.Spanning.{Link, IsSpanningTree}
+use Rattle.label_search.specs.Sets.{IsSetOf, RisesSlowly, weight}
+use Rattle.shortest_paths.specs.Spanning.{Link}
 use Rattle.steiner_span.specs.Exchanges.{IsExchanged}
+use Rattle.steiner_span.specs.SpanningLinks.{AreJoinedWithin, AreSpanningLinks}
 use Rattle.label_search.specs.Stamped.{far}
 use Rattle.label_search.proofs.LeastNumbers.{least_past}
 use Rattle.steiner_span.proofs.Exchange.{OrAlso, exchanged, exchanged_at_start, exchanged_more}
 use Rattle.steiner_span.proofs.Growing.{falls_itself, falls_to, still_behind}
-use Rattle.label_search.proofs.Sets.{extended, ends_joined, no_pieces}
+use Rattle.label_search.proofs.Sets.{extended, no_pieces}
 
 -- no allowed set that joins the tree with a terminal outside it weighs less than the number of the one taken out
 pub nearest : (s : Size) (pieces : List (Piece × ℕ)) (T : ℕ → Type 0) (rest : ℕ → ℕ) (r : Labels) (at : ℕ) → IsTaken s pieces T rest r at → RisesSlowly s pieces rest → ((v : ℕ) → T v → 0 < labels_number r v → rest v ≡ 0) →
@@ -64,7 +65,7 @@ pub record IsOnWay (s : Size) (pieces : List (Piece × ℕ)) (terminals : List V
   pub leads : IsWayBack s pieces num at (reverse way) here
   pub joined : (a b : ℕ) → new a ≡ 0 → new b ≡ 0 → WalkBetween s (InPieces grown) a b
   pub light : AreLight pieces grown (total + num here)
-  pub exchanged : (links : List Link) → IsSpanningTree s pieces terminals links → IsExchanged (InVertices terminals) links (λ u. num u ≡ 0) total
+  pub exchanged : (links : List Link) → AreSpanningLinks s pieces terminals links → IsExchanged (InVertices terminals) links (λ u. num u ≡ 0) total
 
 pub way_begins : (s : Size) (pieces : List (Piece × ℕ)) (terminals : List Vertex) (num : ℕ → ℕ) (at here : ℕ) (way : List StepBack) (grown : List Piece) → IsGrown s pieces terminals num grown → num here ≡ 0 → IsWayBack s pieces num at (reverse way) here →
     IsOnWay s pieces terminals num num at way grown
@@ -108,8 +109,8 @@ decided : (num : ℕ → ℕ) (u : ℕ) → (num u ≡ 0) ⊎ (¬ (num u ≡ 0))
 decided num u = ⊎_elim (λ is. inl is) (λ other. inr other) (cases_eq (num u) 0)
 
 -- a link between the tree and a terminal outside it is no shorter than the number of the one taken out
-link_far : (s : Size) (pieces : List (Piece × ℕ)) (num : ℕ → ℕ) (near one other d : ℕ) → IsDistance s pieces one other (Some d) → ((set : List (Piece × ℕ)) → IsSetOf pieces set → WalkBetween s (IsAllowed set) one other → near ≤ weight set) → near ≤ d
-link_far s pieces num near one other d is low = omega (arith, is.weighs, low is.set is.is_set (ends_joined s (IsAllowed is.set) one other is.joins))
+link_far : (s : Size) (pieces : List (Piece × ℕ)) (near one other d : ℕ) → AreJoinedWithin s pieces one other d → ((set : List (Piece × ℕ)) → IsSetOf pieces set → WalkBetween s (IsAllowed set) one other → near ≤ weight set) → near ≤ d
+link_far s pieces near one other d is low = omega (arith, is.light, low is.set is.is_set is.walk)
 
 -- at the end of the way the tree has the terminal
 pub way_ends : (s : Size) (pieces : List (Piece × ℕ)) (terminals : List Vertex) (rest : ℕ → ℕ) (old : Labels) (new : ℕ → ℕ) (at : ℕ) (grown : List Piece) → IsTaken s pieces (InVertices terminals) rest old at → RisesSlowly s pieces rest →
@@ -124,16 +125,16 @@ way_ends s pieces terminals rest old new at grown taken slow near terminal above
       total = on.total + num at;
       joined = on.joined;
       light = subst (λ v. AreLight pieces grown (on.total + num v)) home on.light;
-      exchanged = λ links tree.
+      exchanged = λ links spans.
           exchanged_more (InVertices terminals) links (OrAlso (λ u. num u ≡ 0) at) (λ u. new u ≡ 0) (on.total + num at)
           (λ v either. ⊎_elim (λ zero_v. omega (arith, falls v, zero_v)) (λ here. ap new (here ∙ sym home) ∙ on.reached) either)
-          (exchanged (InVertices terminals) links (λ u. num u ≡ 0) on.total (decided num) (on.exchanged links tree) at (num at) terminal (λ zero_at. omega (arith, zero_at, above))
+          (exchanged (InVertices terminals) links (λ u. num u ≡ 0) on.total (decided num) (on.exchanged links spans) at (num at) terminal (λ zero_at. omega (arith, zero_at, above))
           (λ link listed sides.
-          let ends = All-contains (λ (l : Link). InVertices terminals l.one × InVertices terminals l.other) links link tree.ends listed in
-          let distance = All-contains (λ (l : Link). IsDistance s pieces l.one l.other (Some l.distance)) links link tree.distances listed in
+          let ends = spans.ends link listed in
+          let joined = spans.joined link listed in
           ⊎_elim
-          (λ inner. link_far s pieces num (num at) link.one link.other link.distance distance (λ set is walk. low link.one link.other inner.0 ends.1 (outside link.other inner.1) set is walk))
-          (λ inner. link_far s pieces num (num at) link.one link.other link.distance distance (λ set is walk. low link.other link.one inner.0 ends.0 (outside link.one inner.1) set is (WalkBetween-sym s (IsAllowed set) link.one link.other walk)))
+          (λ inner. link_far s pieces (num at) link.one link.other link.distance joined (λ set is walk. low link.one link.other inner.0 ends.1 (outside link.other inner.1) set is walk))
+          (λ inner. link_far s pieces (num at) link.one link.other link.distance joined (λ set is walk. low link.other link.one inner.0 ends.0 (outside link.one inner.1) set is (WalkBetween-sym s (IsAllowed set) link.one link.other walk)))
           sides));
     }
 
@@ -190,7 +191,7 @@ still_grown s pieces terminals num new grown falls zeros is = record {
   total = is.total;
   joined = λ a b is_a is_b. is.joined a b (zeros a is_a) (zeros b is_b);
   light = is.light;
-  exchanged = λ links tree. exchanged_more (InVertices terminals) links (λ u. num u ≡ 0) (λ u. new u ≡ 0) is.total (λ v zero_v. omega (arith, falls v, zero_v)) (is.exchanged links tree);
+  exchanged = λ links spans. exchanged_more (InVertices terminals) links (λ u. num u ≡ 0) (λ u. new u ≡ 0) is.total (λ v zero_v. omega (arith, falls v, zero_v)) (is.exchanged links spans);
 }
 
 -- where the first terminal alone has a number
@@ -210,7 +211,7 @@ start_grown s pieces terminals old new at vertex terminal none taken low =
       total = 0;
       joined = λ a b is_a is_b. subst (λ v. WalkBetween s (InPieces []) v b) (sym (alone a is_a)) (subst (WalkBetween s (InPieces []) at) (sym (alone b is_b)) (WalkBetween-refl s (InPieces []) at vertex));
       light = record { set = []; is_set = no_pieces pieces; listed = λ p listed. absurd (omega (arith, listed.1)); light = omega arith };
-      exchanged = λ links tree.
+      exchanged = λ links spans.
           exchanged_more (InVertices terminals) links (λ u. u ≡ at) (λ u. labels_number new u ≡ 0) 0 (λ v here. omega (arith, low, ap (labels_number new) here))
-          (exchanged_at_start (InVertices terminals) links at (λ v is. tree.connects v at is terminal));
+          (exchanged_at_start (InVertices terminals) links at (λ v is. spans.connects v at is terminal));
     }

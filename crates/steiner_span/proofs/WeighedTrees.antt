@@ -10,7 +10,7 @@ use Rattle.grid_base.specs.declared.piece.Piece.{Piece}
 use Rattle.grid_base.specs.declared.piece.Piece.TheVariants.{Via}
 use Rattle.grid_base.specs.Lists.{At, HasNoRepeats}
 use Rattle.grid_graph.specs.Weighed.{Weighs, IsAllowed, NoPieceTwice}
-use Rattle.grid_graph.proofs.Weighed.{weighed, weighs_no_more}
+use Rattle.grid_graph.proofs.Weighed.{weighed, weighs_no_more, member_of_tree}
 use Rattle.steiner_span.specs.Growths.{AreLight}
 use Rattle.label_search.specs.Sets.{IsSetOf, weight}
 use Rattle.tree_set.specs.Order.{IsRising}
@@ -38,6 +38,15 @@ within_light pieces set grown limit once is light within =
       arith,
       light.light,
       weighs_no_more pieces set light.set once is.once is.allowed light.is_set.allowed (λ x at. light.listed x.0 (within x at)),
+    )
+
+-- a tree whose pieces are in a light list weighs no more than the limit
+pub total_within : (pieces : List (Piece × ℕ)) (tree grown : List Piece) (total limit : ℕ) → NoPieceTwice pieces → (own : IsTreeSet pieces tree) → total ≡ weight own.set → ((p : Piece) → Contains tree p → Contains grown p) → AreLight pieces grown limit → total ≤ limit
+total_within pieces tree grown total limit once own sum within light =
+    omega (
+      arith,
+      sum,
+      within_light pieces own.set grown limit once own.is_set light (λ x at. within x.0 (member_of_tree own.set tree x own.of at)),
     )
 
 nothing : Piece × ℕ

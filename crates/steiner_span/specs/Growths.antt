@@ -13,10 +13,11 @@ use Rattle.shortest_paths.specs.LedSearches.{HasKey, IsOpen, GoOn, work_of}
 use Rattle.label_search.specs.Paths.{IsStepBack}
 use Rattle.label_search.specs.Searches.{IsBehind, IsRelaxed}
 use Rattle.label_search.specs.Sets.{IsSetOf, weight}
-use Rattle.shortest_paths.specs.Spanning.{Link, IsSpanningTree}
+use Rattle.shortest_paths.specs.Spanning.{Link}
 use Rattle.label_search.specs.Stamped.{far}
 use Rattle.steiner_span.specs.declared.step_back.StepBack.{StepBack}
 use Rattle.steiner_span.specs.Exchanges.{IsExchanged}
+use Rattle.steiner_span.specs.SpanningLinks.{AreSpanningLinks}
 
 -- a vertex waits with a key from its number to that and what is still to go
 pub record AreKeys (rest : ℕ → ℕ) (l : Labels) : Type 0 where
@@ -83,10 +84,10 @@ pub record AreLight (pieces : List (Piece × ℕ)) (grown : List Piece) (limit :
   pub listed : (p : Piece) → Contains grown p → IsAllowed set p
   pub light : weight set ≤ limit
 
--- the tree so far: its pieces join the vertices of number 0, and weigh at most a total that each spanning tree by distances
+-- the tree so far: its pieces join the vertices of number 0, and weigh at most a total that all links that span the terminals
 -- can be exchanged for
 pub record IsGrown (s : Size) (pieces : List (Piece × ℕ)) (terminals : List Vertex) (num : ℕ → ℕ) (grown : List Piece) : Type 0 where
   pub total : ℕ
   pub joined : (a b : ℕ) → num a ≡ 0 → num b ≡ 0 → WalkBetween s (InPieces grown) a b
   pub light : AreLight pieces grown total
-  pub exchanged : (links : List Link) → IsSpanningTree s pieces terminals links → IsExchanged (InVertices terminals) links (λ u. num u ≡ 0) total
+  pub exchanged : (links : List Link) → AreSpanningLinks s pieces terminals links → IsExchanged (InVertices terminals) links (λ u. num u ≡ 0) total

@@ -1,4 +1,5 @@
 pub mod LightTrees
+pub mod SpanningLinks
 pub mod Exchanges
 pub mod Growths
 pub mod Aheads

@@ -1,9 +1,10 @@
--- Trees that are no heavier than spanning trees by distances.
-use Rattle.std.specs.Prelude.{ℕ, ◌≡◌, ◌≤◌, List, map}
+-- Trees that are no heavier than spanning trees by distances, and at most twice as heavy as least ones.
+use Rattle.std.specs.Prelude.{ℕ, ◌≡◌, ◌*◌, ◌≤◌, List, map}
 use Rattle.grid_base.specs.declared.piece.Piece.{Piece}
 use Rattle.grid_base.specs.declared.size.Size.{Size}
 use Rattle.grid_base.specs.declared.vertex.Vertex.{Vertex}
-use Rattle.grid_base.specs.Walks.{JoinsList}
+use Rattle.grid_base.specs.Walks.{Joins, JoinsList, InVertices}
+use Rattle.grid_graph.specs.Weighed.{IsAllowed}
 use Rattle.label_search.specs.Sets.{IsSetOf, weight}
 use Rattle.shortest_paths.specs.Spanning.{Link, IsSpanningTree, links_weight}
 use Rattle.tree_set.specs.Order.{IsRising}
@@ -17,3 +18,9 @@ pub record IsLightTree (s : Size) (pieces : List (Piece × ℕ)) (terminals : Li
   pub is_set : IsSetOf pieces set
   pub weighs : weight set ≡ total
   pub light : (links : List Link) → IsSpanningTree s pieces terminals links → total ≤ links_weight links
+
+-- the total is at most twice the weight of each set of allowed pieces that joins the terminals, whatever cycles and loose
+-- pieces it has: so a least tree weighs at least half as much (Takahashi and Matsuyama, 1980)
+abbrev pub IsAtMostTwice : Size → List (Piece × ℕ) → List Vertex → ℕ → Type 0
+IsAtMostTwice s pieces terminals total =
+    (set : List (Piece × ℕ)) → IsSetOf pieces set → Joins s (IsAllowed set) (InVertices terminals) → total ≤ 2 * weight set

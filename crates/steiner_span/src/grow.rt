@@ -10,9 +10,10 @@ ghost use Rattle.shortest_paths.specs.LabelWords.{labels_size, masks_of, labels_
 ghost use Rattle.shortest_paths.specs.LedSearches.{HasKey, AreFirst, IsFirst, found_of, work_of};
 ghost use Rattle.label_search.specs.Paths.{NoneWeighsNothing};
 ghost use Rattle.label_search.specs.Searches.{IsRelaxed};
-ghost use Rattle.shortest_paths.specs.Spanning.{Link, IsSpanningTree, links_weight};
+ghost use Rattle.shortest_paths.specs.Spanning.{Link, links_weight};
 ghost use Rattle.label_search.specs.Stamped.{far};
 ghost use Rattle.steiner_span.specs.Growths.{AreKeys, AfterOffer, IsGrowing, IsTaken, FallsTo, FallsOn, RelaxesOn, IsGrown, AreLight};
+ghost use Rattle.steiner_span.specs.SpanningLinks.{AreSpanningLinks};
 
 use crate::ahead::Ahead;
 use crate::nearest::Nearest;
@@ -237,7 +238,7 @@ pub fn grow_tree<W: FlooredWeights>(
     ensures masks { masks_of labels.new ≡ masks_of labels.old }
     ensures allowed { IfOk result (λ grown. (p : Piece) → InPieces grown.items p → IsAllowed (W.pieces weights.now) p) }
     ensures joins { IfOk result (λ grown. JoinsList (W.size weights.now) grown.items terminals.now) }
-    ensures light { IfOk result (λ grown. (links : List Link) → IsSpanningTree (W.size weights.now) (W.pieces weights.now) terminals.now links → AreLight (W.pieces weights.now) grown.items (links_weight links)) }
+    ensures light { IfOk result (λ grown. (links : List Link) → AreSpanningLinks (W.size weights.now) (W.pieces weights.now) terminals.now links → AreLight (W.pieces weights.now) grown.items (links_weight links)) }
 {
     if terminals.len() > FEW {
         let mut ahead = NoBound { weights };
@@ -272,7 +273,7 @@ fn grow_by<W: Weights, A: Ahead>(
     ensures masks { masks_of labels.new ≡ masks_of labels.old }
     ensures allowed { IfOk result (λ grown. (p : Piece) → InPieces grown.items p → IsAllowed (W.pieces weights.now) p) }
     ensures joins { IfOk result (λ grown. JoinsList (W.size weights.now) grown.items terminals.now) }
-    ensures light { IfOk result (λ grown. (links : List Link) → IsSpanningTree (W.size weights.now) (W.pieces weights.now) terminals.now links → AreLight (W.pieces weights.now) grown.items (links_weight links)) }
+    ensures light { IfOk result (λ grown. (links : List Link) → AreSpanningLinks (W.size weights.now) (W.pieces weights.now) terminals.now links → AreLight (W.pieces weights.now) grown.items (links_weight links)) }
 {
     let count = begin(labels, weights, ahead, terminals);
     let mut grown = Vec::new(labels.allocator());

@@ -9,7 +9,7 @@
 //! its caller leads, on `tree_set` for trees, on `grid_graph` for weights, and on `grid_base` for vertices and pieces.
 //!
 //! Promised: the tree is of allowed pieces and joins the terminals, and its weight is at most that of each spanning tree
-//! of the terminals by distances.
+//! of the terminals by distances, and at most twice that of each set of allowed pieces that joins them.
 #![tactic(auto)]
 
 mod ahead;

@@ -1,4 +1,4 @@
-//! A tree that is no heavier than a spanning tree by distances.
+//! A tree that is no heavier than a spanning tree by distances, nor than twice a least tree.
 
 ghost use Rattle.std.specs.Prelude.{◌≡◌, ◌≤◌, IfOk, All, length};
 ghost use Rattle.grid_base.specs.Numbers.{IsVertex};
@@ -6,7 +6,7 @@ ghost use Rattle.grid_base.specs.Walks.{Joins, InVertices};
 ghost use Rattle.grid_graph.specs.Weighed.{IsAllowed};
 ghost use Rattle.shortest_paths.specs.LabelWords.{labels_size, masks_of};
 ghost use Rattle.label_search.specs.Paths.{NoneWeighsNothing};
-ghost use Rattle.steiner_span.specs.LightTrees.{IsLightTree};
+ghost use Rattle.steiner_span.specs.LightTrees.{IsLightTree, IsAtMostTwice};
 
 use crate::grow::grow_tree;
 use crate::weighing::weight_of;
@@ -16,9 +16,10 @@ use shortest_paths::Labels;
 use tree_set::Tree;
 
 /// A tree of allowed pieces that joins the terminals, and its weight, which is at most that of each spanning tree of the
-/// terminals by distances. The labels are those of the weights' size. It takes the nearest terminal into the tree each
-/// time, after Prim, "Shortest connection networks and some generalizations" (1957), where the whole tree so far counts as
-/// reached and not its terminals alone.
+/// terminals by distances, and so at most twice that of each set that joins them. The labels are those of the weights'
+/// size. It takes the nearest terminal into the tree each time, after Prim, "Shortest connection networks and some
+/// generalizations" (1957), where the whole tree so far counts as reached and not its terminals alone. The second bound is
+/// that of Takahashi and Matsuyama, "An approximate solution for the Steiner problem in graphs" (1980).
 pub fn spanning_tree<W: FlooredWeights>(
     weights: &W,
     terminals: &[Vertex],
@@ -30,6 +31,7 @@ pub fn spanning_tree<W: FlooredWeights>(
     requires joined { Joins (W.size weights.now) (IsAllowed (W.pieces weights.now)) (InVertices terminals.now) }
     requires positive { NoneWeighsNothing (W.pieces weights.now) }
     ensures tree { IfOk result (λ found. IsLightTree (W.size weights.now) (W.pieces weights.now) terminals.now found.0 found.1) }
+    ensures twice { IfOk result (λ found. IsAtMostTwice (W.size weights.now) (W.pieces weights.now) terminals.now found.1) }
     ensures size { labels_size labels.new ≡ labels_size labels.old }
     ensures masks { masks_of labels.new ≡ masks_of labels.old }
 {
