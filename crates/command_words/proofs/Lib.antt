@@ -7,3 +7,4 @@ pub mod Commands
 pub mod Rules
 pub mod Found
 pub mod Parts
+pub mod RerouteForms

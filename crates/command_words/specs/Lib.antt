@@ -1,3 +1,4 @@
 pub mod CommandLine
+pub mod RerouteLine
 pub mod Kinds
 pub mod Apps

@@ -4,27 +4,28 @@ ghost use Rattle.std.specs.Prelude.{◌≡◌, ◌&&◌, map, take, drop, false,
 ghost use Rattle.std.specs.List.{list_all, list_any};
 ghost use Rattle.std.specs.Str.{bytes_eq};
 ghost use Rattle.command_words.specs.CommandLine.{all_differ, are_names, are_options, has_shape, in_pairs, is_command};
-ghost use Rattle.command_words.specs.Kinds.{form_of};
+ghost use Rattle.command_words.specs.Kinds.{form_of, verb_form};
 
 use crate::kind::Kind;
+use crate::verb::Verb;
 use crate::word::is_value_word;
 
 /// The command whose shape the words have. Words with no such shape are no command.
-pub(crate) fn kind_of(words: &[String]) -> Option<Kind>
+pub(crate) fn verb_of(words: &[String]) -> Option<Verb>
     ensures { MatchOption result (is_command (map string_bytes words.now) ≡ false)
-        (λ kind. has_shape (form_of kind) (map string_bytes words.now) ≡ true) }
+        (λ verb. has_shape (verb_form verb) (map string_bytes words.now) ≡ true) }
 {
     let (first, rest) = words.split_first()?;
-    let kind = Kind::of(first.as_str())?;
-    if has_parts(kind, rest) {
-        Some(kind)
+    let verb = Verb::of(first.as_str())?;
+    if has_parts(Kind::Grouter(verb), rest) {
+        Some(verb)
     } else {
         None
     }
 }
 
-/// Whether the command's names and its options follow.
-fn has_parts(kind: Kind, words: &[String]) -> bool
+/// Whether the words are names and options of this form.
+pub(crate) fn has_parts(kind: Kind, words: &[String]) -> bool
     ensures { result ≡ (are_names (form_of kind) (take (form_of kind).names (map string_bytes words.now))
         && are_options (form_of kind) (drop (form_of kind).names (map string_bytes words.now))) }
 {
