@@ -8,3 +8,6 @@ pub mod Rules
 pub mod Found
 pub mod Parts
 pub mod RerouteForms
+pub mod MapOptions
+pub mod Layers
+pub mod MapNames

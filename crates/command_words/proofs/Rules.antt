@@ -1,6 +1,6 @@
 -- The options of each command as clap builds them. A command has its place in one table here, and an option in another.
 use Rattle.std.proofs.Common.{◌≡◌, ◌∙◌, ◌++◌, append-nil, append_assoc, ◌<◌, ◌^◌, ◌&&◌, ◌||◌, ℕ, Bool, true, false, not, refl, sym, ap, subst, arith, true≢false, List, [], ◌∷◌, Option, Some, None}
-use Rattle.std.specs.Prelude.{cond, fold, option_and_then}
+use Rattle.std.specs.Prelude.{fold, option_and_then}
 use Rattle.std.specs.List.{AllByRecursion, list_any}
 use Rattle.std.specs.Str.{bytes_eq}
 use Rattle.std.specs.Str.Parse.{digits_value}

@@ -1,18 +1,25 @@
 -- The forms and options that the code knows by name.
-use Rattle.std.specs.Prelude.{ℕ, List, [], ◌∷◌, cond, drop}
+use Rattle.std.specs.Prelude.{ℕ, Bool, List, [], ◌∷◌, cond, drop}
 use Rattle.std.specs.Str.{bytes_eq}
 use Rattle.command_words.specs.declared.kind.Kind.{Kind}
 use Rattle.command_words.specs.declared.kind.Kind.TheVariants.{Grouter, Reroute, RerouteRoutes}
 use Rattle.command_words.specs.declared.verb.Verb.{Verb}
 use Rattle.command_words.specs.declared.verb.Verb.TheVariants.{Route, Measure, Judge, Make, Trial, Guide}
+use Rattle.command_words.specs.declared.name_form.NameForm.{NameForm}
+use Rattle.command_words.specs.declared.name_form.NameForm.TheVariants as names
 use Rattle.command_words.specs.declared.option_name.OptionName.{OptionName}
 use Rattle.command_words.specs.declared.option_name.OptionName.TheVariants.{Workers, Phases, Rounds, Seed, Budget}
 use Rattle.command_words.specs.declared.option_name.OptionName.TheVariants.{Cols, Rows, Layers, Nets, RerouteRounds, Passes}
-use Rattle.command_words.specs.CommandLine.{CommandForm, OptionForm}
+use Rattle.command_words.specs.CommandLine.{CommandForm, OptionForm, is_file_name, is_seed_name}
 use Rattle.command_words.specs.CommandLine.{route_form, measure_form, judge_form, make_form, trial_form, guide_form}
 use Rattle.command_words.specs.CommandLine.{workers_option, phases_option, rounds_option, seed_option, budget_option}
 use Rattle.command_words.specs.CommandLine.{cols_option, rows_option, layers_option, nets_option}
 use Rattle.command_words.specs.RerouteLine.{passes_option, reroute_form, reroute_rounds_option, reroute_routes_form}
+
+-- which words may be a name
+abbrev pub name_test : NameForm → List ℕ → Bool
+name_test names.File word = is_file_name word
+name_test names.Seed word = is_seed_name word
 
 abbrev pub verb_form : Verb → CommandForm
 verb_form Route = route_form

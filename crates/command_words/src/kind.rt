@@ -1,12 +1,12 @@
 //! The forms of words, before they are read.
 
-ghost use Rattle.std.specs.Prelude.{◌≡◌, ◌<◌};
+ghost use Rattle.std.specs.Prelude.{◌≡◌, ◌<◌, ℕ, List};
 ghost use Rattle.command_words.specs.CommandLine.{has_option};
-ghost use Rattle.command_words.specs.Kinds.{form_of, options_of};
+ghost use Rattle.command_words.specs.Kinds.{form_of, name_test, options_of};
 
+use crate::name_form::NameForm;
 use crate::option_name::{OptionName, is_word_among};
 use crate::verb::Verb;
-use crate::word::is_file_name;
 
 /// The form of words: a command of `grouter`, or one of the two forms of `reroute`.
 #[derive(Clone, Copy, Drop)]
@@ -44,13 +44,13 @@ impl Kind {
         }
     }
 
-    /// Whether the word may be a name.
-    pub(crate) fn is_name(self, word: &str) -> bool
-        ensures { result ≡ (form_of self).is_name word.now }
+    /// Which words may be a name.
+    pub(crate) fn name_form(self) -> NameForm
+        ensures { (word : List ℕ) → name_test result word ≡ (form_of self).is_name word }
     {
         match self {
-            Kind::Grouter(verb) => verb.is_name(word),
-            Kind::Reroute | Kind::RerouteRoutes => is_file_name(word),
+            Kind::Grouter(verb) => verb.name_form(),
+            Kind::Reroute | Kind::RerouteRoutes => NameForm::File,
         }
     }
 

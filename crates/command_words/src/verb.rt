@@ -1,12 +1,12 @@
 //! The commands of `grouter`, before their words are read.
 
-ghost use Rattle.std.specs.Prelude.{◌≡◌, ◌<◌, MatchOption, false, true};
+ghost use Rattle.std.specs.Prelude.{◌≡◌, ◌<◌, ℕ, List, MatchOption, false, true};
 ghost use Rattle.std.specs.Str.{bytes_eq};
 ghost use Rattle.command_words.specs.declared.verb.Verb.{Verb};
-ghost use Rattle.command_words.specs.Kinds.{verb_form, verb_options};
+ghost use Rattle.command_words.specs.Kinds.{name_test, verb_form, verb_options};
 
+use crate::name_form::NameForm;
 use crate::option_name::OptionName;
-use crate::word::{is_file_name, seed_of};
 
 /// A command of `grouter`, by its first word.
 #[derive(Clone, Copy, Drop)]
@@ -77,15 +77,13 @@ impl Verb {
         }
     }
 
-    /// Whether the word may be a name of the command.
-    pub(crate) fn is_name(self, word: &str) -> bool
-        ensures { result ≡ (verb_form self).is_name word.now }
+    /// Which words may be a name of the command.
+    pub(crate) fn name_form(self) -> NameForm
+        ensures { (word : List ℕ) → name_test result word ≡ (verb_form self).is_name word }
     {
         match self {
-            Verb::Route | Verb::Measure | Verb::Judge | Verb::Make | Verb::Guide => {
-                is_file_name(word)
-            }
-            Verb::Trial => seed_of(word).is_some(),
+            Verb::Route | Verb::Measure | Verb::Judge | Verb::Make | Verb::Guide => NameForm::File,
+            Verb::Trial => NameForm::Seed,
         }
     }
 }

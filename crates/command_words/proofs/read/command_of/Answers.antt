@@ -1,5 +1,4 @@
-use Rattle.std.proofs.Common.{◌≡◌, List, map, subst, true}
-use Rattle.std.specs.Prelude.{string_bytes}
+use Rattle.std.proofs.Common.{◌≡◌, List, subst, true}
 use Rattle.clap.specs.Words.{Text}
 use Rattle.command_words.specs.CommandLine.{has_shape}
 use Rattle.command_words.specs.Kinds.{verb_form}
