@@ -36,12 +36,6 @@ options_step p ps =
     shuffle (is_map_option p) (list_all is_map_option ps) (not (list_any (bytes_eq p.0) (map (λ given. given.0) ps))) (all_differ (map (λ given. given.0) ps))
     ∙ ap (λ b. is_map_option p && (not b && are_map_options ps)) (sym (is_given p.0 ps))
 
-pub value_step : (word : List ℕ) (p : List ℕ × List ℕ) (ps : List (List ℕ × List ℕ)) → bytes_eq word p.0 ≡ false → given_for word (p ∷ ps) ≡ given_for word ps
-value_step word p ps none = ap (λ b. option_map (λ given. given.1) (cond b (Some p) (find (λ given. bytes_eq word given.0) ps))) none
-
-pub value_here : (word : List ℕ) (p : List ℕ × List ℕ) (ps : List (List ℕ × List ℕ)) → bytes_eq word p.0 ≡ true → given_for word (p ∷ ps) ≡ Some p.1
-value_here word p ps here = ap (λ b. option_map (λ given. given.1) (cond b (Some p) (find (λ given. bytes_eq word given.0) ps))) here
-
 -- an option that is known and not given again says nothing against the others
 pub passed : (all : List (List ℕ × List ℕ)) (p : List ℕ × List ℕ) (ps : List (List ℕ × List ℕ)) → all ≡ p ∷ ps → is_map_option p ≡ true
     → is_some (given_for p.0 ps) ≡ false → are_map_options all ≡ are_map_options ps
