@@ -1,6 +1,6 @@
 -- Lists in which an element is put back.
-use Rattle.std.proofs.Common.{◌≡◌, ℕ, zero, suc, List, [], ◌∷◌, get_or, refl, sym, ◌∙◌, ap, subst, arith, ⊎_elim, Option, Some}
-use Rattle.std.specs.Prelude.{slice_set}
+use Rattle.std.proofs.Common.{◌≡◌, ℕ, zero, suc, List, [], ◌∷◌, get_or, refl, sym, ◌∙◌, ap, subst, arith, ⊎_elim, Option, Some, None}
+use Rattle.std.specs.Prelude.{slice_set, unwrap_or}
 use Rattle.std.proofs.lemmas.Bool.{cases_eq}
 use Rattle.std.proofs.lemmas.List.{get_or-set_same, get_or-set_other, length-set}
 use Rattle.std.proofs.lemmas.Option.{get_or_from_slice_get, slice_get-get_or, slice_get_within}
@@ -24,3 +24,8 @@ saved_more {X = X} P saved k o all new j x at =
     let was : get_or saved j o ≡ Some x = sym (get_or-set_other saved k j o o (λ same. other (sym same))) ∙ is in
     all j x (slice_get-get_or saved j o (omega (arith, within, length-set saved k o)) ∙ ap (λ (s : Option X). Some s) was))
     (cases_eq k j)
+
+-- what holds of what is saved, and of another, holds of what is saved or else the other
+pub or_saved : {X : Type 0} (P : X → Type 0) (o : Option X) (x : X) → ((y : X) → o ≡ Some y → P y) → P x → P (unwrap_or o x)
+or_saved P (Some y) x some other = some y refl
+or_saved P None x some other = other

@@ -4,29 +4,16 @@ use Rattle.std.specs.Prelude.{slice_set, unwrap_or}
 use Rattle.grid_base.specs.declared.piece.Piece.{Piece}
 use Rattle.routing_state.specs.Best.{best_sets}
 
--- the first change of a net's set, whose old one is saved, leaves the best
+-- a set is changed, and the one that the net had is saved where none is yet: the best stays
 pub best_sets-saved : (saved : List (Option (List Piece))) (now : List (List Piece)) (k : ℕ) (o : Option (List Piece)) (old new : List Piece) → k < length saved → k < length now
-    → get_or saved k o ≡ None → get_or now k old ≡ old → best_sets (slice_set saved k (Some old)) (slice_set now k new) ≡ best_sets saved now
-best_sets-saved [] now k o old new in_saved in_now none is = absurd (omega (arith, in_saved))
-best_sets-saved (s ∷ saved) [] k o old new in_saved in_now none is = absurd (omega (arith, in_now))
-best_sets-saved (s ∷ saved) (t ∷ now) zero o old new in_saved in_now none is = ap (λ (u : List Piece). u ∷ best_sets saved now) (sym is ∙ ap (λ (v : Option (List Piece)). unwrap_or v t) (sym none))
-best_sets-saved (s ∷ saved) (t ∷ now) (suc k) o old new in_saved in_now none is =
-    ap (λ (us : List (List Piece)). unwrap_or s t ∷ us) (best_sets-saved saved now k o old new (omega (arith, in_saved)) (omega (arith, in_now)) none is)
+    → get_or now k old ≡ old → best_sets (slice_set saved k (Some (unwrap_or (get_or saved k o) old))) (slice_set now k new) ≡ best_sets saved now
+best_sets-saved [] now k o old new in_saved in_now is = absurd (omega (arith, in_saved))
+best_sets-saved (s ∷ saved) [] k o old new in_saved in_now is = absurd (omega (arith, in_now))
+best_sets-saved (s ∷ saved) (t ∷ now) zero o old new in_saved in_now is = ap (λ (u : List Piece). unwrap_or s u ∷ best_sets saved now) (sym is)
+best_sets-saved (s ∷ saved) (t ∷ now) (suc k) o old new in_saved in_now is =
+    ap (λ (us : List (List Piece)). unwrap_or s t ∷ us) (best_sets-saved saved now k o old new (omega (arith, in_saved)) (omega (arith, in_now)) is)
 
-same_saved : (s : Option (List Piece)) (t new : List Piece) → (s ≡ None → ⊥) → unwrap_or s new ≡ unwrap_or s t
-same_saved (Some u) t new some = refl
-same_saved None t new some = absurd (some refl)
-
--- and so does a later one
-pub best_sets-changed : (saved : List (Option (List Piece))) (now : List (List Piece)) (k : ℕ) (o : Option (List Piece)) (new : List Piece) → k < length saved
-    → (get_or saved k o ≡ None → ⊥) → best_sets saved (slice_set now k new) ≡ best_sets saved now
-best_sets-changed [] now k o new in_saved some = absurd (omega (arith, in_saved))
-best_sets-changed (s ∷ saved) [] k o new in_saved some = refl
-best_sets-changed (s ∷ saved) (t ∷ now) zero o new in_saved some = ap (λ (u : List Piece). u ∷ best_sets saved now) (same_saved s t new some)
-best_sets-changed (s ∷ saved) (t ∷ now) (suc k) o new in_saved some =
-    ap (λ (us : List (List Piece)). unwrap_or s t ∷ us) (best_sets-changed saved now k o new (omega (arith, in_saved)) some)
-
--- a saved set that is put back, too
+-- a saved set is put back: the best stays
 pub best_sets-put_back : (saved : List (Option (List Piece))) (now : List (List Piece)) (k : ℕ) (o : Option (List Piece)) (tree : List Piece) → k < length saved
     → get_or saved k o ≡ Some tree → best_sets (slice_set saved k None) (slice_set now k tree) ≡ best_sets saved now
 best_sets-put_back [] now k o tree in_saved some = absurd (omega (arith, in_saved))

@@ -1,5 +1,7 @@
 //! Sets that are being changed, and the best that they were.
 
+ghost use Rattle.std.specs.Prelude.{◌≡◌, Some, unwrap_or};
+
 use crate::state::RoutingState;
 use crate::totals::Totals;
 use grid_base::NoMemory;
@@ -65,9 +67,7 @@ impl Rerouting {
         ensures totals { self.new.best ≡ self.old.best }
     {
         let before = self.state.exchange(design, net, tree);
-        if self.saved[net].is_none() {
-            self.saved[net] = Some(before);
-        }
+        save(&mut self.saved[net], before);
     }
 
     /// What is now is the best where it is better: whether it is.
@@ -125,5 +125,14 @@ impl Rerouting {
         if let Some(tree) = self.saved[net].take() {
             self.state.exchange(design, net, tree);
         }
+    }
+}
+
+/// Saves the set where none is saved yet.
+fn save(saved: &mut Option<Tree>, before: Tree)
+    ensures { saved.new ≡ Some (unwrap_or saved.old before) }
+{
+    if saved.is_none() {
+        *saved = Some(before);
     }
 }
