@@ -1,102 +1,110 @@
-//! Net bounds by tiles.
+//! Net bounds, found class by class.
 
+ghost use Rattle.std.specs.Prelude.{◌≡◌, ◌<◌, ◌^◌, length};
+ghost use Rattle.std.specs.List.{sum};
+
+use crate::bound_labels::BoundLabels;
+use crate::class_order::ClassedNet;
 use crate::priced::Priced;
-use grid_base::NoMemory;
+use grid_base::{NoMemory, Size};
 use lower_bound::ClassCosts;
 use shortest_paths::Labels;
 use std::alloc::Global;
+use steiner_exact::TreeLabels;
 use steiner_tables::ROOTED_MASKS;
 
+/// The sum of numbers.
+fn total_of(numbers: &[u64]) -> u128
+    requires { length numbers.now < 2 ^ 64 }
+    ensures { result ≡ sum numbers.now }
+{
+    let mut total: u128 = 0;
+    for number in numbers {
+        total += u128::from(*number);
+    }
+    total
+}
+
 impl Priced<'_> {
-    ghost use Rattle.std.specs.Prelude.{◌≡◌, ◌≤◌, ◌<◌, length, IfOk};
+    ghost use Rattle.std.specs.Prelude.{◌≡◌, ◌+◌, ◌≤◌, ◌<◌, All, length, IfOk};
     ghost use Rattle.std.specs.List.{slice_range};
     ghost use Rattle.grid_base.specs.Limits.{max_vertices};
     ghost use Rattle.grid_base.specs.Lists.{At};
     ghost use Rattle.grid_graph.specs.declared.net_spec.NetSpec.{NetSpec};
-    ghost use Rattle.shortest_paths.specs.LabelWords.{labels_size, masks_of};
-    ghost use Rattle.steiner_tables.specs.Masks.{rooted_masks};
-    ghost use Rattle.edge_prices.specs.Budgets.{price_per_piece};
+    ghost use Rattle.grid_graph.specs.Flat.{IsFlatOf};
+    ghost use Rattle.grid_graph.specs.Grids.{size_of};
+    ghost use Rattle.lower_bound.specs.declared.class_costs.ClassCosts.{ClassCosts as Class};
     ghost use Rattle.lower_bound.specs.ClassWords.{tiles_size};
-    ghost use Rattle.dual_bound.specs.Classes.{IsClassOf};
+    ghost use Rattle.dual_bound.specs.Classes.{IsClassOf, ServesClass};
+    ghost use Rattle.dual_bound.specs.ClassOrders.{IsPlaceOf, HasBoundOf};
     ghost use Rattle.dual_bound.specs.DesignBounds.{IsBoundOfNet};
-    ghost use Rattle.dual_bound.specs.Limits.{max_net_bound};
     ghost use Rattle.dual_bound.specs.Parts.{priced_grid, priced_nets, HasGrounds, IsSumOver};
 
-    /// The net bound of the net at a place, by what its class pays between tiles.
-    fn bound_by_tiles(
+    /// The net bound of the net at a place, by what its class pays.
+    fn bound_of_class(
         &self,
         alloc: Global,
         place: usize,
         costs: &mut ClassCosts<'_>,
-        labels: &mut Labels,
+        labels: &mut BoundLabels,
     ) -> Result<u64, NoMemory>
         requires grounds { HasGrounds self.now }
-        requires free { price_per_piece self.now.budget ≡ 0 }
         requires place { place < length (priced_nets self.now) }
         requires costs { IsClassOf self.now costs.old }
-        requires labels { labels_size labels.old ≡ tiles_size costs.old }
-        requires room { rooted_masks ≤ masks_of labels.old }
+        requires labels { ServesClass self.now costs.old labels.old }
         ensures bound { IfOk result (λ b. (n : NetSpec) → At (priced_nets self.now) place n → IsBoundOfNet (priced_grid self.now) self.now.prices.now self.now.budget n b) }
-        ensures limit { IfOk result (λ b. b ≤ max_net_bound) }
         ensures costs { IsClassOf self.now costs.new }
-        ensures tiles { tiles_size costs.new ≡ tiles_size costs.old }
-        ensures size { labels_size labels.new ≡ labels_size labels.old }
-        ensures masks { masks_of labels.new ≡ masks_of labels.old }
+        ensures labels { ServesClass self.now costs.new labels.new }
     {
-        let nets = self.design.nets.list();
-        let net = &nets[place];
+        let net = &self.design.nets.list()[place];
         costs.renew(net.width, self.grounds[place]);
-        costs.net_bound(alloc, net, labels)
+        match labels {
+            BoundLabels::Tiles(labels) => costs.net_bound(alloc, net, labels),
+            BoundLabels::Trees(labels) => {
+                costs.net_bound_with(alloc, net, self.per_piece(), labels)
+            }
+        }
     }
 
-    /// The sum of the net bounds from a place up to another.
-    fn sum_by_tiles(
+    /// Writes the net bounds of these nets, each at the place that it has behind the first one's.
+    fn write_bounds(
         &self,
         alloc: Global,
+        nets: &[ClassedNet],
         from: usize,
-        to: usize,
+        bounds: &mut [u64],
         costs: &mut ClassCosts<'_>,
-        labels: &mut Labels,
-    ) -> Result<u128, NoMemory>
+        labels: &mut BoundLabels,
+    ) -> Result<(), NoMemory>
         requires grounds { HasGrounds self.now }
-        requires free { price_per_piece self.now.budget ≡ 0 }
-        requires order { from ≤ to }
-        requires inside { to ≤ length (priced_nets self.now) }
+        requires inside { from + length bounds.old ≤ length (priced_nets self.now) }
+        requires places { All (IsPlaceOf from (from + length bounds.old)) nets.now }
         requires costs { IsClassOf self.now costs.old }
-        requires labels { labels_size labels.old ≡ tiles_size costs.old }
-        requires room { rooted_masks ≤ masks_of labels.old }
-        ensures { IfOk result (IsSumOver self.now (slice_range (priced_nets self.now) from to)) }
+        requires labels { ServesClass self.now costs.old labels.old }
+        ensures long { length bounds.new ≡ length bounds.old }
+        ensures bounds { IfOk result (λ _. All (HasBoundOf self.now from bounds.new) nets.now) }
     {
-        let mut total: u128 = 0;
-        for place in from..to {
-            total += u128::from(self.bound_by_tiles(alloc, place, costs, labels)?);
+        for net in nets {
+            let place = net.place as usize;
+            bounds[place - from] = self.bound_of_class(alloc, place, costs, labels)?;
         }
-        Ok(total)
+        Ok(())
     }
 
-    /// The same with costs and labels of its own, which are of the flat grid alone.
-    fn sum_on_tiles(&self, alloc: Global, from: usize, to: usize) -> Result<u128, NoMemory>
-        requires grounds { HasGrounds self.now }
-        requires free { price_per_piece self.now.budget ≡ 0 }
-        requires some { from < to }
-        requires inside { to ≤ length (priced_nets self.now) }
-        ensures { IfOk result (IsSumOver self.now (slice_range (priced_nets self.now) from to)) }
+    /// Labels for the searches of a class with this flat grid.
+    fn labels_for(&self, alloc: Global, flat: Size) -> Result<BoundLabels, NoMemory>
+        ensures { IfOk result (λ labels. (c : Class) → tiles_size c ≡ flat → ServesClass self.now c labels) }
     {
-        let nets = self.design.nets.list();
-        let mut costs = ClassCosts::new(
-            alloc,
-            &self.design.grid,
-            nets[from].width,
-            self.grounds[from],
-            self.prices,
-        )?;
-        let mut labels = Labels::new(alloc, costs.size(), ROOTED_MASKS)?;
-        self.sum_by_tiles(alloc, from, to, &mut costs, &mut labels)
+        if self.per_piece() > 0 {
+            let labels = TreeLabels::new(alloc, self.design.grid.size())?;
+            return Ok(BoundLabels::Trees(labels));
+        }
+        Ok(BoundLabels::Tiles(Labels::new(alloc, flat, ROOTED_MASKS)?))
     }
 
     /// The sum of the net bounds from a place up to another. Nothing is made where there is no net. Where a piece alone
-    /// costs something, vias do, and the searches are on the grid.
-    pub fn sum_between_with(&self, alloc: Global, from: usize, to: usize) -> Result<u128, NoMemory>
+    /// costs something, vias do, and the searches are on the grid; else they are on the flat grid alone.
+    pub fn sum_between(&self, alloc: Global, from: usize, to: usize) -> Result<u128, NoMemory>
         requires grounds { HasGrounds self.now }
         requires order { from ≤ to }
         requires inside { to ≤ length (priced_nets self.now) }
@@ -105,10 +113,25 @@ impl Priced<'_> {
         if from == to {
             return Ok(0);
         }
-        if self.per_piece() > 0 {
-            return self.sum_on_grid(alloc, from, to);
-        }
-        self.sum_on_tiles(alloc, from, to)
+        let nets = self.nets_by_class(alloc, from, to)?;
+        let mut costs = ClassCosts::new(
+            alloc,
+            &self.design.grid,
+            self.design.nets.list()[from].width,
+            self.grounds[from],
+            self.prices,
+        )?;
+        let mut labels = self.labels_for(alloc, costs.size())?;
+        let mut bounds = vec![in alloc; 0; to - from]?;
+        self.write_bounds(
+            alloc,
+            nets.as_slice(),
+            from,
+            bounds.as_mut_slice(),
+            &mut costs,
+            &mut labels,
+        )?;
+        Ok(total_of(bounds.as_slice()))
     }
 
     /// Of how many vertices the labels of a part are.
