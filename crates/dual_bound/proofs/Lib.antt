@@ -1,5 +1,6 @@
 pub mod Bounding
 pub mod CapacityCosts
+pub mod ClassOrders
 pub mod Closed
 pub mod Duality
 pub mod Entries

@@ -82,11 +82,6 @@ net_bound-within g prices budget n bound most below is =
     let few : length f.kept ≤ 8388607 = omega (arith, f.count, f.below 0 first, s.within.vertex_limit) in
     omega (arith, low, light, mul-le-mul_right most few)
 
-pub net_bound-limit : (g : Grid) (prices : List ℕ) (budget : Option Budget) (n : NetSpec) (bound : ℕ) → ArePricesWith g prices budget → IsNetWidth g n.width
-    → IsBoundOfNet g prices budget n bound → bound ≤ max_net_bound
-net_bound-limit g prices budget n bound are wide is =
-    net_bound-within g prices budget n bound max_piece_cost (λ over p allowed. piece-limit g prices budget n.width over p are wide allowed) is
-
 -- so is a sum of them
 sum-within : (g : Grid) (prices : List ℕ) (budget : Option Budget) (nets : List NetSpec) (bounds : List ℕ) (most : ℕ)
     → ((width : ℕ) (over : Ground) (p : Piece) → IsNetWidth g width → Allows g over p → cost g width prices p + price_per_piece budget ≤ most)

@@ -1,7 +1,7 @@
 -- The nets of a design and their grounds, by place.
-use Rattle.std.proofs.Common.{◌≡◌, ℕ, zero, suc, ◌+◌, ◌-◌, ◌<◌, All, List, [], ◌∷◌, length, take, drop, get_or, Some, refl, sym, ◌∙◌, ap, arith}
-use Rattle.std.specs.List.{AllZip, slice_range}
-use Rattle.std.proofs.lemmas.Option.{same_Some, slice_get-get_or}
+use Rattle.std.proofs.Common.{◌≡◌, ℕ, suc, ◌<◌, All, List, [], ◌∷◌, length, get_or, Some, refl, sym, ◌∙◌, ap, arith}
+use Rattle.std.specs.List.{AllZip}
+use Rattle.std.proofs.lemmas.Option.{slice_get-get_or}
 use Rattle.grid_base.specs.Lists.{At}
 use Rattle.grid_base.proofs.Lists.{AllZip-at}
 use Rattle.grid_base.specs.Numbers.{IsVertex}
@@ -17,20 +17,6 @@ AllZip-length R [] [] all = refl
 AllZip-length R [] (b ∷ ys) all = absurd all
 AllZip-length R (a ∷ xs) [] all = absurd all
 AllZip-length R (a ∷ xs) (b ∷ ys) all = ap suc (AllZip-length R xs ys all.1)
-
--- there is something at each place
-pub standing : {X : Type 0} (xs : List X) (k : ℕ) → k < length xs → (x : X) × At xs k x
-standing [] k within = absurd (omega (arith, within))
-standing (x ∷ xs) zero within = (x, refl)
-standing (x ∷ xs) (suc k) within = standing xs k (omega (arith, within))
-
-take_one : {X : Type 0} (xs : List X) (k : ℕ) (x : X) → At xs k x → take 1 (drop k xs) ≡ x ∷ []
-take_one [] k x at = cc
-take_one (y ∷ xs) zero x at = ap (λ z. z ∷ []) (same_Some _ _ at)
-take_one (y ∷ xs) (suc k) x at = take_one xs k x at
-
-pub slice_range-one : {X : Type 0} (xs : List X) (k : ℕ) (x : X) → At xs k x → slice_range xs k (k + 1) ≡ x ∷ []
-slice_range-one xs k x at = let one : k + 1 - k ≡ 1 = omega arith in ap (λ n. take n (drop k xs)) one ∙ take_one xs k x at
 
 pub net_width : (d : Design) (k : ℕ) (n : NetSpec) → At d.nets k n → IsNetWidth d.grid n.width
 net_width d k n at = (d.limits.net k n at).width

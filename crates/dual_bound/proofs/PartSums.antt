@@ -1,5 +1,5 @@
 -- Sums of net bounds, part after part.
-use Rattle.std.proofs.Common.{◌≡◌, ℕ, zero, suc, ◌+◌, ◌-◌, ◌≤◌, Option, List, [], ◌∷◌, ◌++◌, length, map, take, drop, Result, Ok, Err, IfOk, MatchResult, sum, refl, sym, ◌∙◌, ap, subst, arith, zero-add}
+use Rattle.std.proofs.Common.{◌≡◌, ℕ, zero, suc, ◌+◌, ◌-◌, ◌≤◌, Option, List, [], ◌∷◌, ◌++◌, map, take, drop, Result, Ok, Err, IfOk, MatchResult, sum, refl, sym, ◌∙◌, ap, subst, arith, zero-add}
 use Rattle.std.specs.List.{AllZip, range_with_len, slice_range}
 use Rattle.std.proofs.Math.Seq.{take-add}
 use Rattle.std.proofs.lemmas.List.{drop-drop}
@@ -20,9 +20,6 @@ module _ (g : Grid) (prices : List ℕ) (budget : Option Budget) where
     each = AllZip-append (IsBoundOfNet g prices budget) one other a.bounds b.bounds a.each b.each;
     sums = omega (arith, a.sums, b.sums, sum_by-append (λ (n : ℕ). n) a.bounds b.bounds);
   }
-
-  pub one_sum : (n : NetSpec) (bound : ℕ) → IsBoundOfNet g prices budget n bound → IsSumOfBounds g prices budget (n ∷ []) bound
-  one_sum n bound is = record { bounds = bound ∷ []; each = (is, tt); sums = omega (arith, sum_by-cons (λ (x : ℕ). x) bound []) }
 
 pub slice_range-join : {X : Type 0} (xs : List X) (a b c : ℕ) → a ≤ b → b ≤ c → slice_range xs a b ++ slice_range xs b c ≡ slice_range xs a c
 slice_range-join xs a b c low high =

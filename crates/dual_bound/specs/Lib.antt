@@ -11,4 +11,5 @@ pub mod LeastOverflow
 pub mod Limits
 pub mod Parts
 pub mod Prices
+pub mod ClassOrders
 pub mod Classes

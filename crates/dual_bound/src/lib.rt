@@ -22,12 +22,14 @@
 
 #![tactic(auto)]
 
+mod bound_labels;
+mod class_order;
 mod design_bound;
 mod laws;
+mod net_bounds;
 mod numerator;
 mod priced;
 mod shown;
-mod tiles;
 
 pub use design_bound::bound;
 pub use laws::{prices_show_overflow, weak_duality};

@@ -38,7 +38,7 @@ fn sum_of_part(alloc: Global, priced: &Priced, parts: usize, part: usize) -> Res
     let nets = priced.design.nets.list().len();
     let from = part_start(parts, nets, part);
     let to = part_start(parts, nets, part + 1);
-    priced.sum_between_with(alloc, from, to)
+    priced.sum_between(alloc, from, to)
 }
 
 /// The sums of the net bounds of the parts, from as many threads as `rayon` takes.

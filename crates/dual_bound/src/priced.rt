@@ -2,12 +2,8 @@
 
 ghost use Rattle.dual_bound.specs.Prices.{ArePricesWith};
 
-use grid_base::{Edge, NoMemory};
+use grid_base::Edge;
 use grid_graph::{Design, Ground};
-use lower_bound::net_bound;
-use shortest_paths::Labels;
-use std::alloc::Global;
-use steiner_tables::ROOTED_MASKS;
 use tree_set::Budget;
 
 /// A design with the grounds of its nets, at a price list.
@@ -21,20 +17,14 @@ pub(crate) struct Priced<'a> {
 }
 
 impl Priced<'_> {
-    ghost use Rattle.std.specs.Prelude.{◌≡◌, ◌+◌, ◌-◌, ◌*◌, ◌≤◌, ◌<◌, ◌^◌, ℕ, length, slice_index, unwrap_or, IfOk};
-    ghost use Rattle.std.specs.List.{slice_range};
-    ghost use Rattle.grid_base.specs.Lists.{At};
-    ghost use Rattle.grid_graph.specs.declared.net_spec.NetSpec.{NetSpec};
+    ghost use Rattle.std.specs.Prelude.{◌≡◌, ◌*◌, ◌≤◌, slice_index, unwrap_or};
     ghost use Rattle.grid_graph.specs.Grids as grids;
     ghost use Rattle.grid_graph.specs.Grids.{IsEdgeNumber};
     ghost use Rattle.edge_prices.specs.Limits.{max_price};
-    ghost use Rattle.shortest_paths.specs.LabelWords.{labels_size, masks_of};
-    ghost use Rattle.steiner_tables.specs.Masks.{rooted_masks};
     ghost use Rattle.edge_prices.specs.Budgets.{price_per_piece, most_of};
     ghost use Rattle.fractions.specs.Limits.{max_denominator};
-    ghost use Rattle.dual_bound.specs.DesignBounds.{IsBoundOfNet};
-    ghost use Rattle.dual_bound.specs.Limits.{max_net_bound, max_edge_cost, max_wirelength_cost};
-    ghost use Rattle.dual_bound.specs.Parts.{priced_grid, priced_nets, HasGrounds, IsSumOver};
+    ghost use Rattle.dual_bound.specs.Limits.{max_edge_cost, max_wirelength_cost};
+    ghost use Rattle.dual_bound.specs.Parts.{priced_grid};
     ghost use Rattle.dual_bound.specs.Prices as words;
 
     /// The price of each piece.
@@ -78,54 +68,5 @@ impl Priced<'_> {
             total += self.edge_cost(Edge(e));
         }
         total
-    }
-
-    /// The net bound of the net at a place.
-    fn bound_of_net(&self, place: usize, labels: &mut Labels) -> u64
-        requires grounds { HasGrounds self.now }
-        requires place { place < length (priced_nets self.now) }
-        requires labels { labels_size labels.old ≡ grids.size_of (priced_grid self.now) }
-        requires room { rooted_masks ≤ masks_of labels.old }
-        ensures bound { (n : NetSpec) → At (priced_nets self.now) place n → IsBoundOfNet (priced_grid self.now) self.now.prices.now self.now.budget n result }
-        ensures limit { result ≤ max_net_bound }
-        ensures size { labels_size labels.new ≡ labels_size labels.old }
-        ensures masks { masks_of labels.new ≡ masks_of labels.old }
-    {
-        let nets = self.design.nets.list();
-        net_bound(
-            &self.design.grid,
-            &nets[place],
-            self.grounds[place],
-            self.prices,
-            self.per_piece(),
-            labels,
-        )
-    }
-
-    /// The sum of the net bounds from a place up to another.
-    fn sum_between(&self, from: usize, to: usize, labels: &mut Labels) -> u128
-        requires grounds { HasGrounds self.now }
-        requires order { from ≤ to }
-        requires inside { to ≤ length (priced_nets self.now) }
-        requires labels { labels_size labels.old ≡ grids.size_of (priced_grid self.now) }
-        requires room { rooted_masks ≤ masks_of labels.old }
-        ensures { IsSumOver self.now (slice_range (priced_nets self.now) from to) result }
-    {
-        let mut total: u128 = 0;
-        for place in from..to {
-            total += u128::from(self.bound_of_net(place, labels));
-        }
-        total
-    }
-
-    /// The same with labels of its own.
-    pub fn sum_on_grid(&self, alloc: Global, from: usize, to: usize) -> Result<u128, NoMemory>
-        requires grounds { HasGrounds self.now }
-        requires order { from ≤ to }
-        requires inside { to ≤ length (priced_nets self.now) }
-        ensures { IfOk result (IsSumOver self.now (slice_range (priced_nets self.now) from to)) }
-    {
-        let mut labels = Labels::new(alloc, self.design.grid.size(), ROOTED_MASKS)?;
-        Ok(self.sum_between(from, to, &mut labels))
     }
 }

@@ -6,6 +6,7 @@ pub mod Costed
 mod AtRoot
 mod HalvesOf
 mod Mapped
+mod LedWeights
 mod Filling
 mod Farthest
 pub mod LowBounds

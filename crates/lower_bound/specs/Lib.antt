@@ -2,6 +2,7 @@ pub mod ClassWords
 pub mod Costs
 pub mod HalfWords
 pub mod KeptCosts
+pub mod LedWeights
 pub mod Moats
 pub mod NetBounds
 pub mod Raised

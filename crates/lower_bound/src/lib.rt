@@ -35,9 +35,11 @@ mod kept_halves;
 mod kept_least;
 mod laws;
 mod least;
+mod led;
 mod representatives;
 mod spread;
 mod tile_costs;
+mod tree_bounds;
 
 pub use bounds::net_bound;
 pub use class_costs::ClassCosts;
