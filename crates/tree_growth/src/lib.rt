@@ -11,10 +11,28 @@
 //! Promised: what is found keeps to the ground and joins the net's terminals. That it is cheap is measured, not promised.
 #![tactic(auto)]
 
+mod bound;
+mod bucket_queue;
+mod directions;
+mod entry;
+mod fewest_vias;
 mod field;
+mod frame;
+mod growing;
+mod grown;
 mod growth;
+mod label;
+mod labels;
 mod landmark;
+mod layers;
+mod plan;
+mod road;
+mod search;
+mod side;
+mod site;
 mod stage;
+mod target;
+mod weights;
 
 pub use field::Field;
 pub use growth::Growth;
