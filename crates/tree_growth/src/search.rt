@@ -42,8 +42,6 @@ impl View<'_, '_, '_> {
 pub(crate) struct Search {
     pub(crate) labels: Labels,
     queue: BucketQueue,
-    /// What is still to go at least where the search begins: keys count from here.
-    base: u64,
 }
 
 impl Search {
@@ -52,7 +50,6 @@ impl Search {
         Ok(Search {
             labels: Labels::new(alloc, grid)?,
             queue: BucketQueue::new(alloc)?,
-            base: 0,
         })
     }
 
@@ -65,7 +62,6 @@ impl Search {
     ) -> Result<Option<Site>, NoMemory> {
         self.labels.begin();
         self.queue.clear();
-        self.base = least_rest(view, sources);
         for source in sources {
             if view.frame.has(*source) {
                 self.lower(view, source, 0, Side::Up)?;
@@ -196,18 +192,7 @@ impl Search {
         back: Side,
     ) -> Result<(), NoMemory> {
         self.labels.lower(to.label, cost, back);
-        let key = cost.saturating_add(view.rest(to)).saturating_sub(self.base);
+        let key = cost.saturating_add(view.rest(to));
         self.queue.push(key, *to)
     }
-}
-
-/// What is still to go at least from the sources.
-fn least_rest(view: &View<'_, '_, '_>, sources: &[Site]) -> u64 {
-    let mut least = u64::MAX;
-    for source in sources {
-        if view.frame.has(*source) {
-            least = least.min(view.rest(source));
-        }
-    }
-    least
 }
