@@ -29,7 +29,10 @@ impl Port {
     pub fn is_output(self) -> bool
         ensures { result ≡ is_output self }
     {
-        matches!(self, Port::RoutesOut | Port::CertOut | Port::DesignOut | Port::GuideOut | Port::MapOut)
+        matches!(
+            self,
+            Port::RoutesOut | Port::CertOut | Port::DesignOut | Port::GuideOut | Port::MapOut
+        )
     }
 
     /// The place of this port among the nine.
