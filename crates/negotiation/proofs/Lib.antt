@@ -1,0 +1,4 @@
+pub mod Found
+pub mod Changes
+pub mod Steps
+pub mod Outcome

@@ -1,0 +1,5 @@
+use Rattle.negotiation.proofs.Steps.{improved_itself}
+use Rattle.negotiation.proofs.descending.run_passes.Goals as goal
+
+pub loop-pass-init : goal.loop-pass-init
+loop-pass-init g c = record { improved = improved_itself c.args.design.now c.args.state.now c.requires.state; tools = c.requires.tools }

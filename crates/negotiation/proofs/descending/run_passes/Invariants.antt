@@ -1,0 +1,10 @@
+use Rattle.negotiation.specs.Steps.{IsImproved}
+use Rattle.negotiation.specs.Tools.{AreToolsFor}
+use Rattle.negotiation.proofs.descending.run_passes.Given as goal
+
+-- passes so far made nothing worse
+abbrev pub invariant-loop-pass : goal.invariant-loop-pass
+invariant-loop-pass g l = record {
+  improved : IsImproved l.design l.initial.state l.state;
+  tools : AreToolsFor l.design l.tools;
+}

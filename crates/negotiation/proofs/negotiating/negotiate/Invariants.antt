@@ -1,0 +1,15 @@
+use Rattle.std.proofs.Common.{◌≤◌, ◌-◌}
+use Rattle.negotiation.specs.Steps.{IsNegotiated}
+use Rattle.negotiation.specs.Tools.{AreToolsFor}
+use Rattle.negotiation.proofs.negotiating.negotiate.Given as goal
+
+-- rounds so far changed what is now and what is best
+abbrev pub invariant-rounds : goal.invariant-rounds
+invariant-rounds g l = record {
+  negotiated : IsNegotiated l.design l.fn.state l.rerouting;
+  tools : AreToolsFor l.design l.tools;
+  within : l.done ≤ l.rounds;
+}
+
+abbrev pub decreases-rounds : goal.decreases-rounds
+decreases-rounds g l = l.rounds - l.done

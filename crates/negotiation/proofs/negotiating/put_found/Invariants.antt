@@ -1,0 +1,12 @@
+use Rattle.negotiation.specs.Searches.{AreFound}
+use Rattle.negotiation.specs.Steps.{KeepsBest}
+use Rattle.negotiation.specs.Tools.{AreToolsFor}
+use Rattle.negotiation.proofs.negotiating.put_found.Given as goal
+
+-- the nets so far have what was found, which was taken out of the list
+abbrev pub invariant-loop-i : goal.invariant-loop-i
+invariant-loop-i l = record {
+  kept : KeepsBest l.design l.initial.rerouting l.rerouting;
+  tools : AreToolsFor l.design l.tools;
+  found : AreFound l.design l.nets l.found.items;
+}

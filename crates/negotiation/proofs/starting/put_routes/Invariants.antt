@@ -1,0 +1,11 @@
+use Rattle.std.proofs.Common.{take}
+use Rattle.negotiation.specs.Searches.{AreFound}
+use Rattle.negotiation.specs.Steps.{IsRenewed}
+use Rattle.negotiation.proofs.starting.put_routes.Given as goal
+
+-- the nets so far have routes, and what was found was taken out of the list
+abbrev pub invariant-loop-i : goal.invariant-loop-i
+invariant-loop-i l = record {
+  renewed : IsRenewed l.design (take l.i l.nets) l.initial.state l.state;
+  found : AreFound l.design l.nets l.found.items;
+}

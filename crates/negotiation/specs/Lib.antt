@@ -1,0 +1,14 @@
+pub use Rattle.grid_graph.specs.Grounds
+pub use Rattle.tree_set.specs.Loads
+pub use Rattle.tree_set.specs.Measures
+pub use Rattle.tree_set.specs.Routings
+pub use Rattle.routing_state.specs.States
+pub use Rattle.routing_state.specs.Totals
+pub mod Changes
+pub mod Given
+pub mod Limits
+pub mod Rerouted
+pub mod Searches
+pub mod Settings
+pub mod Steps
+pub mod Tools

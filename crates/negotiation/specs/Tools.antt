@@ -1,0 +1,13 @@
+-- What rerouting works with beside the sets.
+use Rattle.std.specs.Prelude.{◌≡◌, ◌<◌, length}
+use Rattle.grid_graph.specs.declared.design.Design.{Design}
+use Rattle.grid_graph.specs.Grids.{edge_numbers}
+use Rattle.negotiation.specs.declared.tools.Tools.{Tools}
+
+-- there is a worker, a reach and a margin for each net, a price for each edge number, and room for a net in a batch
+pub record AreToolsFor (d : Design) (t : Tools) : Type 0 where
+  pub workers : 0 < length t.growths.items
+  pub extents : length t.extents.items ≡ length d.nets
+  pub margins : length t.margins.items ≡ length d.nets
+  pub prices : length t.prices.prices.items ≡ edge_numbers d.grid
+  pub batch : 0 < t.batch_size

@@ -1,0 +1,176 @@
+//! Negotiation: nets on overfull edges are rerouted at prices that rise, round after round.
+
+ghost use Rattle.std.specs.Prelude.{◌≡◌, ◌≤◌, ◌<◌, ◌⊎◌, [], IfOk, length};
+ghost use Rattle.grid_graph.specs.Grounds.{AreGrounds};
+ghost use Rattle.routing_state.specs.Best.{best_of, IsReroutingOf};
+ghost use Rattle.routing_state.specs.States.{IsStateOf, trees_of};
+ghost use Rattle.routing_state.specs.Totals.{IsNoWorse};
+ghost use Rattle.negotiation.specs.Searches.{AreFound, ArePlaces, IsFoundFor};
+ghost use Rattle.negotiation.specs.Steps.{IsImproved, KeepsBest};
+ghost use Rattle.negotiation.specs.Tools.{AreToolsFor};
+
+use crate::batches::{next_batch, overfull_nets};
+use crate::drawn::shuffle;
+use crate::due::Due;
+use crate::tools::Tools;
+use grid_base::NoMemory;
+use grid_graph::{Design, Ground};
+use routing_state::{Rerouting, RoutingState};
+use std::alloc::Global;
+use std::thread::Threads;
+use tree_growth::Stage;
+use tree_set::Tree;
+
+/// After so many rounds without a better best no more follow.
+const PATIENCE: u32 = 30;
+
+/// At most so many rounds, while there is overflow and the best gets better now and then; then the best again. And how many rounds
+/// there were.
+pub(crate) fn negotiate<R: Threads + Sync>(
+    rt: &R,
+    alloc: Global,
+    design: &Design,
+    grounds: &[Ground],
+    state: RoutingState,
+    tools: &mut Tools,
+    rounds: u32,
+    seed: u64,
+) -> Result<(RoutingState, u32), NoMemory>
+    requires tools { AreToolsFor design.now tools.old }
+    requires grounds { AreGrounds design.now.grid design.now.nets grounds.now }
+    requires state { IsStateOf design.now state }
+    ensures improved { IfOk result (λ r. IsImproved design.now state r.0) }
+    ensures rounds { IfOk result (λ r. r.1 ≤ rounds) }
+    ensures tools { IfOk result (λ _. AreToolsFor design.now tools.new) }
+{
+    let mut rerouting = Rerouting::of(alloc, state)?;
+    let mut stale = 0;
+    let mut done = 0;
+    'rounds: while done < rounds && stale < PATIENCE && rerouting.state().totals().overflow > 0 {
+        run_round(
+            rt,
+            alloc,
+            design,
+            grounds,
+            &mut rerouting,
+            tools,
+            seed,
+            done,
+        )?;
+        stale = keep_best(design, &mut rerouting, stale);
+        done += 1;
+    }
+    Ok((rerouting.back(design), done))
+}
+
+/// What is now is the best where it is better. For how many rounds the best has stayed the same.
+fn keep_best(design: &Design, rerouting: &mut Rerouting, stale: u32) -> u32
+    requires of { IsReroutingOf design.now rerouting.old }
+    ensures of { IsReroutingOf design.now rerouting.new }
+    ensures state { rerouting.new.state ≡ rerouting.old.state }
+    ensures best { (best_of rerouting.new ≡ trees_of rerouting.old.state) ⊎ (best_of rerouting.new ≡ best_of rerouting.old) }
+    ensures no_worse { IsNoWorse rerouting.new.best rerouting.old.best }
+{
+    if rerouting.keep_if_better() {
+        return 0;
+    }
+    stale.saturating_add(1)
+}
+
+/// One round: prices follow the rooms, and the nets on overfull edges are rerouted in a drawn order.
+fn run_round<R: Threads + Sync>(
+    rt: &R,
+    alloc: Global,
+    design: &Design,
+    grounds: &[Ground],
+    rerouting: &mut Rerouting,
+    tools: &mut Tools,
+    seed: u64,
+    round: u32,
+) -> Result<(), NoMemory>
+    requires tools { AreToolsFor design.now tools.old }
+    requires grounds { AreGrounds design.now.grid design.now.nets grounds.now }
+    requires of { IsReroutingOf design.now rerouting.old }
+    ensures kept { IfOk result (λ _. KeepsBest design.now rerouting.old rerouting.new) }
+    ensures tools { IfOk result (λ _. AreToolsFor design.now tools.new) }
+{
+    let now = rerouting.state();
+    tools.go_on(design, now)?;
+    let mut order = overfull_nets(alloc, design, now)?;
+    shuffle(&mut order, seed, u64::from(round));
+    reroute_due(rt, alloc, design, grounds, rerouting, tools, &order)
+}
+
+/// Batch after batch of the nets that still hold an overfull edge get the sets that are found for them.
+fn reroute_due<R: Threads + Sync>(
+    rt: &R,
+    alloc: Global,
+    design: &Design,
+    grounds: &[Ground],
+    rerouting: &mut Rerouting,
+    tools: &mut Tools,
+    order: &[u32],
+) -> Result<(), NoMemory>
+    requires tools { AreToolsFor design.now tools.old }
+    requires grounds { AreGrounds design.now.grid design.now.nets grounds.now }
+    requires of { IsReroutingOf design.now rerouting.old }
+    requires order { ArePlaces design.now order.now }
+    ensures kept { IfOk result (λ _. KeepsBest design.now rerouting.old rerouting.new) }
+    ensures tools { IfOk result (λ _. AreToolsFor design.now tools.new) }
+{
+    let mut batch = Vec::new(alloc);
+    let mut at = 0;
+    'batches: while at < order.len() {
+        let now = rerouting.state();
+        at = next_batch(design, now, tools, order, at, Due::Overfull, &mut batch)?;
+        let found = tools.search(rt, alloc, design, grounds, now, Stage::Negotiation, &batch)?;
+        put_found(design, rerouting, tools, &batch, found);
+    }
+    Ok(())
+}
+
+/// The nets of a batch get what was found for them, one after another.
+fn put_found(
+    design: &Design,
+    rerouting: &mut Rerouting,
+    tools: &mut Tools,
+    nets: &[u32],
+    mut found: Vec<Option<Tree>>,
+)
+    requires tools { AreToolsFor design.now tools.old }
+    requires of { IsReroutingOf design.now rerouting.old }
+    requires nets { ArePlaces design.now nets.now }
+    requires found { AreFound design.now nets.now found.items }
+    ensures kept { KeepsBest design.now rerouting.old rerouting.new }
+    ensures tools { AreToolsFor design.now tools.new }
+{
+    for i in 0..nets.len() {
+        let net = nets[i] as usize;
+        put_set(design, rerouting, net, found[i].take());
+        widen_if_overfull(design, rerouting.state(), tools, net);
+    }
+}
+
+/// A net gets what was found for it; where nothing was, it keeps its set.
+fn put_set(design: &Design, rerouting: &mut Rerouting, net: usize, found: Option<Tree>)
+    requires of { IsReroutingOf design.now rerouting.old }
+    requires net { net < length design.now.nets }
+    requires found { IsFoundFor design.now net found }
+    ensures kept { KeepsBest design.now rerouting.old rerouting.new }
+{
+    if let Some(tree) = found {
+        rerouting.exchange(design, net, tree);
+    }
+}
+
+/// A net that still holds an overfull edge may look further.
+fn widen_if_overfull(design: &Design, state: &RoutingState, tools: &mut Tools, net: usize)
+    requires tools { AreToolsFor design.now tools.old }
+    requires state { IsStateOf design.now state.now }
+    requires net { net < length design.now.nets }
+    ensures tools { AreToolsFor design.now tools.new }
+{
+    if state.holds_overfull(design, net) {
+        tools.widen(design, net);
+    }
+}

@@ -1,0 +1,80 @@
+//! The prices of a round of negotiation.
+
+ghost use Rattle.std.specs.Prelude.{◌≡◌, length};
+
+use grid_base::{NoMemory, Vertex};
+use grid_graph::Grid;
+use std::alloc::Global;
+use tree_growth::landmark_distances;
+
+/// So much the price of an overfull edge rises in a round.
+const STEP: u32 = 10;
+/// No price is greater.
+const MOST: u32 = 4000;
+/// A price falls by one part of so many where there is room, and at least by 1.
+const PARTS: u32 = 50;
+
+/// The price of each edge number for each unit of demand, and how far each tile is from the first one at these prices.
+#[derive(Drop)]
+pub(crate) struct RoundPrices {
+    prices: Vec<u32>,
+    landmark: Vec<u32>,
+}
+
+impl RoundPrices {
+    ghost use Rattle.std.specs.Prelude.{◌≡◌, IfOk, length};
+    ghost use Rattle.grid_graph.specs.Grids.{edge_numbers};
+
+    /// No edge has a price.
+    pub fn none(alloc: Global, grid: &Grid) -> Result<RoundPrices, NoMemory>
+        ensures long { IfOk result (λ made. length made.prices.items ≡ edge_numbers grid.now) }
+    {
+        let numbers = 2 * grid.size().vertices();
+        Ok(RoundPrices {
+            prices: vec![in alloc; 0; numbers as usize]?,
+            landmark: Vec::new(alloc),
+        })
+    }
+
+    /// The prices.
+    pub fn prices(&self) -> &[u32]
+        ensures { result.now ≡ self.now.prices.items }
+    {
+        self.prices.as_slice()
+    }
+
+    /// The distance of each tile from the first one; none before the first round.
+    pub fn landmark(&self) -> &[u32] {
+        self.landmark.as_slice()
+    }
+
+    /// The prices of the next round: those of overfull edges rise, and those of edges with room fall.
+    pub fn go_on(&mut self, grid: &Grid, rooms: &[i64]) -> Result<(), NoMemory>
+        requires long { length self.old.prices.items ≡ edge_numbers grid.now }
+        requires rooms { length rooms.now ≡ edge_numbers grid.now }
+        ensures long { length self.new.prices.items ≡ edge_numbers grid.now }
+    {
+        move_prices(self.prices.as_mut_slice(), rooms);
+        landmark_distances(grid, self.prices.as_slice(), Vertex(0), &mut self.landmark)
+    }
+}
+
+/// Each price follows the room on its edge.
+fn move_prices(prices: &mut [u32], rooms: &[i64])
+    requires { length rooms.now ≡ length prices.old }
+{
+    for e in 0..prices.len() {
+        prices[e] = next_price(prices[e], rooms[e]);
+    }
+}
+
+/// The price that follows where so much room is left. With a room of 0 or 1 it stays.
+fn next_price(price: u32, room: i64) -> u32 {
+    if room < 0 {
+        return price.saturating_add(STEP).min(MOST);
+    }
+    if room > 1 {
+        return price.saturating_sub(price.div_ceil(PARTS));
+    }
+    price
+}

@@ -1,0 +1,41 @@
+//! What the searches of a batch see.
+
+use grid_base::NoMemory;
+use grid_graph::{Design, Ground};
+use tree_growth::{Field, Growth};
+use tree_set::Tree;
+
+/// What all searches of a batch see: the nets with their grounds, the sets that they have, the rooms and prices of the edges, how
+/// far beyond its box each net may look, and whose turn it is among a net's terminals to be the first.
+#[derive(Clone, Copy, Drop)]
+pub(crate) struct Sight<'a> {
+    pub design: &'a Design,
+    pub grounds: &'a [Ground],
+    pub trees: &'a [Tree],
+    pub field: Field<'a>,
+    pub margins: &'a [u32],
+    pub turn: usize,
+}
+
+impl Sight<'_> {
+    ghost use Rattle.std.specs.Prelude.{◌<◌, IfOk, length};
+    ghost use Rattle.negotiation.specs.Searches.{IsFoundFor, IsSight};
+
+    /// A new set for the net at this place, where one is found.
+    pub fn search(&self, net: u32, growth: &mut Growth) -> Result<Option<Tree>, NoMemory>
+        requires sight { IsSight self.now }
+        requires net { net < length self.now.design.now.nets }
+        ensures { IfOk result (IsFoundFor self.now.design.now net) }
+    {
+        let net = net as usize;
+        growth.tree(
+            &self.design.grid,
+            self.field,
+            &self.design.nets.list()[net],
+            self.grounds[net],
+            &self.trees[net],
+            self.turn,
+            self.margins[net],
+        )
+    }
+}

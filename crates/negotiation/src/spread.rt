@@ -1,0 +1,114 @@
+//! Over which tiles the terminals of a net are spread.
+
+use crate::extent::Extent;
+use crate::lowest_layers::LowestLayers;
+use grid_base::{NoMemory, Size, Vertex};
+use std::alloc::Global;
+
+/// The tiles, columns and rows that have a terminal of a net, each once in rising order, and its lowest and highest layer. The
+/// lists are kept from net to net.
+#[derive(Drop)]
+pub(crate) struct Spread {
+    tiles: Vec<u32>,
+    cols: Vec<u32>,
+    rows: Vec<u32>,
+    low: u32,
+    high: u32,
+}
+
+impl Spread {
+    /// That of no terminal.
+    pub fn none(alloc: Global) -> Spread {
+        Spread {
+            tiles: Vec::new(alloc),
+            cols: Vec::new(alloc),
+            rows: Vec::new(alloc),
+            low: 0,
+            high: 0,
+        }
+    }
+
+    /// That of these terminals, in place of those before.
+    pub fn take(&mut self, size: Size, terminals: &[Vertex]) -> Result<(), NoMemory> {
+        self.tiles.clear();
+        self.cols.clear();
+        self.rows.clear();
+        self.low = size.layers();
+        self.high = 0;
+        for v in terminals {
+            self.put(size, *v)?;
+        }
+        sort_once(&mut self.tiles);
+        sort_once(&mut self.cols);
+        sort_once(&mut self.rows);
+        Ok(())
+    }
+
+    /// Takes one terminal more.
+    fn put(&mut self, size: Size, v: Vertex) -> Result<(), NoMemory> {
+        let tiles = size.cols() * size.rows();
+        let layer = size.layer_of(v);
+        self.tiles.push(v.0 % tiles)?;
+        self.cols.push(v.0 % size.cols())?;
+        self.rows.push(v.0 / size.cols() % size.rows())?;
+        self.low = self.low.min(layer);
+        self.high = self.high.max(layer);
+        Ok(())
+    }
+
+    /// How far a net with these terminals reaches.
+    pub fn extent(&self, lowest: LowestLayers) -> Extent {
+        let half_perimeter = width_of(&self.cols).saturating_add(width_of(&self.rows));
+        Extent {
+            half_perimeter,
+            tile: self.tiles.first().map_or(0, |tile| *tile),
+            least: u64::from(half_perimeter).saturating_add(self.fewest_vias(lowest)),
+        }
+    }
+
+    /// So many vias at least lead to the layers on which the net can get from column to column and from row to row.
+    fn fewest_vias(&self, lowest: LowestLayers) -> u64 {
+        let for_cols = if self.cols.len() > 1 {
+            lowest.along_x
+        } else {
+            0
+        };
+        let for_rows = if self.rows.len() > 1 {
+            lowest.along_y
+        } else {
+            0
+        };
+        let mut vias = u64::from(self.high.saturating_sub(self.low));
+        for layer in self.high..for_cols.max(for_rows) {
+            vias = vias.saturating_add(self.vias_above(layer, lowest));
+        }
+        vias
+    }
+
+    /// So many vias at least lead up from a layer that no terminal is above: one from each tile, and where tiles of one row or
+    /// of one column can be joined below, one from each row or column.
+    fn vias_above(&self, layer: u32, lowest: LowestLayers) -> u64 {
+        let parts = if lowest.along_x <= layer {
+            &self.rows
+        } else if lowest.along_y <= layer {
+            &self.cols
+        } else {
+            &self.tiles
+        };
+        parts.len() as u64
+    }
+}
+
+/// The numbers in rising order, each once.
+fn sort_once(numbers: &mut Vec<u32>) {
+    numbers.sort_unstable();
+    numbers.dedup();
+}
+
+/// From the first to the last of these numbers, which rise.
+fn width_of(numbers: &[u32]) -> u32 {
+    match (numbers.first(), numbers.last()) {
+        (Some(first), Some(last)) => last.saturating_sub(*first),
+        _ => 0,
+    }
+}

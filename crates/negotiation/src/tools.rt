@@ -1,0 +1,162 @@
+//! What rerouting works with beside the sets.
+
+ghost use Rattle.std.specs.Prelude.{◌≡◌, IfOk, length};
+
+use crate::due::Due;
+use crate::extent::Extent;
+use crate::extents::extents_of;
+use crate::round_prices::RoundPrices;
+use crate::searching::search_batch;
+use crate::sight::Sight;
+use grid_base::NoMemory;
+use grid_graph::{Design, Ground};
+use routing_state::RoutingState;
+use std::alloc::Global;
+use std::thread::Threads;
+use tree_growth::{Field, Growth, Stage};
+use tree_set::Tree;
+
+/// So many tiles a net may look beyond its box at first.
+const FIRST_MARGIN: u32 = 6;
+/// The margin of a net grows up to this.
+const MOST_MARGIN: u32 = 30;
+/// A batch has one net for so many of the design. With few nets in a batch the workers wait for one another, with many they
+/// don't see that nets of the batch get into each other's way.
+const NETS_PER_PLACE: usize = 2500;
+/// The fewest nets of a batch.
+const LEAST_BATCH: usize = 4;
+/// The most nets of a batch.
+const MOST_BATCH: usize = 32;
+
+/// The tables of each worker, how far each net reaches and may look beyond its box, the prices, how many nets are in a batch,
+/// and whose turn it is among a net's terminals to be the first.
+#[derive(Drop)]
+pub(crate) struct Tools {
+    growths: Vec<Growth>,
+    extents: Vec<Extent>,
+    margins: Vec<u32>,
+    prices: RoundPrices,
+    batch_size: usize,
+    turn: usize,
+}
+
+impl Tools {
+    ghost use Rattle.std.specs.Prelude.{◌≡◌, ◌≤◌, ◌<◌, IfOk, length};
+    ghost use Rattle.grid_graph.specs.declared.design.Design.{Design as DesignOf};
+    ghost use Rattle.grid_graph.specs.Grounds.{AreGrounds};
+    ghost use Rattle.routing_state.specs.States.{IsStateOf};
+    ghost use Rattle.negotiation.specs.Searches.{AreFound, ArePlaces};
+    ghost use Rattle.negotiation.specs.Tools.{AreToolsFor};
+
+    /// Tools for so many workers.
+    pub fn new(alloc: Global, design: &Design, workers: u32) -> Result<Tools, NoMemory>
+        requires workers { 1 ≤ workers }
+        ensures tools { IfOk result (AreToolsFor design.now) }
+    {
+        let nets = design.nets.list().len();
+        Ok(Tools {
+            growths: growths_for(alloc, design, workers)?,
+            extents: extents_of(alloc, design)?,
+            margins: vec![in alloc; FIRST_MARGIN; nets]?,
+            prices: RoundPrices::none(alloc, &design.grid)?,
+            batch_size: (nets / NETS_PER_PLACE).max(LEAST_BATCH).min(MOST_BATCH),
+            turn: 0,
+        })
+    }
+
+    /// How far each net reaches.
+    pub fn extents(&self) -> &[Extent]
+        ensures { result.now ≡ self.now.extents.items }
+    {
+        self.extents.as_slice()
+    }
+
+    /// How many nets are in a batch.
+    pub fn batch_size(&self) -> usize
+        ensures { result ≡ self.now.batch_size }
+    {
+        self.batch_size
+    }
+
+    /// New sets for these nets, in their order, where they are found: all are searched for beside the sets that now are.
+    pub fn search<'a, R: Threads + Sync>(
+        &'a mut self,
+        rt: &R,
+        alloc: Global,
+        design: &'a Design,
+        grounds: &'a [Ground],
+        state: &'a RoutingState,
+        stage: Stage,
+        nets: &[u32],
+    ) -> Result<Vec<Option<Tree>>, NoMemory>
+        requires tools { AreToolsFor design.now self.old }
+        requires grounds { AreGrounds design.now.grid design.now.nets grounds.now }
+        requires state { IsStateOf design.now state.now }
+        requires nets { ArePlaces design.now nets.now }
+        ensures found { IfOk result (λ found. AreFound design.now nets.now found.items) }
+        ensures tools { AreToolsFor design.now self.new }
+    {
+        let sight = Sight {
+            design,
+            grounds,
+            trees: state.trees(),
+            field: Field {
+                rooms: state.rooms(),
+                prices: self.prices.prices(),
+                landmark: self.prices.landmark(),
+                stage,
+            },
+            margins: self.margins.as_slice(),
+            turn: self.turn,
+        };
+        search_batch(rt, alloc, sight, nets, self.growths.as_mut_slice())
+    }
+
+    /// The next round: prices follow the rooms, and the next terminal of each net is the first.
+    pub fn go_on(&mut self, design: &Design, state: &RoutingState) -> Result<(), NoMemory>
+        requires tools { AreToolsFor design.now self.old }
+        requires state { IsStateOf design.now state.now }
+        ensures tools { AreToolsFor design.now self.new }
+    {
+        self.pass_on();
+        self.prices.go_on(&design.grid, state.rooms())
+    }
+
+    /// The next terminal of each net is the first.
+    pub fn pass_on(&mut self)
+        ensures tools { (d : DesignOf) → AreToolsFor d self.old → AreToolsFor d self.new }
+    {
+        self.turn = self.turn.wrapping_add(1);
+    }
+
+    /// A net may look further beyond its box.
+    pub fn widen(&mut self, design: &Design, net: usize)
+        requires tools { AreToolsFor design.now self.old }
+        requires net { net < length design.now.nets }
+        ensures tools { AreToolsFor design.now self.new }
+    {
+        let margin = self.margins[net];
+        self.margins[net] = margin.saturating_add(1 + margin / 4).min(MOST_MARGIN);
+    }
+
+    /// Whether a net is due.
+    pub fn is_due(&self, design: &Design, state: &RoutingState, net: usize, due: Due) -> bool
+        requires tools { AreToolsFor design.now self.now }
+        requires state { IsStateOf design.now state.now }
+        requires net { net < length design.now.nets }
+    {
+        due == Due::Improvable && state.trees()[net].pieces().len() as u64 > self.extents[net].least
+            || state.holds_overfull(design, net)
+    }
+}
+
+/// The tables of so many workers.
+fn growths_for(alloc: Global, design: &Design, workers: u32) -> Result<Vec<Growth>, NoMemory>
+    ensures some { IfOk result (λ growths. length growths.items ≡ workers) }
+{
+    let mut growths = Vec::with_capacity(alloc, workers as usize)?;
+    for _ in 0..workers {
+        growths.push(Growth::new(alloc, &design.grid)?)?;
+    }
+    Ok(growths)
+}

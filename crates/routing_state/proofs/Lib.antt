@@ -1,0 +1,11 @@
+pub mod Back
+pub mod BestSets
+pub mod Changed
+pub mod Exchanged
+pub mod Fresh
+pub mod Full
+pub mod Giving
+pub mod Lacking
+pub mod Overflows
+pub mod RoomLists
+pub mod Better

@@ -1,0 +1,12 @@
+pub use Rattle.grid_base.specs.Lists
+pub use Rattle.grid_graph.specs.Grids
+pub use Rattle.tree_set.specs.Loads
+pub use Rattle.tree_set.specs.Measures
+pub use Rattle.tree_set.specs.Routings
+pub mod Best
+pub mod Lacks
+pub mod NetSets
+pub mod Overfull
+pub mod Rooms
+pub mod States
+pub mod Totals

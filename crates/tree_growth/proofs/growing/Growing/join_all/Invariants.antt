@@ -1,0 +1,9 @@
+use Rattle.std.proofs.Common.{◌≡◌}
+use Rattle.tree_growth.specs.Growns.{IsGrown}
+use Rattle.tree_growth.proofs.growing.Growing.join_all.Given as goal
+
+abbrev pub invariant-loop : goal.invariant-loop
+invariant-loop l = record {
+  size : l.grown.size ≡ l.initial.grown.size;
+  grown : IsGrown l.plan.grid.now l.plan.weights.over l.initial.grown → IsGrown l.plan.grid.now l.plan.weights.over l.grown;
+}

@@ -1,0 +1,71 @@
+//! Along which axes layers have edges.
+
+use grid_base::{Axis, Edge, NoMemory, Vertex};
+use grid_graph::Grid;
+use std::alloc::Global;
+
+/// Along which axes a layer has edges.
+#[derive(Clone, Copy)]
+pub(crate) struct Direction {
+    pub(crate) along_x: bool,
+    pub(crate) along_y: bool,
+}
+
+impl Direction {
+    /// Neither.
+    pub(crate) const NONE: Direction = Direction {
+        along_x: false,
+        along_y: false,
+    };
+
+    /// What either has.
+    pub(crate) fn or(self, other: Direction) -> Direction {
+        Direction {
+            along_x: self.along_x || other.along_x,
+            along_y: self.along_y || other.along_y,
+        }
+    }
+
+    /// Whether it has all that the other one has.
+    pub(crate) fn has(self, other: Direction) -> bool {
+        (self.along_x || !other.along_x) && (self.along_y || !other.along_y)
+    }
+}
+
+/// Along which axes each layer has edges with capacity.
+#[derive(Drop)]
+pub(crate) struct Directions {
+    layers: Vec<Direction>,
+}
+
+impl Directions {
+    /// Those of a grid.
+    pub(crate) fn of(alloc: Global, grid: &Grid) -> Result<Directions, NoMemory> {
+        let size = grid.size();
+        let mut layers = vec![in alloc; Direction::NONE; size.layers() as usize]?;
+        for v in 0..size.vertices() {
+            let layer = size.layer_of(Vertex(v)) as usize;
+            if layer < layers.len() {
+                layers[layer] = layers[layer].or(Direction {
+                    along_x: grid.capacity(Edge::along(Vertex(v), Axis::X)) > 0,
+                    along_y: grid.capacity(Edge::along(Vertex(v), Axis::Y)) > 0,
+                });
+            }
+        }
+        Ok(Directions { layers })
+    }
+
+    /// How many layers there are.
+    pub(crate) fn len(&self) -> usize {
+        self.layers.len()
+    }
+
+    /// The axes of a layer.
+    pub(crate) fn at(&self, layer: usize) -> Direction {
+        if layer < self.layers.len() {
+            self.layers[layer]
+        } else {
+            Direction::NONE
+        }
+    }
+}

@@ -1,0 +1,105 @@
+//! How many vias a way has at least.
+
+use crate::directions::{Direction, Directions};
+use grid_base::NoMemory;
+use std::alloc::Global;
+
+/// How many vias a way between two layers has at least, by the axes along which it runs.
+#[derive(Clone, Copy)]
+struct Fewest {
+    upright: u32,
+    along_x: u32,
+    along_y: u32,
+    along_both: u32,
+}
+
+/// How many vias a way from a layer to a layer has at least.
+#[derive(Drop)]
+pub(crate) struct FewestVias {
+    /// One for each two layers.
+    pairs: Vec<Fewest>,
+    layers: usize,
+}
+
+impl FewestVias {
+    /// Those of layers with these directions.
+    pub(crate) fn of(alloc: Global, directions: &Directions) -> Result<FewestVias, NoMemory> {
+        let layers = directions.len();
+        let mut pairs = Vec::new(alloc);
+        for from in 0..layers {
+            for to in 0..layers {
+                pairs.push(fewest_between(directions, from, to))?;
+            }
+        }
+        Ok(FewestVias { pairs, layers })
+    }
+
+    /// How many vias a way has at least from a layer to a layer that runs along these axes.
+    pub(crate) fn at(&self, from: u32, to: u32, along_x: bool, along_y: bool) -> u32 {
+        let at = (from as usize)
+            .wrapping_mul(self.layers)
+            .wrapping_add(to as usize);
+        if at >= self.pairs.len() {
+            return 0;
+        }
+        let Fewest {
+            upright,
+            along_x: x,
+            along_y: y,
+            along_both,
+        } = self.pairs[at];
+        match (along_x, along_y) {
+            (false, false) => upright,
+            (true, false) => x,
+            (false, true) => y,
+            (true, true) => along_both,
+        }
+    }
+}
+
+/// How many vias a way from a layer to a layer has at least.
+fn fewest_between(directions: &Directions, from: usize, to: usize) -> Fewest {
+    let low = from.min(to);
+    let high = from.max(to);
+    let along = |along_x: bool, along_y: bool| {
+        fewest_along(directions, low, high, Direction { along_x, along_y })
+    };
+    Fewest {
+        upright: along(false, false),
+        along_x: along(true, false),
+        along_y: along(false, true),
+        along_both: along(true, true),
+    }
+}
+
+/// How many vias a way from layer `low` up to layer `high` has at least that also runs along these axes: it may have to
+/// go down below `low` first, or up above `high`, and back. 0 where no layers have these axes.
+fn fewest_along(directions: &Directions, low: usize, high: usize, needed: Direction) -> u32 {
+    let mut least = u32::MAX;
+    for lowest in 0..low.saturating_add(1) {
+        if let Some(above) = layers_above(directions, lowest, high, needed) {
+            let below = low.saturating_sub(lowest);
+            let turns = below.saturating_add(above).saturating_mul(2);
+            let vias = high.saturating_sub(low).saturating_add(turns);
+            least = least.min(u32::try_from(vias).unwrap_or(u32::MAX));
+        }
+    }
+    if least == u32::MAX { 0 } else { least }
+}
+
+/// How far above layer `high` the layers from `lowest` on have to go to have these axes.
+fn layers_above(
+    directions: &Directions,
+    lowest: usize,
+    high: usize,
+    needed: Direction,
+) -> Option<usize> {
+    let mut met = Direction::NONE;
+    for layer in lowest..directions.len() {
+        met = met.or(directions.at(layer));
+        if layer >= high && met.has(needed) {
+            return Some(layer - high);
+        }
+    }
+    None
+}

@@ -1,0 +1,64 @@
+//! Boxes of tiles.
+
+use crate::site::Site;
+use grid_base::Size;
+
+/// The tiles between two columns and two rows.
+#[derive(Clone, Copy)]
+pub(crate) struct Frame {
+    pub(crate) west: u32,
+    pub(crate) east: u32,
+    pub(crate) south: u32,
+    pub(crate) north: u32,
+}
+
+impl Frame {
+    /// No tile.
+    pub(crate) const NONE: Frame = Frame {
+        west: u32::MAX,
+        east: 0,
+        south: u32::MAX,
+        north: 0,
+    };
+
+    /// The least box with the tile of a site in it too, and all that is no further from it than this.
+    pub(crate) fn with(self, site: Site, margin: u32) -> Frame {
+        Frame {
+            west: self.west.min(site.col.saturating_sub(margin)),
+            east: self.east.max(site.col.saturating_add(margin)),
+            south: self.south.min(site.row.saturating_sub(margin)),
+            north: self.north.max(site.row.saturating_add(margin)),
+        }
+    }
+
+    /// The box with a margin.
+    pub(crate) fn widened(self, margin: u32) -> Frame {
+        Frame {
+            west: self.west.saturating_sub(margin),
+            east: self.east.saturating_add(margin),
+            south: self.south.saturating_sub(margin),
+            north: self.north.saturating_add(margin),
+        }
+    }
+
+    /// What is in both, and in a grid.
+    pub(crate) fn cut(self, other: Frame, size: Size) -> Frame {
+        Frame {
+            west: self.west.max(other.west),
+            east: self.east.min(other.east).min(size.cols().saturating_sub(1)),
+            south: self.south.max(other.south),
+            north: self
+                .north
+                .min(other.north)
+                .min(size.rows().saturating_sub(1)),
+        }
+    }
+
+    /// Whether the tile of a site is in it.
+    pub(crate) fn has(self, site: Site) -> bool {
+        self.west <= site.col
+            && site.col <= self.east
+            && self.south <= site.row
+            && site.row <= self.north
+    }
+}

@@ -1,0 +1,34 @@
+//! What a search knows of a vertex.
+
+use crate::road::Road;
+use crate::side::Side;
+
+/// What the searches know of a vertex, in 16 bytes. Cost, way back and whether it is taken count only under the number
+/// of the present search.
+#[derive(Clone, Copy)]
+pub(crate) struct Label {
+    /// What the way to it costs.
+    pub(crate) cost: u64,
+    /// The search that reached it last.
+    pub(crate) search: u32,
+    /// The neighbour that it was reached from.
+    pub(crate) back: Side,
+    /// Whether its cost stands.
+    pub(crate) is_taken: bool,
+    /// The edge to the next column.
+    pub(crate) east: Road,
+    /// The edge to the next row.
+    pub(crate) north: Road,
+}
+
+impl Label {
+    /// That of a vertex which no search has reached, between walls.
+    pub(crate) const BLANK: Label = Label {
+        cost: 0,
+        search: 0,
+        back: Side::West,
+        is_taken: false,
+        east: Road::Wall,
+        north: Road::Wall,
+    };
+}

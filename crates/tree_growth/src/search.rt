@@ -1,0 +1,274 @@
+//! One search: from all that is joined to the nearest target.
+
+use crate::bucket_queue::BucketQueue;
+use crate::frame::Frame;
+use crate::labels::Labels;
+use crate::plan::Plan;
+use crate::road::Road;
+use crate::side::Side;
+use crate::site::Site;
+use crate::target::Target;
+use crate::weights::UNIT;
+use grid_base::{Edge, NoMemory};
+use grid_graph::Grid;
+use std::alloc::Global;
+
+/// What one search goes by.
+#[derive(Drop)]
+pub(crate) struct View<'t, 'p, 'a> {
+    pub(crate) plan: &'p Plan<'a>,
+    /// Where it may end.
+    pub(crate) targets: &'t [Target],
+    /// It stays in here.
+    pub(crate) frame: Frame,
+}
+
+impl View<'_, '_, '_> {
+    /// What is still to go from here at least.
+    fn rest(&self, site: Site) -> u64 {
+        self.plan.bound.rest(self.targets, site)
+    }
+
+    /// Whether a site is that of a target.
+    fn is_target(&self, site: Site) -> bool {
+        self.targets
+            .iter()
+            .any(|target| target.site.vertex == site.vertex)
+    }
+}
+
+/// A way over a neighbour to a site.
+#[derive(Clone, Copy)]
+struct Offer {
+    to: Site,
+    /// The side that it comes from.
+    back: Side,
+    /// What it costs as far as the neighbour.
+    cost: u64,
+    edge: Edge,
+    road: Road,
+    /// What the net uses of the edge.
+    demand: u32,
+}
+
+/// The tables of a search.
+#[derive(Drop)]
+pub(crate) struct Search {
+    pub(crate) labels: Labels,
+    queue: BucketQueue,
+    /// What is still to go at least where the search begins: keys count from here.
+    base: u64,
+}
+
+impl Search {
+    /// The tables for searches on this grid.
+    pub(crate) fn new(alloc: Global, grid: &Grid) -> Result<Search, NoMemory> {
+        Ok(Search {
+            labels: Labels::new(alloc, grid)?,
+            queue: BucketQueue::new(alloc)?,
+            base: 0,
+        })
+    }
+
+    /// A target to which a way of least cost leads from the sources, as far as the bound is one. `None` is a view in which
+    /// no way leads to one.
+    pub(crate) fn nearest(
+        &mut self,
+        view: &View<'_, '_, '_>,
+        sources: &[Site],
+    ) -> Result<Option<Site>, NoMemory> {
+        self.labels.begin();
+        self.queue.clear();
+        self.base = least_rest(view, sources);
+        for source in sources {
+            if view.frame.has(*source) {
+                self.lower(view, *source, 0, Side::Up)?;
+            }
+        }
+        for _ in 0..u64::MAX {
+            let Some(site) = self.queue.pop() else {
+                return Ok(None);
+            };
+            if let Some(cost) = self.labels.take(site) {
+                if view.is_target(site) {
+                    return Ok(Some(site));
+                }
+                self.spread(view, site, cost)?;
+            }
+        }
+        Ok(None)
+    }
+
+    /// Offers each neighbour of a site the way over this one.
+    fn spread(&mut self, view: &View<'_, '_, '_>, from: Site, cost: u64) -> Result<(), NoMemory> {
+        if from.layer > 0 {
+            self.offer_via(view, from, Side::Down, Side::Up, cost)?;
+        }
+        if from.layer.saturating_add(1) < view.plan.size.layers() {
+            self.offer_via(view, from, Side::Up, Side::Down, cost)?;
+        }
+        let Some(layer) = view.plan.weights.layers.get(from.layer as usize) else {
+            return Ok(());
+        };
+        if layer.along_x {
+            self.spread_along_x(view, from, cost, layer.demand)?;
+        }
+        if layer.along_y {
+            self.spread_along_y(view, from, cost, layer.demand)?;
+        }
+        Ok(())
+    }
+
+    /// The same to the columns beside.
+    fn spread_along_x(
+        &mut self,
+        view: &View<'_, '_, '_>,
+        from: Site,
+        cost: u64,
+        demand: u32,
+    ) -> Result<(), NoMemory> {
+        if from.col > view.frame.west {
+            let to = from.beside(view.plan.size, Side::West);
+            let road = self.labels.at(to).east;
+            let edge = to.east();
+            let back = Side::East;
+            self.offer(
+                view,
+                Offer {
+                    to,
+                    back,
+                    cost,
+                    edge,
+                    road,
+                    demand,
+                },
+            )?;
+        }
+        if from.col < view.frame.east {
+            let to = from.beside(view.plan.size, Side::East);
+            let road = self.labels.at(from).east;
+            let edge = from.east();
+            let back = Side::West;
+            self.offer(
+                view,
+                Offer {
+                    to,
+                    back,
+                    cost,
+                    edge,
+                    road,
+                    demand,
+                },
+            )?;
+        }
+        Ok(())
+    }
+
+    /// The same to the rows beside.
+    fn spread_along_y(
+        &mut self,
+        view: &View<'_, '_, '_>,
+        from: Site,
+        cost: u64,
+        demand: u32,
+    ) -> Result<(), NoMemory> {
+        if from.row > view.frame.south {
+            let to = from.beside(view.plan.size, Side::South);
+            let road = self.labels.at(to).north;
+            let edge = to.north();
+            let back = Side::North;
+            self.offer(
+                view,
+                Offer {
+                    to,
+                    back,
+                    cost,
+                    edge,
+                    road,
+                    demand,
+                },
+            )?;
+        }
+        if from.row < view.frame.north {
+            let to = from.beside(view.plan.size, Side::North);
+            let road = self.labels.at(from).north;
+            let edge = from.north();
+            let back = Side::South;
+            self.offer(
+                view,
+                Offer {
+                    to,
+                    back,
+                    cost,
+                    edge,
+                    road,
+                    demand,
+                },
+            )?;
+        }
+        Ok(())
+    }
+
+    /// Offers a site on another layer the way by a via.
+    fn offer_via(
+        &mut self,
+        view: &View<'_, '_, '_>,
+        from: Site,
+        side: Side,
+        back: Side,
+        cost: u64,
+    ) -> Result<(), NoMemory> {
+        let to = from.beside(view.plan.size, side);
+        let cost = cost.saturating_add(UNIT);
+        if self.labels.may_lower(to, cost) {
+            self.lower(view, to, cost, back)?;
+        }
+        Ok(())
+    }
+
+    /// Offers a site the way by an edge. Nothing is read of the edge where even the least weight would be too much.
+    fn offer(&mut self, view: &View<'_, '_, '_>, offer: Offer) -> Result<(), NoMemory> {
+        let Offer {
+            to,
+            back,
+            cost,
+            edge,
+            road,
+            demand,
+        } = offer;
+        if !self.labels.may_lower(to, cost.saturating_add(UNIT)) {
+            return Ok(());
+        }
+        if let Some(weight) = view.plan.weights.weight(edge, road, demand) {
+            let cost = cost.saturating_add(weight);
+            if weight == UNIT || self.labels.may_lower(to, cost) {
+                self.lower(view, to, cost, back)?;
+            }
+        }
+        Ok(())
+    }
+
+    /// Gives a site this cost, with which it waits.
+    fn lower(
+        &mut self,
+        view: &View<'_, '_, '_>,
+        to: Site,
+        cost: u64,
+        back: Side,
+    ) -> Result<(), NoMemory> {
+        self.labels.lower(to, cost, back);
+        let key = cost.saturating_add(view.rest(to)).saturating_sub(self.base);
+        self.queue.push(key, to)
+    }
+}
+
+/// What is still to go at least from the sources.
+fn least_rest(view: &View<'_, '_, '_>, sources: &[Site]) -> u64 {
+    let mut least = u64::MAX;
+    for source in sources {
+        if view.frame.has(*source) {
+            least = least.min(view.rest(*source));
+        }
+    }
+    least
+}
