@@ -9,11 +9,11 @@ ghost use Rattle.reroute_cli.specs.RerouteRuns.{IsProgramRun};
 
 use command_words::words_of;
 use gr_desk::{Desk, RealDesk};
+use reroute_cli::run_reroute;
 use std::alloc::{AllocError, Global};
 use std::env;
 use std::process::ExitCode;
 use std::thread::Threads;
-use reroute_cli::run_reroute;
 
 /// The status where there is no memory for the words.
 const NO_MEMORY: u8 = 8;

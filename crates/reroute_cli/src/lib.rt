@@ -1,21 +1,21 @@
 //! Routes that a designer would take: a design, from any routes or from none, routed by negotiation.
 //!
 //! ```text
-//! let status = run_reroute(&rt, alloc, &words, desk);    // words: box.gr box.routes new.routes --workers 4
-//! // nets 5
+//! let status = run_reroute(&rt, alloc, &words, desk);    // words: cut.gr cut.routes new.routes --rounds 0
+//! // nets 3
 //! // forced 0
 //! // routed 0
-//! // rerouted 2
-//! // rounds 1
+//! // rerouted 1
+//! // rounds 0
 //! // overflow 2
-//! // wirelength 15
+//! // wirelength 3
 //! // peak 2/1
-//! // given 4 17
+//! // given 2 5
 //! ```
 //!
 //! It stands on `negotiation` for the new routes, on `command_runs` for how every run ends, on `judge_cli` and `route_judge` to read
-//! routes and to judge them, on `route_text` to write them, on `tree_set`, `grid_graph` and `grid_base`, on `judge_laws` for the law
-//! that what is written is accepted, on `command_words` for the words, and on `gr_desk`.
+//! routes and to judge them, on `route_text` and `cert_text` for texts, on `routing_state` and `tree_set` for measures, on `grid_graph`
+//! and `grid_base`, on `judge_laws` for the law that what is written is accepted, on `command_words`, and on `gr_desk`.
 //!
 //! Promised, in the words of `specs/RerouteRuns.antt`, which is the page to begin with: where the status is 0, the new routes join
 //! all nets without a wall, and the judge accepts them; a set that is not that of the given routes lies in its net's ground; where the
