@@ -2,7 +2,7 @@
 # Runs the built programs on real files, and compares their status and what they wrote, byte for byte, with what
 # docs/FORMATS.md says.
 #
-#   tests/program/check.sh [GROUTER [UNAVOIDABLE]]
+#   tests/program/check.sh [GROUTER [UNAVOIDABLE [REROUTE]]]
 #
 # Without words it takes the programs that `rt ci` left in crates/*/out, and has one built where there is none. It
 # prints a line for each case, then how many passed and failed, and fails where one did.
@@ -36,6 +36,7 @@ take() {
 }
 take grouter "${1:-$top/crates/grouter/out/grouter}"
 take unavoidable "${2:-$top/crates/unavoidable/out/unavoidable}"
+take reroute "${3:-$top/crates/reroute/out/reroute}"
 program=$room/grouter
 cp "$examples"/*.gr "$room/files"
 cd "$room/files" || exit 1
@@ -412,6 +413,59 @@ expect 'a new certificate in a folder that is missing' 7 'refused 7' few_exits.g
 expect_unheard 'findings that can not be said' 7 few_exits.gr few_exits.routes few_exits.cert new.cert
 made 'a new certificate without a report' new.cert "$examples/few_exits_cut.cert"
 expect_unheard 'an objection to routes that can not be said' 1 detour.gr cut_off.routes detour.cert new.cert
+
+# ---- new routes
+
+# Each net of these designs has one shortest route on open edges, and they leave no overflow.
+program=$room/reroute
+expect 'routes from none' 0 'nets 3
+forced 0
+routed 2
+rerouted 0
+rounds 0
+overflow 0
+wirelength 11
+peak 1/2
+given 0 0' detour.gr new.routes
+made 'routes of two nets, and of one with a pin' new.routes "$examples/detour.routes"
+expect 'routes by four workers, from routes' 0 'nets 3
+forced 0
+routed 0
+rerouted 0
+rounds 0
+overflow 0
+wirelength 11
+peak 1/2
+given 0 11' detour.gr detour.routes new.routes --workers 4 --seed 7
+made 'routes that nothing is better than' new.routes "$examples/detour.routes"
+head -n 7 "$examples/detour.routes" >few.routes
+expect 'a net without a block' 0 'nets 3
+forced 0
+routed 1
+rerouted 0
+rounds 0
+overflow 0
+wirelength 11
+peak 1/2
+given 0 7' detour.gr few.routes new.routes
+made 'routes of all nets' new.routes "$examples/detour.routes"
+rm few.routes
+expect 'an objection to given routes' 1 'no 47 0' detour.gr cut_off.routes new.routes
+usage='refused 2
+usage: reroute IN [ROUTES] NEW'
+expect 'no words to reroute' 2 "$usage"
+expect 'new routes in the place of the given ones' 2 "$usage" detour.gr detour.routes detour.routes
+expect 'a round more than there may be' 2 "$usage" detour.gr new.routes --rounds 401
+expect 'words to reroute that are no text' 2 "$usage" detour.gr "$(printf '\377.routes')"
+expect 'no design to be rerouted' 3 'refused 3 11 0 grid' detour.routes new.routes
+expect 'no routes to begin with' 4 'refused 4 31 8' detour.gr detour.cert new.routes
+row 0 0 >cut.gr
+expect 'a net that is cut off, and no new routes' 5 'refused 5 4 0 1' cut.gr new.routes
+rm cut.gr
+expect 'routes that are missing, and no new ones' 6 'refused 6' detour.gr missing.routes new.routes
+expect 'new routes in a folder that is missing' 7 'refused 7' detour.gr missing/new.routes
+expect_unheard 'new routes whose report can not be said' 7 detour.gr new.routes
+made 'new routes without a report' new.routes "$examples/detour.routes"
 rm ./*.routes ./*.cert
 program=$room/grouter
 
@@ -596,14 +650,14 @@ judge 'want of memory' 8
 # They stand beside the built programs here, which are newer than all else, so that nothing is left to prove.
 house=$room/house
 mkdir -p "$house/docs"
-cp -R "$top/launch" "$top/grouter" "$top/unavoidable" "$house"
+cp -R "$top/launch" "$top/grouter" "$top/reroute" "$top/unavoidable" "$house"
 cp "$top/docs/FORMATS.md" "$house/docs"
-printf '%s\n' grouter: unavoidable: >"$house/crates.txt"
-for each in grouter unavoidable; do
+printf '%s\n' grouter: reroute: unavoidable: >"$house/crates.txt"
+for each in grouter reroute unavoidable; do
     mkdir -p "$house/crates/$each/out"
     cp "$room/$each" "$house/crates/$each/out"
 done
-for each in grouter unavoidable; do
+for each in grouter reroute unavoidable; do
     program=$house/$each
     help=$(awk -v name="$each" '/^```/ { inside = $0 == "```help-" name; next } inside' "$top/docs/FORMATS.md")
     [ -n "$help" ]

@@ -2,9 +2,12 @@ pub use Rattle.cert_text.specs.CertText
 pub use Rattle.gr_desk.specs.Pens
 pub use Rattle.gr_desk.specs.Ports
 pub use Rattle.gr_desk.specs.Runs
+pub use Rattle.grid_graph.specs.Grids
 pub use Rattle.grid_graph.specs.Grounds
 pub use Rattle.ispd_reader.specs.Designs
 pub use Rattle.ispd_reader.specs.Limits
+pub use Rattle.route_text.specs.RouteText
+pub use Rattle.tree_set.specs.Routings
 pub mod Sources
 pub mod JudgedTexts
 pub mod TextFaults

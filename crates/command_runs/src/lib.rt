@@ -29,7 +29,7 @@ mod text_fault;
 
 pub use grounded_design::GroundedDesign;
 pub use lines::{put_budget, put_fields, put_line};
-pub use outputs::make_cert;
+pub use outputs::{make_cert, make_routes};
 pub use refusal::Refusal;
 pub use refusing::refuse;
 pub use said::{Said, say, try_to_say};

@@ -1,6 +1,7 @@
 -- The sets of all nets, after all blocks.
-use Rattle.std.proofs.Common.{◌≡◌, ℕ, ◌<◌, ◌≤◌, ◌⊎◌, List, [], ◌∷◌, length, map, get_or, Contains, None, refl, sym, ◌∙◌, ap, subst, inl, inr, ⊎_elim, arith, All}
+use Rattle.std.proofs.Common.{◌≡◌, ℕ, ◌<◌, ◌≤◌, ◌⊎◌, Bool, List, [], ◌∷◌, length, map, get_or, Contains, None, refl, sym, ◌∙◌, ap, subst, inl, inr, ⊎_elim, arith, All}
 use Rattle.std.proofs.lemmas.Bool.{cases_eq, cases_lt}
+use Rattle.std.proofs.lemmas.List.Elements.{All-contains}
 use Rattle.std.proofs.lemmas.Option.{slice_get-get_or}
 use Rattle.grid_base.specs.declared.piece.Piece.{Piece}
 use Rattle.grid_base.specs.declared.vertex.Vertex.{Vertex}
@@ -10,13 +11,17 @@ use Rattle.grid_base.proofs.Joined.{JoinsList-few}
 use Rattle.grid_base.proofs.Lists.{AllZip-from_places, Contains-rest, member_from_place, head_or_rest}
 use Rattle.grid_graph.specs.declared.design.Design.{Design}
 use Rattle.grid_graph.specs.declared.grid.Grid.{Grid}
+use Rattle.grid_graph.specs.declared.ground.Ground.TheVariants.{WithChoked}
 use Rattle.grid_graph.specs.declared.net_spec.NetSpec.{NetSpec}
 use Rattle.grid_graph.specs.Grids.{size_of}
+use Rattle.grid_graph.proofs.Grounds.{at_place}
 use Rattle.route_text.specs.declared.block.Block.{Block}
+use Rattle.tree_set.specs.Routings.{KeepsTo}
 use Rattle.tree_set.proofs.Order.{empty-IsRising}
+use Rattle.route_judge.specs.BlockSets.{AreBlockSets, AreMissing}
 use Rattle.route_judge.specs.NetSets.{HasBlock, IsSetOfNet, IsJoining, AreSetsOf, AreJoining}
 use Rattle.route_judge.specs.Objections.{Objection, missing_net, Applies, Finds}
-use Rattle.route_judge.specs.TestedBlocks.{AreSetsAfter}
+use Rattle.route_judge.specs.TestedBlocks.{AreSetsAfter, AreTaken}
 
 -- where nothing is objected, no objection applies
 pub none_of_each : {X : Type 0} (d : Design) (f : X → Objection) (xs : List X) (x : X) → Finds d (map f xs) None → Contains xs x → ¬ Applies d (f x)
@@ -82,3 +87,30 @@ pub all_joining : (d : Design) (blocks : List Block) (trees : List (List Piece))
 all_joining d blocks trees after none =
     AllZip-from_places (IsJoining d.grid) d.nets trees after.long
     (λ k n tree at_n at_tree. joining_at d blocks k n tree at_n (none_of_each d (missing_net blocks) d.nets n none (member_from_place d.nets k n at_n)) (after.each k n tree at_n at_tree) (after.joining k n tree at_n at_tree))
+
+-- and where some do, the others' sets join theirs, and none has a wall
+unwalled_at : (d : Design) (blocks : List Block) (n : NetSpec) (tree : List Piece) → IsSetOfNet d.grid blocks n tree → (HasBlock blocks n.id → IsJoining d.grid n tree) → KeepsTo d.grid WithChoked tree
+unwalled_at d blocks n tree set joining =
+    ⊎_elim
+    (λ has. (joining has).no_wall)
+    (λ none. subst (KeepsTo d.grid WithChoked) (sym (set_of_none d.grid blocks n tree none set)) (λ k other below. absurd (omega (arith, below))))
+    (known_block blocks n.id)
+
+pub all_block_sets : (d : Design) (blocks : List Block) (trees : List (List Piece)) (has : List Bool) (missing : List ℕ) → AreSetsAfter d blocks trees → AreTaken d blocks has → AreMissing d blocks missing
+    → AreBlockSets d blocks trees has missing
+all_block_sets d blocks trees has missing after have lacking = record {
+  sets = all_sets d blocks trees after;
+  no_wall = λ k other below.
+      let net = at_place d.nets k (omega (arith, below, after.long)) in
+      let stands : At trees k (get_or trees k other) = slice_get-get_or trees k other below in
+      unwalled_at d blocks net.0 (get_or trees k other) (after.each k net.0 (get_or trees k other) net.1 stands) (after.joining k net.0 (get_or trees k other) net.1 stands);
+  have = have;
+  lacking = lacking;
+  joining = λ k n tree at_n at_tree present. joining_at d blocks k n tree at_n present (after.each k n tree at_n at_tree) (after.joining k n tree at_n at_tree);
+}
+
+-- blocks that are routes lack no net
+pub none_missing : (d : Design) (blocks : List Block) (missing : List ℕ) → AreMissing d blocks missing → Finds d (map (missing_net blocks) d.nets) None → missing ≡ []
+none_missing d blocks missing are none = none_held missing (λ k held.
+    let net = at_place d.nets k (All-contains (λ j. j < length d.nets) missing k are.places held) in
+    none_of_each d (missing_net blocks) d.nets net.0 none (member_from_place d.nets k net.0 net.1) ((are.each k net.0 net.1).0 held))

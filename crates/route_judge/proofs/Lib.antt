@@ -2,6 +2,7 @@ pub mod AllSets
 pub mod BlockTests
 pub mod Found
 pub mod Judged
+pub mod MissingNets
 pub mod OnSegments
 pub mod OpenEdges
 pub mod PlacesById

@@ -1,8 +1,11 @@
 -- What the judge answers.
 use Rattle.std.specs.Prelude.{ℕ, Option, None, Some}
 use Rattle.tree_set.specs.declared.measure.Measure.{Measure}
+use Rattle.route_judge.specs.declared.block_sets.BlockSets.{BlockSets}
 use Rattle.route_judge.specs.declared.checked.Checked.{Checked}
 use Rattle.route_judge.specs.declared.checked.Checked.TheVariants as checked
+use Rattle.route_judge.specs.declared.checked_blocks.CheckedBlocks.{CheckedBlocks}
+use Rattle.route_judge.specs.declared.checked_blocks.CheckedBlocks.TheVariants as checked_blocks
 use Rattle.route_judge.specs.declared.verdict.Verdict.{Verdict}
 use Rattle.route_judge.specs.declared.verdict.Verdict.TheVariants as verdict
 use Rattle.route_judge.specs.declared.reason.Reason.{Reason}
@@ -25,3 +28,12 @@ reason_of_verdict (verdict.No reason) = Some reason
 abbrev pub IfYes : Verdict → (Measure → ℕ → Type 0) → Type 0
 IfYes (verdict.Yes measure beyond) Said = Said measure beyond
 IfYes (verdict.No reason) Said = Unit {0}
+
+-- the same of blocks where nets may lack one
+abbrev pub reason_against_blocks : CheckedBlocks → Option Reason
+reason_against_blocks (checked_blocks.Yes sets) = None
+reason_against_blocks (checked_blocks.No reason) = Some reason
+
+abbrev pub IfNamed : CheckedBlocks → (BlockSets → Type 0) → Type 0
+IfNamed (checked_blocks.Yes sets) Said = Said sets
+IfNamed (checked_blocks.No reason) Said = Unit {0}

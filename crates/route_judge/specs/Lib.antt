@@ -7,6 +7,7 @@ pub use Rattle.tree_set.specs.Routings
 pub use Rattle.route_text.specs.BlockPieces
 pub use Rattle.route_text.specs.ReadLimits
 pub mod Answers
+pub mod BlockSets
 pub mod Bounds
 pub mod Counted
 pub mod Counts

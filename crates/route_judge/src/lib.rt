@@ -11,6 +11,10 @@
 //! let verdict = judge(&rt, alloc, &design, grounds.as_slice(), blocks.as_slice(), &cert)?;
 //! let loads = loads_of(alloc, &design, grounds.as_slice(), blocks.as_slice())?;    // the edges' loads, of routes
 //! let trees = trees_of(alloc, &design, blocks.as_slice())?;    // and the nets' sets
+//! match sets_of_blocks(alloc, &design, blocks.as_slice())? {   // where nets may lack a block
+//!     CheckedBlocks::Yes(sets) => ..            // the sets, and which nets need a block and have none
+//!     CheckedBlocks::No(reason) => ..
+//! }
 //! ```
 //!
 //! It stands on `route_text` and `cert_text` for what was read, on `straight_runs` for blocks as straight runs, on `tree_set` for
@@ -25,9 +29,11 @@
 #![tactic(auto)]
 
 mod beyond;
+mod block_sets;
 mod blocks;
 mod bounds;
 mod checked;
+mod checked_blocks;
 mod claims;
 mod counted;
 mod joining;
@@ -50,7 +56,9 @@ mod taken;
 mod tested;
 mod verdict;
 
+pub use block_sets::{BlockSets, sets_of_blocks};
 pub use checked::Checked;
+pub use checked_blocks::CheckedBlocks;
 pub use claims::forced_count;
 pub use counted::Counted;
 pub use judging::judge;

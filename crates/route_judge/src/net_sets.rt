@@ -4,7 +4,7 @@ ghost use Rattle.std.specs.Prelude.{◌≡◌, [], IfOk};
 ghost use Rattle.route_judge.specs.Limits.{AreBlocks};
 ghost use Rattle.route_judge.specs.Orders.{all_block_objections};
 ghost use Rattle.route_judge.specs.Stops.{StopsAt};
-ghost use Rattle.route_judge.specs.TestedBlocks.{AreSetsAfter};
+ghost use Rattle.route_judge.specs.TestedBlocks.{AreSetsAfter, AreTaken};
 
 use crate::blocks::test_block;
 use crate::net_places::NetPlaces;
@@ -18,6 +18,14 @@ use std::alloc::Global;
 use straight_runs::{LineCounts, set_of_runs};
 use tree_set::Tree;
 
+/// What the blocks of a text give the nets.
+#[derive(Drop)]
+pub(crate) struct NetSets {
+    /// The set of each net, in file order.
+    pub trees: Vec<Tree>,
+    pub taken: TakenNets,
+}
+
 /// One empty set per net.
 fn empty_sets(alloc: Global, design: &Design) -> Result<Vec<Tree>, NoMemory>
     ensures { IfOk result (λ trees. AreSetsAfter design.now [] trees.items) }
@@ -29,11 +37,12 @@ fn empty_sets(alloc: Global, design: &Design) -> Result<Vec<Tree>, NoMemory>
     Ok(trees)
 }
 
-/// The set of each net, in file order, after all blocks. Stops at the first reason against them.
-pub(crate) fn sets_of(alloc: Global, design: &Design, blocks: &[Block]) -> Result<Vec<Tree>, Stop>
+/// The set of each net after all blocks, and which nets have one of them. Stops at the first reason against them.
+pub(crate) fn sets_of(alloc: Global, design: &Design, blocks: &[Block]) -> Result<NetSets, Stop>
     requires { AreBlocks blocks.now }
     ensures stops { StopsAt design.now (all_block_objections blocks.now) result }
-    ensures sets { IfOk result (λ trees. AreSetsAfter design.now blocks.now trees.items) }
+    ensures sets { IfOk result (λ sets. AreSetsAfter design.now blocks.now sets.trees.items) }
+    ensures taken { IfOk result (λ sets. AreTaken design.now blocks.now sets.taken.nets.items) }
 {
     let places = NetPlaces::of(alloc, design.nets.list())?;
     let walls = LineCounts::of(alloc, &design.grid, Kind::Wall)?;
@@ -46,5 +55,5 @@ pub(crate) fn sets_of(alloc: Global, design: &Design, blocks: &[Block]) -> Resul
         let tree = set_of_runs(alloc, design.grid.size(), runs.as_slice())?;
         trees[place] = tree;
     }
-    Ok(trees)
+    Ok(NetSets { trees, taken })
 }

@@ -99,7 +99,7 @@ pub fn trees_of(alloc: Global, design: &Design, blocks: &[Block]) -> Result<Vec<
     ensures joining { IfOk result (λ trees. AreJoining design.now trees.items) }
 {
     match sets_of(alloc, design, blocks) {
-        Ok(trees) => Ok(trees),
+        Ok(sets) => Ok(sets.trees),
         Err(Stop::NoMemory) => Err(NoMemory),
         Err(Stop::Refused(_)) => unreachable!(),
     }

@@ -10,7 +10,7 @@ use Rattle.grid_base.specs.declared.size.Size.{Size}
 use Rattle.grid_graph.specs.Grids.{size_of}
 use Rattle.grid_graph.proofs.Grounds.{at_place}
 use Rattle.route_judge.specs.Orders.{block_objections}
-use Rattle.route_judge.specs.TestedBlocks.{AreSetsAfter}
+use Rattle.route_judge.specs.TestedBlocks.{AreSetsAfter, AreTaken}
 use Rattle.route_judge.proofs.BlockTests.{one_block_more, sets_more}
 use Rattle.route_judge.proofs.Found.{none_numbered, stops_numbered, none_in_all}
 use Rattle.route_judge.proofs.net_sets.sets_of.Goals as goal
@@ -57,3 +57,7 @@ returns-clause-stops c = none_in_all c.args.design.now (block_objections c.args.
 pub returns-clause-sets : goal.returns-clause-sets
 returns-clause-sets c =
     subst (λ earlier. AreSetsAfter c.args.design.now earlier c.loop-number.trees.items) (take_all c.loop-number.number c.args.blocks.now c.loop-number-test.false) c.loop-number.invariant.sets
+
+pub returns-clause-taken : goal.returns-clause-taken
+returns-clause-taken c =
+    subst (λ earlier. AreTaken c.args.design.now earlier c.loop-number.taken.nets.items) (take_all c.loop-number.number c.args.blocks.now c.loop-number-test.false) c.loop-number.invariant.taken

@@ -17,10 +17,10 @@ unreachable-requires c =
     cc same
 
 pub returns-in-Ok-clause-sets : goal.returns-in-Ok-clause-sets
-returns-in-Ok-clause-sets c = all_sets c.args.design.now c.args.blocks.now c.in-Ok.trees.items c.in-Ok.ensures.sets
+returns-in-Ok-clause-sets c = all_sets c.args.design.now c.args.blocks.now c.in-Ok.sets.trees.items c.in-Ok.ensures.sets
 
 pub returns-in-Ok-clause-joining : goal.returns-in-Ok-clause-joining
 returns-in-Ok-clause-joining c =
     let d = c.args.design.now in
     let blocks = c.args.blocks.now in
-    all_joining d blocks c.in-Ok.trees.items c.in-Ok.ensures.sets (none_behind d (all_block_objections blocks) (map (missing_net blocks) d.nets) c.requires.routes)
+    all_joining d blocks c.in-Ok.sets.trees.items c.in-Ok.ensures.sets (none_behind d (all_block_objections blocks) (map (missing_net blocks) d.nets) c.requires.routes)

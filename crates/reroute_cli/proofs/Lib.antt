@@ -1,0 +1,4 @@
+pub mod GivenSets
+pub mod SamePieces
+pub mod TrueRoutes
+pub mod WholeRuns

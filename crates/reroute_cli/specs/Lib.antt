@@ -1,0 +1,13 @@
+pub use Rattle.negotiation.specs.Rerouted
+pub use Rattle.negotiation.specs.Settings
+pub use Rattle.route_judge.specs.BlockSets
+pub use Rattle.route_judge.specs.Limits
+pub use Rattle.route_text.specs.Written
+pub use Rattle.routing_state.specs.Totals
+pub use Rattle.tree_set.specs.Order
+pub mod RerouteRuns
+pub mod RerouteHeadline
+pub mod NewRoutes
+pub mod RerouteRun
+pub mod Report
+pub mod Usage
