@@ -5,7 +5,7 @@ use Rattle.grid_graph.specs.Grids.{edge_numbers}
 use Rattle.edge_prices.specs.Weights.{is_open}
 use Rattle.route_judge.specs.Counts.{open_below, listed_price}
 use Rattle.route_judge.proofs.OpenEdges.{as_number, at_most_one, open_below-more, listed_more}
-use Rattle.route_judge.proofs.listed_prices.listed_prices.Goals as goal
+use Rattle.route_judge.proofs.listing.listed_prices.Goals as goal
 
 pub loop-e-preserved : goal.loop-e-preserved
 loop-e-preserved c =

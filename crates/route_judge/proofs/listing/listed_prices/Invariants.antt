@@ -1,7 +1,7 @@
 use Rattle.std.proofs.Common.{◌≡◌, ◌≤◌, map}
 use Rattle.std.specs.List.{range_with_len}
 use Rattle.route_judge.specs.Counts.{open_below, listed_price}
-use Rattle.route_judge.proofs.listed_prices.listed_prices.Given as goal
+use Rattle.route_judge.proofs.listing.listed_prices.Given as goal
 
 -- the prices so far, and the place of the next open edge's price
 abbrev pub invariant-loop-e : goal.invariant-loop-e

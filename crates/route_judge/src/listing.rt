@@ -19,7 +19,7 @@ fn price_of(is_open: bool, listed: &[u32], place: usize) -> u32
 }
 
 /// The price of each edge number, where the prices of the open edges are listed in rising order.
-pub(crate) fn listed_prices(
+pub fn listed_prices(
     alloc: Global,
     grid: &Grid,
     listed: &[u32],
