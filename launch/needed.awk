@@ -1,4 +1,4 @@
-# The lines of crates.txt of the two programs and of all crates that they stand on.
+# The lines of crates.txt of the programs and of all crates that they stand on.
 /^[a-z]/ {
     name = $1
     sub(/:$/, "", name)
@@ -16,5 +16,6 @@ function need(name,    words, many, at) {
 END {
     need("grouter")
     need("unavoidable")
+    need("congestion_map")
     for (at = 1; at <= count; at++) if (names[at] in needed) print line[names[at]]
 }

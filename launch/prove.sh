@@ -1,5 +1,5 @@
 #!/bin/sh
-# Proves and builds both programs, and says on standard error how far it is:
+# Proves and builds the programs, and says on standard error how far it is:
 #   launch/prove.sh NAME, where NAME is who asks
 #
 # The toolchain's gate proves crates side by side that don't stand on each other. It runs on a copy that has only the crates
@@ -57,7 +57,7 @@ far() {
         "$top/docs/AUDIT.md" "$room/crates.txt" "$room/log"
 }
 
-say "proving and building both programs on $processors processors; later starts are immediate"
+say "proving and building the programs on $processors processors; later starts are immediate"
 (cd "$room" && exec rt ci) >"$room/log" 2>&1 </dev/null &
 prover=$!
 [ -t 2 ] || say "$(far now=1)"
@@ -95,7 +95,7 @@ if [ "$status" -ne 0 ]; then
 fi
 
 # As old as the copy, so that a change that came meanwhile counts as newer; and put in place whole, since the old one may be running.
-for made in grouter unavoidable; do
+for made in grouter unavoidable congestion_map; do
     mkdir -p "$top/crates/$made/out"
     cp "$room/crates/$made/out/$made" "$top/crates/$made/out/$made.new"
     touch -r "$room/crates.txt" "$top/crates/$made/out/$made.new"

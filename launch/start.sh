@@ -1,6 +1,6 @@
 #!/bin/sh
-# Starts one of the two programs on the words given, and has both proved and built first where that is still to do:
-#   launch/start.sh grouter|unavoidable WORD..
+# Starts one of the programs on the words given, and has both proved and built first where that is still to do:
+#   launch/start.sh grouter|unavoidable|congestion_map WORD..
 # Its own statuses are 0 for --help, 126 where the programs could not be proved or built, and 127 without a toolchain.
 set -eu
 
