@@ -33,13 +33,13 @@ Given = List ℕ × List ℕ
 
 -- ---- options with their values, as clap's walk sees them
 
-abbrev pub use_of : Given → Use
-use_of given = (rule_for given.0, given.1)
+abbrev pub use_of : Kind → Given → Use
+use_of kind given = (rule_for kind given.0, given.1)
 
 abbrev pub fits : Kind → Given → Bool
 fits kind given = has_option (form_of kind) given.0 && is_value_word given.1
 
-are_uses : (kind : Kind) (words : List Text) → are_pairs words ≡ true → list_all (fits kind) (in_pairs words) ≡ true → AreUses (rules kind) words (map use_of (in_pairs words))
+are_uses : (kind : Kind) (words : List Text) → are_pairs words ≡ true → list_all (fits kind) (in_pairs words) ≡ true → AreUses (rules kind) words (map (use_of kind) (in_pairs words))
 are_uses kind [] even fit = tt
 are_uses kind (word ∷ []) even fit = absurd (true≢false (sym even))
 are_uses kind (word ∷ text ∷ words) even fit =
@@ -47,23 +47,23 @@ are_uses kind (word ∷ text ∷ words) even fit =
     let both = and_parts (has_option (form_of kind) word) (is_value_word text) parts.0 in
     (option_word kind word both.0, refl, no_hyphen text both.1, are_uses kind words even parts.1)
 
-are_single : (kind : Kind) (ps : List Given) → list_all (fits kind) ps ≡ true → AreSingle (rules kind) (map use_of ps)
+are_single : (kind : Kind) (ps : List Given) → list_all (fits kind) ps ≡ true → AreSingle (rules kind) (map (use_of kind) ps)
 are_single kind [] fit = tt
 are_single kind (given ∷ ps) fit =
     let parts = and_parts (fits kind given) (list_all (fits kind) ps) fit in
     let both = and_parts (has_option (form_of kind) given.0) (is_value_word given.1) parts.0 in
     ((option_word kind given.0 both.0).single, are_single kind ps parts.1)
 
-word_at : (kind : Kind) (word : Text) → has_option (form_of kind) word ≡ true → word ≡ 45 ∷ 45 ∷ (rule_for word).id
-word_at kind = of_option kind (λ word. word ≡ 45 ∷ 45 ∷ (rule_for word).id)
-    (λ option is. (sound option).word ∙ ap (λ (r : Rule). 45 ∷ 45 ∷ r.id) (sym (rule_is option)))
+word_at : (kind : Kind) (word : Text) → has_option (form_of kind) word ≡ true → word ≡ 45 ∷ 45 ∷ (rule_for kind word).id
+word_at kind = of_option kind (λ word. word ≡ 45 ∷ 45 ∷ (rule_for kind word).id)
+    (λ option is. (sound option).word ∙ ap (λ (r : Rule). 45 ∷ 45 ∷ r.id) (sym (rule_is kind option is)))
 
-words_are : (kind : Kind) (ps : List Given) → list_all (fits kind) ps ≡ true → map (λ given. given.0) ps ≡ map (λ (id : Text). 45 ∷ 45 ∷ id) (ids_of (map use_of ps))
+words_are : (kind : Kind) (ps : List Given) → list_all (fits kind) ps ≡ true → map (λ given. given.0) ps ≡ map (λ (id : Text). 45 ∷ 45 ∷ id) (ids_of (map (use_of kind) ps))
 words_are kind [] fit = refl
 words_are kind (given ∷ ps) fit =
     let parts = and_parts (fits kind given) (list_all (fits kind) ps) fit in
     let both = and_parts (has_option (form_of kind) given.0) (is_value_word given.1) parts.0 in
-    ap (λ (word : Text). word ∷ map (λ g. g.0) ps) (word_at kind given.0 both.0) ∙ ap (λ (ws : List Text). (45 ∷ 45 ∷ (rule_for given.0).id) ∷ ws) (words_are kind ps parts.1)
+    ap (λ (word : Text). word ∷ map (λ g. g.0) ps) (word_at kind given.0 both.0) ∙ ap (λ (ws : List Text). (45 ∷ 45 ∷ (rule_for kind given.0).id) ∷ ws) (words_are kind ps parts.1)
 
 any_dashed : (x : Text) (xs : List Text) → list_any (bytes_eq (45 ∷ 45 ∷ x)) (map (λ (id : Text). 45 ∷ 45 ∷ id) xs) ≡ list_any (bytes_eq x) xs
 any_dashed x [] = refl
@@ -73,8 +73,8 @@ differ_dashed : (xs : List Text) → all_differ (map (λ (id : Text). 45 ∷ 45 
 differ_dashed [] = refl
 differ_dashed (x ∷ xs) = ap (λ b. not b && all_differ (map (λ (id : Text). 45 ∷ 45 ∷ id) xs)) (any_dashed x xs) ∙ ap (λ b. not (list_any (bytes_eq x) xs) && b) (differ_dashed xs)
 
-ids_differ : (kind : Kind) (ps : List Given) → list_all (fits kind) ps ≡ true → all_differ (map (λ given. given.0) ps) ≡ true → all_differ (ids_of (map use_of ps)) ≡ true
-ids_differ kind ps fit differ = sym (differ_dashed (ids_of (map use_of ps))) ∙ sym (ap all_differ (words_are kind ps fit)) ∙ differ
+ids_differ : (kind : Kind) (ps : List Given) → list_all (fits kind) ps ≡ true → all_differ (map (λ given. given.0) ps) ≡ true → all_differ (ids_of (map (use_of kind) ps)) ≡ true
+ids_differ kind ps fit differ = sym (differ_dashed (ids_of (map (use_of kind) ps))) ∙ sym (ap all_differ (words_are kind ps fit)) ∙ differ
 
 -- ---- what is refused
 
@@ -82,9 +82,9 @@ abbrev fault_unless : Bool → Kinds
 fault_unless b = or_else (cond b [] (kinds.ValueValidation ∷ [])) []
 
 value_fault_is : (kind : Kind) (word : Text) → has_option (form_of kind) word ≡ true → (t : Text) → is_value_word t ≡ true
-    → values_fault (rule_for word) (t ∷ []) ≡ fault_unless (is_given_in_range kind (word, t))
-value_fault_is kind = of_option kind (λ word. (t : Text) → is_value_word t ≡ true → values_fault (rule_for word) (t ∷ []) ≡ fault_unless (is_given_in_range kind (word, t)))
-    (λ option is t value. ap (λ (r : Rule). values_fault r (t ∷ [])) (rule_is option)
+    → values_fault (rule_for kind word) (t ∷ []) ≡ fault_unless (is_given_in_range kind (word, t))
+value_fault_is kind = of_option kind (λ word. (t : Text) → is_value_word t ≡ true → values_fault (rule_for kind word) (t ∷ []) ≡ fault_unless (is_given_in_range kind (word, t)))
+    (λ option is t value. ap (λ (r : Rule). values_fault r (t ∷ [])) (rule_is kind option is)
     ∙ ap fault_unless (accepts_is false (option_of option).least (option_of option).most t value (sound option).small
     ∙ sym (or-false (in_range (option_of option).least (option_of option).most t)) ∙ sym (is.2 t)))
 
@@ -93,21 +93,21 @@ value_is_fine true rest e = (refl, e)
 value_is_fine false rest e = cc
 
 -- no value is refused exactly where all are in range
-pub refused_none : (kind : Kind) (ps : List Given) → list_all (fits kind) ps ≡ true → all_faults (map use_of ps) ≡ [] → list_all (is_given_in_range kind) ps ≡ true
+pub refused_none : (kind : Kind) (ps : List Given) → list_all (fits kind) ps ≡ true → all_faults (map (use_of kind) ps) ≡ [] → list_all (is_given_in_range kind) ps ≡ true
 refused_none kind [] fit none = refl
 refused_none kind (given ∷ ps) fit none =
     let parts = and_parts (fits kind given) (list_all (fits kind) ps) fit in
     let both = and_parts (has_option (form_of kind) given.0) (is_value_word given.1) parts.0 in
-    let here = value_is_fine (is_given_in_range kind given) (all_faults (map use_of ps)) (ap (λ k. or_else k (all_faults (map use_of ps))) (sym (value_fault_is kind given.0 both.0 given.1 both.1)) ∙ none) in
+    let here = value_is_fine (is_given_in_range kind given) (all_faults (map (use_of kind) ps)) (ap (λ k. or_else k (all_faults (map (use_of kind) ps))) (sym (value_fault_is kind given.0 both.0 given.1 both.1)) ∙ none) in
     rw (here.0, refused_none kind ps parts.1 here.1) refl
 
-pub none_refused : (kind : Kind) (ps : List Given) → list_all (fits kind) ps ≡ true → list_all (is_given_in_range kind) ps ≡ true → all_faults (map use_of ps) ≡ []
+pub none_refused : (kind : Kind) (ps : List Given) → list_all (fits kind) ps ≡ true → list_all (is_given_in_range kind) ps ≡ true → all_faults (map (use_of kind) ps) ≡ []
 none_refused kind [] fit all = refl
 none_refused kind (given ∷ ps) fit all =
     let parts = and_parts (fits kind given) (list_all (fits kind) ps) fit in
     let both = and_parts (has_option (form_of kind) given.0) (is_value_word given.1) parts.0 in
     let here = and_parts (is_given_in_range kind given) (list_all (is_given_in_range kind) ps) all in
-    ap (λ k. or_else k (all_faults (map use_of ps))) (value_fault_is kind given.0 both.0 given.1 both.1 ∙ ap fault_unless here.0) ∙ none_refused kind ps parts.1 here.1
+    ap (λ k. or_else k (all_faults (map (use_of kind) ps))) (value_fault_is kind given.0 both.0 given.1 both.1 ∙ ap fault_unless here.0) ∙ none_refused kind ps parts.1 here.1
 
 -- ---- rows of options
 
@@ -122,19 +122,19 @@ has_is (r ∷ rows) id = step (bytes_eq r.id id) (has_is rows id)
 abbrev pub given_for : Text → List Given → Option Given
 given_for word ps = find (λ given. bytes_eq given.0 word) ps
 
-abbrev row_given : Given → Row
-row_given given = row_for (use_of given)
+abbrev row_given : Kind → Given → Row
+row_given kind given = row_for (use_of kind given)
 
-use_found : (kind : Kind) (id : Text) (ps : List Given) → list_all (fits kind) ps ≡ true → row_at id (map row_for (map use_of ps)) ≡ option_map row_given (given_for (45 ∷ 45 ∷ id) ps)
+use_found : (kind : Kind) (id : Text) (ps : List Given) → list_all (fits kind) ps ≡ true → row_at id (map row_for (map (use_of kind) ps)) ≡ option_map (row_given kind) (given_for (45 ∷ 45 ∷ id) ps)
 use_found kind id [] fit = refl
 use_found kind id (given ∷ ps) fit =
     let parts = and_parts (fits kind given) (list_all (fits kind) ps) fit in
     let both = and_parts (has_option (form_of kind) given.0) (is_value_word given.1) parts.0 in
-    let same : bytes_eq given.0 (45 ∷ 45 ∷ id) ≡ bytes_eq (rule_for given.0).id id = ap (λ (word : Text). bytes_eq word (45 ∷ 45 ∷ id)) (word_at kind given.0 both.0) in
-    sym (ap (λ b. cond b (Some (row_given given)) (row_at id (map row_for (map use_of ps)))) same) ∙ step (bytes_eq given.0 (45 ∷ 45 ∷ id)) (use_found kind id ps parts.1)
+    let same : bytes_eq given.0 (45 ∷ 45 ∷ id) ≡ bytes_eq (rule_for kind given.0).id id = ap (λ (word : Text). bytes_eq word (45 ∷ 45 ∷ id)) (word_at kind given.0 both.0) in
+    sym (ap (λ b. cond b (Some (row_given kind given)) (row_at id (map row_for (map (use_of kind) ps)))) same) ∙ step (bytes_eq given.0 (45 ∷ 45 ∷ id)) (use_found kind id ps parts.1)
   where
-    step : (b : Bool) → row_at id (map row_for (map use_of ps)) ≡ option_map row_given (given_for (45 ∷ 45 ∷ id) ps)
-        → cond b (Some (row_given given)) (row_at id (map row_for (map use_of ps))) ≡ option_map row_given (cond b (Some given) (given_for (45 ∷ 45 ∷ id) ps))
+    step : (b : Bool) → row_at id (map row_for (map (use_of kind) ps)) ≡ option_map (row_given kind) (given_for (45 ∷ 45 ∷ id) ps)
+        → cond b (Some (row_given kind given)) (row_at id (map row_for (map (use_of kind) ps))) ≡ option_map (row_given kind) (cond b (Some given) (given_for (45 ∷ 45 ∷ id) ps))
     step true e = refl
     step false e = e
 
@@ -150,8 +150,8 @@ found_passes q word (p ∷ ps) given all found = step (bytes_eq p.0 word) refl f
         (subst (λ (g : Given). q g ≡ true) same (and_parts (q p) (list_all q ps) all).0, subst (λ (g : Given). bytes_eq g.0 word ≡ true) same e)
     step false e f more = more f
 
-reading_is : (kind : Kind) (word : Text) → has_option (form_of kind) word ≡ true → reading_by (rule_for word) ≡ AsWritten
-reading_is kind = of_option kind (λ word. reading_by (rule_for word) ≡ AsWritten) (λ option is. ap reading_by (rule_is option))
+reading_is : (kind : Kind) (word : Text) → has_option (form_of kind) word ≡ true → reading_by (rule_for kind word) ≡ AsWritten
+reading_is kind = of_option kind (λ word. reading_by (rule_for kind word) ≡ AsWritten) (λ option is. ap reading_by (rule_is kind option is))
 
 -- the text of an option that is given, or else of its default
 abbrev text_or : Option Text → Option Given → Option Text
@@ -177,7 +177,7 @@ module _ (kind : Kind) (w : Text) (ws : List Text)
   words = w ∷ ws
 
   abbrev us : List Use
-  us = map use_of (in_pairs ws)
+  us = map (use_of kind) (in_pairs ws)
 
   abbrev rows : List Row
   rows = map row_for us
@@ -235,15 +235,15 @@ module _ (kind : Kind) (w : Text) (ws : List Text)
     abbrev form : OptionForm
     form = option_of option
 
-    option_row : row_at id rows ≡ option_map row_given (given_for (45 ∷ 45 ∷ id) (in_pairs ws))
+    option_row : row_at id rows ≡ option_map (row_given kind) (given_for (45 ∷ 45 ∷ id) (in_pairs ws))
     option_row = use_found kind id (in_pairs ws) fit
 
     row_is : (o : Option Given) → given_for (45 ∷ 45 ∷ id) (in_pairs ws) ≡ o → option_and_then row_text (row_at id found) ≡ text_or (default_text option) o
     row_is None e =
-        let same : row_at id rows ≡ None = option_row ∙ ap (option_map row_given) e in
+        let same : row_at id rows ≡ None = option_row ∙ ap (option_map (row_given kind)) e in
         ap (option_and_then row_text) (default_is_found (rules kind) rows id (has_is rows id ∙ ap is_some same)) ∙ is.3
     row_is (Some given) e =
-        let same : row_at id rows ≡ Some (row_given given) = option_row ∙ ap (option_map row_given) e in
+        let same : row_at id rows ≡ Some (row_given kind given) = option_row ∙ ap (option_map (row_given kind)) e in
         let passes = found_passes (fits kind) (45 ∷ 45 ∷ id) (in_pairs ws) given fit e in
         let both = and_parts (has_option (form_of kind) given.0) (is_value_word given.1) passes.0 in
         ap (option_and_then row_text) (found_stays (rules kind) rows id (has_is rows id ∙ ap is_some same) ∙ same)

@@ -7,3 +7,7 @@ pub mod Commands
 pub mod Rules
 pub mod Found
 pub mod Parts
+pub mod RerouteForms
+pub mod MapOptions
+pub mod Layers
+pub mod MapNames

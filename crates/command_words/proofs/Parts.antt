@@ -1,5 +1,5 @@
 -- The words of a command taken apart, and what a parse of them gives.
-use Rattle.std.proofs.Common.{◌≡◌, ◌∙◌, ◌==◌, ◌&&◌, ◌+◌, ◌<◌, ℕ, zero, suc, true, refl, sym, ap, subst, arith, true≢false, List, [], ◌∷◌, map, length, take, drop, Option, Some, None, Result}
+use Rattle.std.proofs.Common.{◌≡◌, ◌∙◌, ◌==◌, ◌&&◌, ◌-◌, ◌<◌, ℕ, zero, suc, true, refl, sym, ap, subst, arith, true≢false, List, [], ◌∷◌, map, length, take, drop, Option, Some, None, Result}
 use Rattle.std.proofs.lemmas.Bool.{and_parts}
 use Rattle.std.specs.Prelude.{IfSome, IsSome, find, slice_get}
 use Rattle.std.specs.List.{list_all}
@@ -13,7 +13,7 @@ use Rattle.clap.proofs.WalkLemmas.{one_text-rows}
 use Rattle.command_words.specs.declared.kind.Kind.{Kind}
 use Rattle.command_words.specs.declared.option_name.OptionName.{OptionName}
 use Rattle.command_words.specs.CommandLine.{CommandForm, IsOptionValue, OptionForm, all_differ, are_names, are_options, are_pairs, begins_with, given_options, has_option, has_shape, has_values_in_range, in_pairs, is_command_of, names_in, option_words, value_for, value_or}
-use Rattle.command_words.specs.Kinds.{form_of, id_of, option_of}
+use Rattle.command_words.specs.Kinds.{form_of, id_of, option_named, option_of}
 use Rattle.command_words.specs.Apps.{AreReadWords, app_of_kind, found_in}
 use Rattle.command_words.proofs.Uses.{all_faults}
 use Rattle.command_words.proofs.Rules.{is_given_in_range, known_option}
@@ -74,7 +74,7 @@ module _ (kind : Kind) (words : List Text) (shaped : has_shape (form_of kind) wo
   abbrev behind : List Text
   behind = drop (form_of kind).names words
 
-  faults_are : fault_of (app_of_kind kind) behind ≡ all_faults (map use_of (in_pairs p.rest))
+  faults_are : fault_of (app_of_kind kind) behind ≡ all_faults (map (use_of kind) (in_pairs p.rest))
   faults_are = ap (fault_of (app_of_kind kind)) p.is ∙ fault_is kind p.first p.rest p.even p.fit p.differ
 
   -- a parse fails for want of memory alone exactly where the values are in range
@@ -87,7 +87,7 @@ module _ (kind : Kind) (words : List Text) (shaped : has_shape (form_of kind) wo
   matches_are : matches_of (app_of_kind kind) behind ≡ matches_of (app_of_kind kind) (p.first ∷ p.rest)
   matches_are = ap (matches_of (app_of_kind kind)) p.is
 
-  module _ (option : OptionName) (has : has_option (form_of kind) (option_of option).word ≡ true) (ranged : has_values_in_range (form_of kind) words ≡ true) where
+  module _ (option : OptionName) (has : has_option (form_of kind) (option_of option).word ≡ true) (named : option_named kind (option_of option).word ≡ option) (ranged : has_values_in_range (form_of kind) words ≡ true) where
     values_are : value_for (option_of option) (in_pairs p.rest) ≡ value_for (option_of option) (given_options (form_of kind) words)
     values_are = ap (λ (ws : List Text). value_for (option_of option) (in_pairs ws)) p.given
 
@@ -96,13 +96,13 @@ module _ (kind : Kind) (words : List Text) (shaped : has_shape (form_of kind) wo
         → ((t : Text) → one_of (id_of option) (matches_of (app_of_kind kind) behind) ≡ Some t → ReadsOne G t r)
         → value_for (option_of option) (given_options (form_of kind) words) ≡ r
     value_there {E = E} G only r none some =
-        sym values_are ∙ number_is kind p.first p.rest p.even p.fit p.differ option (known_option kind option has) (ranged_is ∙ ranged) E G only r
+        sym values_are ∙ number_is kind p.first p.rest p.even p.fit p.differ option (known_option kind option has named) (ranged_is ∙ ranged) E G only r
         (λ e. none (ap (one_of (id_of option)) matches_are ∙ e)) (λ t e. some t (ap (one_of (id_of option)) matches_are ∙ e))
 
     pub value_in_range : (r : Option ℕ) → value_for (option_of option) (given_options (form_of kind) words) ≡ r → IfSome r (IsOptionValue (option_of option))
     value_in_range None is = tt
     value_in_range (Some n) is =
-        number_ranged kind p.first p.rest p.even p.fit p.differ option (known_option kind option has) (ranged_is ∙ ranged) n (values_are ∙ is)
+        number_ranged kind p.first p.rest p.even p.fit p.differ option (known_option kind option has named) (ranged_is ∙ ranged) n (values_are ∙ is)
 
 -- how `u64` reads a text, where its errors are explained so
 abbrev GivesNumber : {E : Type 0} → (List ℕ → Result ℕ E → Type 0) → List ℕ → Result ℕ E → Type 0
@@ -116,12 +116,12 @@ module _ (m : ArgMatches) (kind : Kind) (words : List Text) (read : AreReadWords
   rows_are : rows_of (found_of m) ≡ matches_of (app_of_kind kind) given
   rows_are = read.found ∙ found_is kind words
 
-  pub value_read : (option : OptionName) → has_option (form_of kind) (option_of option).word ≡ true
+  pub value_read : (option : OptionName) → has_option (form_of kind) (option_of option).word ≡ true → option_named kind (option_of option).word ≡ option
       → {E : Type 0} (explains : List ℕ → Result ℕ E → Type 0) (r : Option ℕ) (id : Text) → id ≡ id_of option
       → (one_text (found_of m) id ≡ None → r ≡ None) → ((t : Text) → one_text (found_of m) id ≡ Some t → ReadsOne (GivesNumber explains) t r)
       → value_for (option_of option) (given_options (form_of kind) words) ≡ r
-  value_read option has explains r id same none some =
-      value_there kind words read.shaped option has read.in_range (GivesNumber explains) (λ u x gives. gives.0) r (λ e. none (text ∙ e)) (λ t e. some t (text ∙ e))
+  value_read option has named explains r id same none some =
+      value_there kind words read.shaped option has named read.in_range (GivesNumber explains) (λ u x gives. gives.0) r (λ e. none (text ∙ e)) (λ t e. some t (text ∙ e))
     where
       text : one_text (found_of m) id ≡ one_of (id_of option) (matches_of (app_of_kind kind) given)
       text = one_text-rows (found_of m) id ∙ ap (one_of id) rows_are ∙ ap (λ (i : Text). one_of i (matches_of (app_of_kind kind) given)) same
@@ -143,12 +143,17 @@ slice_get-front (suc n) place [] below = refl
 slice_get-front (suc n) zero (x ∷ xs) below = refl
 slice_get-front (suc n) (suc place) (x ∷ xs) below = slice_get-front n place xs (omega (arith, below))
 
--- a name is the word behind as many words
-pub name_is : (form : CommandForm) (words : List Text) (place : ℕ) (t : Text) → place < form.names → slice_get words (place + 1) ≡ Some t → slice_get (names_in form words) place ≡ Some t
-name_is form [] place t below is = absurd (cc)
-name_is form (word ∷ words) place t below is =
-    let next : suc place ≡ place + 1 = omega arith in
-    slice_get-front form.names place words below ∙ ap (slice_get (word ∷ words)) next ∙ is
+-- a name is a word behind the first
+pub name_is : (form : CommandForm) (word : Text) (words : List Text) (place : ℕ) (t : Text) → place < form.names → slice_get words place ≡ Some t
+    → slice_get (names_in form (word ∷ words)) place ≡ Some t
+name_is form word words place t below is = slice_get-front form.names place words below ∙ is
+
+-- words behind as many words and one more
+pub drop_behind : (n count : ℕ) (word : Text) (words : List Text) → 0 < n → count ≡ n - 1 → drop n (word ∷ words) ≡ drop count words
+drop_behind zero count word words some is = absurd (omega (arith, some))
+drop_behind (suc n) count word words some is =
+    let same : n ≡ count = omega (arith, is) in
+    ap (λ k. drop k words) same
 
 -- words that were read as a command are this one
 pub is_read : (kind known : Kind) (words : List Text) (rows : List Row) → AreReadWords kind words rows → kind ≡ known → is_command_of words (form_of known) ≡ true

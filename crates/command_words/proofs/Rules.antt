@@ -1,6 +1,6 @@
 -- The options of each command as clap builds them. A command has its place in one table here, and an option in another.
 use Rattle.std.proofs.Common.{◌≡◌, ◌∙◌, ◌++◌, append-nil, append_assoc, ◌<◌, ◌^◌, ◌&&◌, ◌||◌, ℕ, Bool, true, false, not, refl, sym, ap, subst, arith, true≢false, List, [], ◌∷◌, Option, Some, None}
-use Rattle.std.specs.Prelude.{cond, fold, option_and_then}
+use Rattle.std.specs.Prelude.{fold, option_and_then}
 use Rattle.std.specs.List.{AllByRecursion, list_any}
 use Rattle.std.specs.Str.{bytes_eq}
 use Rattle.std.specs.Str.Parse.{digits_value}
@@ -13,11 +13,12 @@ use Rattle.clap.specs.Walk.{arg_by_id, arg_by_long, row_text}
 use Rattle.clap.specs.Faults.{is_simple_and_free}
 use Rattle.clap.proofs.OnLiterals.{clap_on_literals}
 use Rattle.command_words.specs.declared.kind.Kind.{Kind}
-use Rattle.command_words.specs.declared.kind.Kind.TheVariants.{Route, Measure, Judge, Make, Trial}
+use Rattle.command_words.specs.declared.kind.Kind.TheVariants.{Grouter, Reroute, RerouteRoutes}
+use Rattle.command_words.specs.declared.verb.Verb.TheVariants.{Route, Measure, Judge, Make, Trial, Guide}
 use Rattle.command_words.specs.declared.option_name.OptionName.{OptionName}
-use Rattle.command_words.specs.declared.option_name.OptionName.TheVariants.{Workers, Phases, Rounds, Seed, Budget, Cols, Rows, Layers, Nets}
+use Rattle.command_words.specs.declared.option_name.OptionName.TheVariants.{Workers, Phases, Rounds, Seed, Budget, Cols, Rows, Layers, Nets, RerouteRounds, Passes}
 use Rattle.command_words.specs.CommandLine.{IsOptionValue, OptionForm, has_option, is_in_range, is_value_word}
-use Rattle.command_words.specs.Kinds.{form_of, id_of, option_of, options_of}
+use Rattle.command_words.specs.Kinds.{form_of, id_of, option_named, option_of, options_of}
 use Rattle.command_words.specs.Apps.{app_of_kind, app_with, default_text, option_rule}
 use Rattle.command_words.proofs.Walks.{IsOptionWord}
 use Rattle.command_words.proofs.Defaults.{HaveFineDefaults, default_found}
@@ -45,14 +46,15 @@ app_is word rs = fold_rules word [] rs
 abbrev pub is_given_in_range : Kind → List ℕ × List ℕ → Bool
 is_given_in_range kind given = list_any (is_in_range given) (form_of kind).options
 
--- an option of the command is found by its id and by its word, the values of the word are those in the option's range, and its
--- default is found
+-- an option of the command is found by its id, by its word and by its name, the values of the word are those in the option's
+-- range, and its default is found
 abbrev pub IsOption : Kind → OptionName → Type 0
 IsOption kind option =
     (arg_by_id (rules kind) (id_of option) ≡ Some (built_option option))
     × (arg_by_long (rules kind) (id_of option) ≡ Some (built_option option))
     × ((t : Text) → is_given_in_range kind ((option_of option).word, t) ≡ (in_range (option_of option).least (option_of option).most t || false))
     × (option_and_then row_text (default_found (id_of option) (rules kind)) ≡ default_text option)
+    × (option_named kind (option_of option).word ≡ option)
 
 pub record IsKnown (kind : Kind) : Type 0 where
   pub simple : is_simple (app_of_kind kind) ≡ true
@@ -65,31 +67,48 @@ pub record IsKnown (kind : Kind) : Type 0 where
 -- the table of commands
 pub known : (kind : Kind) → IsKnown kind
 unfolding clap_on_literals
-known Route = record {
+known (Grouter Route) = record {
   simple = refl;
   free = refl;
   none_required = λ rows. refl;
   has = λ word. refl;
   defaults = (refl, (refl, (refl, (refl, (refl, (refl, tt))))));
-  options = ((refl, refl, λ t. refl, refl), ((refl, refl, λ t. refl, refl), ((refl, refl, λ t. refl, refl), ((refl, refl, λ t. refl, refl), ((refl, refl, λ t. refl, refl), tt)))));
+  options = ((refl, refl, λ t. refl, refl, refl), ((refl, refl, λ t. refl, refl, refl), ((refl, refl, λ t. refl, refl, refl), ((refl, refl, λ t. refl, refl, refl), ((refl, refl, λ t. refl, refl, refl), tt)))));
 }
-known Measure = record { simple = refl; free = refl; none_required = λ rows. refl; has = λ word. refl; defaults = (refl, tt); options = tt }
-known Judge = record { simple = refl; free = refl; none_required = λ rows. refl; has = λ word. refl; defaults = (refl, tt); options = tt }
-known Make = record {
+known (Grouter Measure) = record { simple = refl; free = refl; none_required = λ rows. refl; has = λ word. refl; defaults = (refl, tt); options = tt }
+known (Grouter Judge) = record { simple = refl; free = refl; none_required = λ rows. refl; has = λ word. refl; defaults = (refl, tt); options = tt }
+known (Grouter Guide) = record { simple = refl; free = refl; none_required = λ rows. refl; has = λ word. refl; defaults = (refl, tt); options = tt }
+known (Grouter Make) = record {
   simple = refl;
   free = refl;
   none_required = λ rows. refl;
   has = λ word. refl;
   defaults = (refl, (refl, (refl, (refl, (refl, (refl, tt))))));
-  options = ((refl, refl, λ t. refl, refl), ((refl, refl, λ t. refl, refl), ((refl, refl, λ t. refl, refl), ((refl, refl, λ t. refl, refl), ((refl, refl, λ t. refl, refl), tt)))));
+  options = ((refl, refl, λ t. refl, refl, refl), ((refl, refl, λ t. refl, refl, refl), ((refl, refl, λ t. refl, refl, refl), ((refl, refl, λ t. refl, refl, refl), ((refl, refl, λ t. refl, refl, refl), tt)))));
 }
-known Trial = record {
+known (Grouter Trial) = record {
   simple = refl;
   free = refl;
   none_required = λ rows. refl;
   has = λ word. refl;
   defaults = (refl, (refl, (refl, (refl, (refl, tt)))));
-  options = ((refl, refl, λ t. refl, refl), ((refl, refl, λ t. refl, refl), ((refl, refl, λ t. refl, refl), ((refl, refl, λ t. refl, refl), tt))));
+  options = ((refl, refl, λ t. refl, refl, refl), ((refl, refl, λ t. refl, refl, refl), ((refl, refl, λ t. refl, refl, refl), ((refl, refl, λ t. refl, refl, refl), tt))));
+}
+known Reroute = record {
+  simple = refl;
+  free = refl;
+  none_required = λ rows. refl;
+  has = λ word. refl;
+  defaults = (refl, (refl, (refl, (refl, (refl, tt)))));
+  options = ((refl, refl, λ t. refl, refl, refl), ((refl, refl, λ t. refl, refl, refl), ((refl, refl, λ t. refl, refl, refl), ((refl, refl, λ t. refl, refl, refl), tt))));
+}
+known RerouteRoutes = record {
+  simple = refl;
+  free = refl;
+  none_required = λ rows. refl;
+  has = λ word. refl;
+  defaults = (refl, (refl, (refl, (refl, (refl, tt)))));
+  options = ((refl, refl, λ t. refl, refl, refl), ((refl, refl, λ t. refl, refl, refl), ((refl, refl, λ t. refl, refl, refl), ((refl, refl, λ t. refl, refl, refl), tt))));
 }
 
 pub has_option_is : (kind : Kind) (word : Text) → list_any (λ option. bytes_eq word (option_of option).word) (options_of kind) ≡ has_option (form_of kind) word
@@ -117,49 +136,43 @@ abbrev pub HasDefault : OptionForm → Option Text → Type 0
 HasDefault form None = form.unless_given ≡ None
 HasDefault form (Some t) = (form.unless_given ≡ Some (digits_value 10 t)) × (is_value_word t ≡ true) × IsOptionValue form (digits_value 10 t)
 
-abbrev named_in : List OptionName → Text → OptionName
-named_in [] word = Workers
-named_in (option ∷ options) word = cond (bytes_eq word (option_of option).word) option (named_in options word)
-
--- the option of this word
-abbrev pub option_named : Text → OptionName
-option_named word = named_in (Workers ∷ Phases ∷ Rounds ∷ Seed ∷ Budget ∷ Cols ∷ Rows ∷ Layers ∷ Nets ∷ []) word
-
 pub record IsSound (option : OptionName) : Type 0 where
   pub word : (option_of option).word ≡ 45 ∷ 45 ∷ id_of option
   pub long : long_of (option_of option).word ≡ Some (id_of option, None)
   pub no_dashes : bytes_eq (option_of option).word (45 ∷ 45 ∷ []) ≡ false
-  pub named : option_named (option_of option).word ≡ option
   pub small : (option_of option).most < 2 ^ 64
   pub default : HasDefault (option_of option) (default_text option)
 
 -- the table of options
 pub sound : (option : OptionName) → IsSound option
 unfolding clap_on_literals
-sound Workers = record { word = refl; long = refl; no_dashes = refl; named = refl; small = omega arith; default = (refl, refl, (omega arith, omega arith)) }
-sound Phases = record { word = refl; long = refl; no_dashes = refl; named = refl; small = omega arith; default = (refl, refl, (omega arith, omega arith)) }
-sound Rounds = record { word = refl; long = refl; no_dashes = refl; named = refl; small = omega arith; default = (refl, refl, (omega arith, omega arith)) }
-sound Seed = record { word = refl; long = refl; no_dashes = refl; named = refl; small = omega arith; default = (refl, refl, (omega arith, omega arith)) }
-sound Budget = record { word = refl; long = refl; no_dashes = refl; named = refl; small = omega arith; default = refl }
-sound Cols = record { word = refl; long = refl; no_dashes = refl; named = refl; small = omega arith; default = (refl, refl, (omega arith, omega arith)) }
-sound Rows = record { word = refl; long = refl; no_dashes = refl; named = refl; small = omega arith; default = (refl, refl, (omega arith, omega arith)) }
-sound Layers = record { word = refl; long = refl; no_dashes = refl; named = refl; small = omega arith; default = (refl, refl, (omega arith, omega arith)) }
-sound Nets = record { word = refl; long = refl; no_dashes = refl; named = refl; small = omega arith; default = (refl, refl, (omega arith, omega arith)) }
+sound Workers = record { word = refl; long = refl; no_dashes = refl; small = omega arith; default = (refl, refl, (omega arith, omega arith)) }
+sound Phases = record { word = refl; long = refl; no_dashes = refl; small = omega arith; default = (refl, refl, (omega arith, omega arith)) }
+sound Rounds = record { word = refl; long = refl; no_dashes = refl; small = omega arith; default = (refl, refl, (omega arith, omega arith)) }
+sound Seed = record { word = refl; long = refl; no_dashes = refl; small = omega arith; default = (refl, refl, (omega arith, omega arith)) }
+sound Budget = record { word = refl; long = refl; no_dashes = refl; small = omega arith; default = refl }
+sound Cols = record { word = refl; long = refl; no_dashes = refl; small = omega arith; default = (refl, refl, (omega arith, omega arith)) }
+sound Rows = record { word = refl; long = refl; no_dashes = refl; small = omega arith; default = (refl, refl, (omega arith, omega arith)) }
+sound Layers = record { word = refl; long = refl; no_dashes = refl; small = omega arith; default = (refl, refl, (omega arith, omega arith)) }
+sound Nets = record { word = refl; long = refl; no_dashes = refl; small = omega arith; default = (refl, refl, (omega arith, omega arith)) }
+sound RerouteRounds = record { word = refl; long = refl; no_dashes = refl; small = omega arith; default = (refl, refl, (omega arith, omega arith)) }
+sound Passes = record { word = refl; long = refl; no_dashes = refl; small = omega arith; default = (refl, refl, (omega arith, omega arith)) }
 
 -- the rule of an option's word
-abbrev pub rule_for : Text → Rule
-rule_for word = built_option (option_named word)
+abbrev pub rule_for : Kind → Text → Rule
+rule_for kind word = built_option (option_named kind word)
 
-pub rule_is : (option : OptionName) → rule_for (option_of option).word ≡ built_option option
-rule_is option = ap built_option (sound option).named
+pub rule_is : (kind : Kind) (option : OptionName) → IsOption kind option → rule_for kind (option_of option).word ≡ built_option option
+rule_is kind option is = ap built_option is.4
 
-pub known_option : (kind : Kind) (option : OptionName) → has_option (form_of kind) (option_of option).word ≡ true → IsOption kind option
-known_option kind option has = subst (IsOption kind) (sound option).named
-    (of_option kind (λ word. IsOption kind (option_named word)) (λ o is. subst (IsOption kind) (sym (sound o).named) is) (option_of option).word has)
+pub known_option : (kind : Kind) (option : OptionName) → has_option (form_of kind) (option_of option).word ≡ true
+    → option_named kind (option_of option).word ≡ option → IsOption kind option
+known_option kind option has named = subst (IsOption kind) named
+    (of_option kind (λ word. IsOption kind (option_named kind word)) (λ o is. subst (IsOption kind) (sym is.4) is) (option_of option).word has)
 
-pub option_word : (kind : Kind) (word : Text) → has_option (form_of kind) word ≡ true → IsOptionWord (rules kind) word (rule_for word)
-option_word kind = of_option kind (λ word. IsOptionWord (rules kind) word (rule_for word))
-    (λ option is. subst (IsOptionWord (rules kind) (option_of option).word) (sym (rule_is option)) (record {
+pub option_word : (kind : Kind) (word : Text) → has_option (form_of kind) word ≡ true → IsOptionWord (rules kind) word (rule_for kind word)
+option_word kind = of_option kind (λ word. IsOptionWord (rules kind) word (rule_for kind word))
+    (λ option is. subst (IsOptionWord (rules kind) (option_of option).word) (sym (rule_is kind option is)) (record {
       is_long = (sound option).long;
       no_dashes = (sound option).no_dashes;
       by_long = is.1;

@@ -9,12 +9,13 @@ use Rattle.std.specs.Char.{is_ascii_digit}
 use Rattle.std.specs.Str.{bytes_eq}
 use Rattle.std.specs.Str.Parse.{digits_value}
 use Rattle.command_words.specs.declared.command.Command.{Command}
-use Rattle.command_words.specs.declared.command.Command.TheVariants.{Route, Measure, Judge, Make, Trial}
+use Rattle.command_words.specs.declared.command.Command.TheVariants.{Route, Measure, Judge, Make, Trial, Guide}
 use Rattle.command_words.specs.declared.route_request.RouteRequest.{RouteRequest}
 use Rattle.command_words.specs.declared.measure_request.MeasureRequest.{MeasureRequest}
 use Rattle.command_words.specs.declared.judge_request.JudgeRequest.{JudgeRequest}
 use Rattle.command_words.specs.declared.make_request.MakeRequest.{MakeRequest}
 use Rattle.command_words.specs.declared.trial_request.TrialRequest.{TrialRequest}
+use Rattle.command_words.specs.declared.guide_request.GuideRequest.{GuideRequest}
 
 -- ---- names and values
 
@@ -115,8 +116,12 @@ trial_form = record {
   options = cols_option ∷ rows_option ∷ layers_option ∷ nets_option ∷ [];
 }
 
+-- `guide IN ROUTES GUIDES`
+abbrev pub guide_form : CommandForm
+guide_form = record { word = codes "guide"; names = 3; is_name = is_file_name; options = [] }
+
 abbrev pub command_forms : List CommandForm
-command_forms = route_form ∷ measure_form ∷ judge_form ∷ make_form ∷ trial_form ∷ []
+command_forms = route_form ∷ measure_form ∷ judge_form ∷ make_form ∷ trial_form ∷ guide_form ∷ []
 
 -- ---- the parts of the words
 
@@ -236,6 +241,11 @@ pub record AsksForTrial (words : List (List ℕ)) (request : TrialRequest) : Typ
   pub layers : value_for layers_option (given_options trial_form words) ≡ Some request.layers
   pub nets : value_for nets_option (given_options trial_form words) ≡ Some request.nets
 
+-- the words ask for these guides
+pub record AsksForGuide (words : List (List ℕ)) (request : GuideRequest) : Type 0 where
+  pub is_guide : is_command_of words guide_form ≡ true
+  pub names : names_in guide_form words ≡ request.input.now ∷ request.routes.now ∷ request.guides.now ∷ []
+
 -- the words ask for this command
 abbrev pub AsksFor : List (List ℕ) → Command → Type 0
 AsksFor words (Route request) = AsksForRoute words request
@@ -243,6 +253,7 @@ AsksFor words (Measure request) = AsksForMeasure words request
 AsksFor words (Judge request) = AsksForJudge words request
 AsksFor words (Make request) = AsksForMake words request
 AsksFor words (Trial request) = AsksForTrial words request
+AsksFor words (Guide request) = AsksForGuide words request
 
 -- ---- what follows of a command's values
 
@@ -275,3 +286,4 @@ HasRanges (Measure request) = ⊤
 HasRanges (Judge request) = ⊤
 HasRanges (Make request) = HasMakeRanges request
 HasRanges (Trial request) = HasTrialRanges request
+HasRanges (Guide request) = ⊤

@@ -1,3 +1,5 @@
 pub mod CommandLine
+pub mod RerouteLine
+pub mod MapLine
 pub mod Kinds
 pub mod Apps

@@ -1,5 +1,6 @@
 //! A command.
 
+use crate::guide_request::GuideRequest;
 use crate::judge_request::JudgeRequest;
 use crate::make_request::MakeRequest;
 use crate::measure_request::MeasureRequest;
@@ -19,4 +20,6 @@ pub enum Command<'a> {
     Make(MakeRequest<'a>),
     /// A design is to be made, routed and judged, without a file.
     Trial(TrialRequest),
+    /// Guides are to be written for routes.
+    Guide(GuideRequest<'a>),
 }

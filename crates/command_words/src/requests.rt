@@ -1,10 +1,12 @@
 //! The requests that words ask for.
 
 ghost use Rattle.std.specs.Prelude.{◌≡◌, map, string_bytes};
-ghost use Rattle.command_words.specs.CommandLine.{AsksFor, AsksForRoute, AsksForMeasure, AsksForJudge, AsksForMake, AsksForTrial};
+ghost use Rattle.command_words.specs.CommandLine.{AsksFor, AsksForRoute, AsksForMeasure, AsksForJudge, AsksForMake, AsksForTrial, AsksForGuide};
+ghost use Rattle.command_words.specs.Kinds.{with_word};
 ghost use Rattle.command_words.specs.CommandLine.{HasRanges, HasRouteRanges, HasMakeRanges, HasTrialRanges};
 
 use crate::command::Command;
+use crate::guide_request::GuideRequest;
 use crate::judge_request::JudgeRequest;
 use crate::kind::Kind;
 use crate::make_request::MakeRequest;
@@ -13,25 +15,28 @@ use crate::option_name::OptionName;
 use crate::read_words::ReadWords;
 use crate::route_request::RouteRequest;
 use crate::trial_request::TrialRequest;
+use crate::verb::Verb;
 use crate::word::seed_of;
 
 /// What the words that were read ask for.
-pub(crate) fn command_in<'a>(read: &ReadWords<'a>) -> Command<'a>
-    ensures asked { AsksFor (map string_bytes read.now.words.now) result }
+pub(crate) fn command_in<'a>(verb: Verb, read: &ReadWords<'a>) -> Command<'a>
+    requires { read.now.kind ≡ Kind.Grouter verb }
+    ensures asked { AsksFor (with_word read.now.kind (map string_bytes read.now.words.now)) result }
     ensures ranges { HasRanges result }
 {
-    match read.kind {
-        Kind::Route => Command::Route(route_request(read)),
-        Kind::Measure => Command::Measure(measure_request(read)),
-        Kind::Judge => Command::Judge(judge_request(read)),
-        Kind::Make => Command::Make(make_request(read)),
-        Kind::Trial => Command::Trial(trial_request(read)),
+    match verb {
+        Verb::Route => Command::Route(route_request(read)),
+        Verb::Measure => Command::Measure(measure_request(read)),
+        Verb::Judge => Command::Judge(judge_request(read)),
+        Verb::Make => Command::Make(make_request(read)),
+        Verb::Trial => Command::Trial(trial_request(read)),
+        Verb::Guide => Command::Guide(guide_request(read)),
     }
 }
 
 fn route_request<'a>(read: &ReadWords<'a>) -> RouteRequest<'a>
-    requires { read.now.kind ≡ Kind.Route }
-    ensures asked { AsksForRoute (map string_bytes read.now.words.now) result }
+    requires { read.now.kind ≡ Kind.Grouter Verb.Route }
+    ensures asked { AsksForRoute (with_word read.now.kind (map string_bytes read.now.words.now)) result }
     ensures ranges { HasRouteRanges result }
 {
     RouteRequest {
@@ -47,8 +52,8 @@ fn route_request<'a>(read: &ReadWords<'a>) -> RouteRequest<'a>
 }
 
 fn measure_request<'a>(read: &ReadWords<'a>) -> MeasureRequest<'a>
-    requires { read.now.kind ≡ Kind.Measure }
-    ensures { AsksForMeasure (map string_bytes read.now.words.now) result }
+    requires { read.now.kind ≡ Kind.Grouter Verb.Measure }
+    ensures { AsksForMeasure (with_word read.now.kind (map string_bytes read.now.words.now)) result }
 {
     MeasureRequest {
         input: read.name(0),
@@ -57,8 +62,8 @@ fn measure_request<'a>(read: &ReadWords<'a>) -> MeasureRequest<'a>
 }
 
 fn judge_request<'a>(read: &ReadWords<'a>) -> JudgeRequest<'a>
-    requires { read.now.kind ≡ Kind.Judge }
-    ensures { AsksForJudge (map string_bytes read.now.words.now) result }
+    requires { read.now.kind ≡ Kind.Grouter Verb.Judge }
+    ensures { AsksForJudge (with_word read.now.kind (map string_bytes read.now.words.now)) result }
 {
     JudgeRequest {
         input: read.name(0),
@@ -68,8 +73,8 @@ fn judge_request<'a>(read: &ReadWords<'a>) -> JudgeRequest<'a>
 }
 
 fn make_request<'a>(read: &ReadWords<'a>) -> MakeRequest<'a>
-    requires { read.now.kind ≡ Kind.Make }
-    ensures asked { AsksForMake (map string_bytes read.now.words.now) result }
+    requires { read.now.kind ≡ Kind.Grouter Verb.Make }
+    ensures asked { AsksForMake (with_word read.now.kind (map string_bytes read.now.words.now)) result }
     ensures ranges { HasMakeRanges result }
 {
     MakeRequest {
@@ -83,8 +88,8 @@ fn make_request<'a>(read: &ReadWords<'a>) -> MakeRequest<'a>
 }
 
 fn trial_request(read: &ReadWords<'_>) -> TrialRequest
-    requires { read.now.kind ≡ Kind.Trial }
-    ensures asked { AsksForTrial (map string_bytes read.now.words.now) result }
+    requires { read.now.kind ≡ Kind.Grouter Verb.Trial }
+    ensures asked { AsksForTrial (with_word read.now.kind (map string_bytes read.now.words.now)) result }
     ensures ranges { HasTrialRanges result }
 {
     TrialRequest {
@@ -93,5 +98,16 @@ fn trial_request(read: &ReadWords<'_>) -> TrialRequest
         rows: read.small_number(OptionName::Rows),
         layers: read.small_number(OptionName::Layers),
         nets: read.small_number(OptionName::Nets),
+    }
+}
+
+fn guide_request<'a>(read: &ReadWords<'a>) -> GuideRequest<'a>
+    requires { read.now.kind ≡ Kind.Grouter Verb.Guide }
+    ensures { AsksForGuide (with_word read.now.kind (map string_bytes read.now.words.now)) result }
+{
+    GuideRequest {
+        input: read.name(0),
+        routes: read.name(1),
+        guides: read.name(2),
     }
 }

@@ -4,27 +4,29 @@ ghost use Rattle.std.specs.Prelude.{◌≡◌, ◌&&◌, map, take, drop, false,
 ghost use Rattle.std.specs.List.{list_all, list_any};
 ghost use Rattle.std.specs.Str.{bytes_eq};
 ghost use Rattle.command_words.specs.CommandLine.{all_differ, are_names, are_options, has_shape, in_pairs, is_command};
-ghost use Rattle.command_words.specs.Kinds.{form_of};
+ghost use Rattle.command_words.specs.Kinds.{form_of, name_test, verb_form};
 
 use crate::kind::Kind;
+use crate::name_form::NameForm;
+use crate::verb::Verb;
 use crate::word::is_value_word;
 
 /// The command whose shape the words have. Words with no such shape are no command.
-pub(crate) fn kind_of(words: &[String]) -> Option<Kind>
+pub(crate) fn verb_of(words: &[String]) -> Option<Verb>
     ensures { MatchOption result (is_command (map string_bytes words.now) ≡ false)
-        (λ kind. has_shape (form_of kind) (map string_bytes words.now) ≡ true) }
+        (λ verb. has_shape (verb_form verb) (map string_bytes words.now) ≡ true) }
 {
     let (first, rest) = words.split_first()?;
-    let kind = Kind::of(first.as_str())?;
-    if has_parts(kind, rest) {
-        Some(kind)
+    let verb = Verb::of(first.as_str())?;
+    if has_parts(Kind::Grouter(verb), rest) {
+        Some(verb)
     } else {
         None
     }
 }
 
-/// Whether the command's names and its options follow.
-fn has_parts(kind: Kind, words: &[String]) -> bool
+/// Whether the words are names and options of this form.
+pub(crate) fn has_parts(kind: Kind, words: &[String]) -> bool
     ensures { result ≡ (are_names (form_of kind) (take (form_of kind).names (map string_bytes words.now))
         && are_options (form_of kind) (drop (form_of kind).names (map string_bytes words.now))) }
 {
@@ -32,17 +34,17 @@ fn has_parts(kind: Kind, words: &[String]) -> bool
     if words.len() < names {
         return false;
     }
-    are_differing_names(kind, &words[..names]) && are_options(kind, &words[names..])
+    are_differing_names(kind.name_form(), &words[..names]) && are_options(kind, &words[names..])
 }
 
-/// Whether the words are names of the command, and no two of them equal.
-fn are_differing_names(kind: Kind, words: &[String]) -> bool
-    ensures { result ≡ (list_all (form_of kind).is_name (map string_bytes words.now)
+/// Whether the words are names of this form, and no two of them equal.
+pub(crate) fn are_differing_names(form: NameForm, words: &[String]) -> bool
+    ensures { result ≡ (list_all (name_test form) (map string_bytes words.now)
         && all_differ (map string_bytes words.now)) }
 {
     let mut left = words;
     while let [name, others @ ..] = left {
-        if !kind.is_name(name.as_str()) || is_among(name.as_str(), others) {
+        if !form.is_name(name.as_str()) || is_among(name.as_str(), others) {
             return false;
         }
         left = others;
@@ -50,7 +52,7 @@ fn are_differing_names(kind: Kind, words: &[String]) -> bool
     true
 }
 
-fn is_among(name: &str, words: &[String]) -> bool
+pub(crate) fn is_among(name: &str, words: &[String]) -> bool
     ensures { result ≡ list_any (bytes_eq name.now) (map string_bytes words.now) }
 {
     for word in words {

@@ -5,9 +5,13 @@ ghost use Rattle.std.specs.Char.{is_ascii_digit};
 ghost use Rattle.std.specs.List.{list_all};
 ghost use Rattle.std.specs.Str.Parse.{digits_value};
 ghost use Rattle.command_words.specs.CommandLine.{is_file_name, is_seed_name, is_value_word};
+ghost use Rattle.command_words.specs.MapLine.{IsLayerNumber, is_layer};
 
 /// The most digits of a value.
 const MOST_DIGITS: usize = 20;
+
+/// The greatest number of a layer.
+const MOST_LAYER: u64 = 16;
 
 pub(crate) fn is_file_name(word: &str) -> bool
     ensures { result ≡ is_file_name word.now }
@@ -37,6 +41,20 @@ pub(crate) fn seed_of(word: &str) -> Option<u64>
 {
     if is_value_word(word) {
         word.parse::<u64>().ok()
+    } else {
+        None
+    }
+}
+
+/// The number of a layer that the word is.
+#[tactic(auto, using(crate::proofs::Layers::no_layer, crate::proofs::Layers::layer_in_range))]
+pub(crate) fn layer_of(word: &str) -> Option<u32>
+    ensures { MatchOption result (is_layer word.now ≡ false)
+        (λ layer. (is_layer word.now ≡ true) × (digits_value 10 word.now ≡ layer) × IsLayerNumber layer) }
+{
+    let number = seed_of(word)?;
+    if 1 <= number && number <= MOST_LAYER {
+        Some(number as u32)
     } else {
         None
     }

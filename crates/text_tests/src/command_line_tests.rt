@@ -6,7 +6,7 @@ use std::test::Fail;
 use test_rows::{agree, rows_of, two_fields};
 
 /// The words of a line, which one blank separates. Two blanks have an empty word between them.
-fn cut(alloc: Global, line: &str) -> Result<Vec<String>, AllocError> {
+pub(crate) fn cut(alloc: Global, line: &str) -> Result<Vec<String>, AllocError> {
     let mut words = Vec::new(alloc);
     for word in line.split(' ') {
         words.push(String::from_str(alloc, word)?)?;
@@ -31,6 +31,12 @@ fn shown(alloc: Global, words: &[String]) -> Result<String, AllocError> {
         }
         Ok(Command::Make(request)) => make_shown(alloc, &request),
         Ok(Command::Trial(request)) => trial_shown(alloc, &request),
+        Ok(Command::Guide(request)) => {
+            let input = request.input;
+            let routes = request.routes;
+            let guides = request.guides;
+            format!(in alloc; "guide {input} {routes} {guides}")
+        }
         Err(WordsError::Refused) => String::from_str(alloc, "refused"),
         Err(WordsError::NoMemory) => Err(AllocError),
     }
@@ -102,6 +108,8 @@ trial 00000000000000000042 --layers 2|trial 42 16 16 2 200
 trial 1 --cols 2 --rows 2 --layers 2 --nets 0|trial 1 2 2 2 0
 trial 1 --cols 1024 --rows 1024 --layers 8 --nets 1048576|trial 1 1024 1024 8 1048576
 trial 12 --nets 7 --layers 3 --rows 5 --cols 6|trial 12 6 5 3 7
+guide a b c|guide a b c
+guide guide 2 route|guide guide 2 route
 # one empty word
 |refused
 # other words
@@ -215,6 +223,11 @@ trial 1 --rows 1025|refused
 trial 1 --layers 1|refused
 trial 1 --layers 9|refused
 trial 1 --nets 1048577|refused
+guide|refused
+guide a b|refused
+guide a b a|refused
+guide a b c d|refused
+guide a b c --workers 1|refused
 # an empty word behind the others
 route a b |refused
 route a b c --seed |refused

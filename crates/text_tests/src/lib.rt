@@ -16,6 +16,8 @@ mod desk_tests;
 #[cfg(test)]
 mod made_text_tests;
 #[cfg(test)]
+mod program_words_tests;
+#[cfg(test)]
 mod seed_tests;
 #[cfg(test)]
 mod token_tests;
