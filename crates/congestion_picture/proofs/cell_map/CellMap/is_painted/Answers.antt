@@ -1,14 +1,21 @@
 use Rattle.std.proofs.Common.{◌≡◌, ℕ, ◌+◌, ◌*◌, ◌<◌, List, get_or, length, [], ◌∙◌, ap, arith}
 use Rattle.std.proofs.lemmas.List.{get_or_default}
+use Rattle.grid_base.specs.Numbers.{cols, rows as tile_rows}
 use Rattle.congestion_cells.specs.declared.cell.Cell.{Cell}
 use Rattle.congestion_cells.specs.Cells.{joined}
 use Rattle.congestion_cells.specs.Rasters.{columns, rows}
-use Rattle.congestion_cells.proofs.Blocks.{place_below}
+use Rattle.congestion_cells.proofs.Blocks.{few_in_cell, few_parts, place_below}
 use Rattle.congestion_picture.specs.CellMaps.{covers}
 use Rattle.congestion_picture.proofs.cell_map.CellMap.is_painted.Goals as goal
 
-pub bounds-cells : goal.bounds-cells
-bounds-cells c =
+pub offset_bounds-cells-row : goal.offset_bounds-cells-row
+offset_bounds-cells-row c =
+    let r = c.args.self.now.raster in
+    let few = few_in_cell r.size (columns r) (rows r) (few_parts (cols r.size) r.side r.some) (few_parts (tile_rows r.size) r.side r.some) in
+    rw c.columns.ensures (omega (arith, few, place_below (columns r) (rows r) c.args.column c.args.row c.requires.column c.requires.row))
+
+pub bounds-cells-row : goal.bounds-cells-row
+bounds-cells-row c =
     let r = c.args.self.now.raster in
     rw (c.columns.ensures, c.as_slice-cells.ensures.value)
     (omega (arith, c.requires.map, place_below (columns r) (rows r) c.args.column c.args.row c.requires.column c.requires.row))
