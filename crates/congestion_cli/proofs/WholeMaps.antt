@@ -3,6 +3,7 @@ use Rattle.std.proofs.Common.{◌≡◌, ℕ, List, Option, Some, None, take, Ok
 use Rattle.gr_desk.specs.declared.port.Port.TheVariants.{MapOut}
 use Rattle.gr_desk.specs.Told.{Told}
 use Rattle.command_runs.specs.declared.refusal.Refusal.{Refusal}
+use Rattle.command_runs.specs.declared.refusal.Refusal.TheVariants.{NoCommand}
 use Rattle.command_runs.specs.Lines.{lines_of, status_of}
 use Rattle.command_runs.specs.Saying.{Leaves, TriesToSay}
 use Rattle.command_runs.specs.Steps.{ReadsSources}
@@ -13,7 +14,7 @@ use Rattle.command_words.specs.MapLine.{MapTask}
 use Rattle.congestion_cli.specs.declared.outcome.Outcome.{Outcome}
 use Rattle.congestion_cli.specs.MapHeadline.{IsMapOutcome, IsOutcome, run_outcome}
 use Rattle.congestion_cli.specs.MapRun.{IsMapRun}
-use Rattle.congestion_cli.specs.MapRuns.{EndsAtWords}
+use Rattle.congestion_cli.specs.MapRuns.{IsMapUsageRun, map_usage_text}
 use Rattle.congestion_cli.specs.MapSources.{cut_of, cut_source, map_files, map_sources}
 
 -- ---- its files
@@ -47,12 +48,13 @@ run-undrawn q a b c status r read is tries =
     run-refused (map_sources q) (map_files q) (IsMapOutcome q a) a b c status r
     (map-inputs q) (map-outputs q) read is tries
 
--- ---- a run that ends at its words
+-- ---- words that are no command
 
-pub ends-at_words : (text : List ℕ) (a c : Told) → TriesToSay text a c → EndsAtWords text a c
-ends-at_words text a c tries = record {
+pub run-map_usage : (a c : Told) (status : ℕ) → status ≡ status_of NoCommand → TriesToSay map_usage_text a c → IsMapUsageRun a c status
+run-map_usage a c status is tries = record {
+  status_is = is;
   says = record { count = tries.count; part = tries.part.added; whole = λ calm. (tries.whole calm).added };
-  touches = touches-none a c (take tries.count text) tries.part;
+  touches = touches-none a c (take tries.count map_usage_text) tries.part;
   unread = tries.part.still;
   in_order = tries.part.stray.kept (λ other. absurd (other refl));
 }

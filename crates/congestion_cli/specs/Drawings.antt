@@ -14,6 +14,6 @@ drawing_text name (Table design loads shown each) = table_text design.grid (slic
 
 -- it can be written
 abbrev pub IsDrawable : Drawing → Type 0
-IsDrawable (Picture p) = CanBePut p.maps p.cut × (p.shown.first + p.shown.count < 2 ^ 32)
+IsDrawable (Picture p) = CanBePut p.maps p.cut × (p.shown.first + p.shown.count < 2 ^ 31)
 IsDrawable (Table design loads shown each) =
     AreLayersOf (size_of design.grid) shown × AreLayersOf (size_of design.grid) each × (length loads.items ≡ edge_numbers design.grid)

@@ -4,8 +4,7 @@ ghost use Rattle.congestion_cli.specs.MapRuns.{IsWholeMapRun};
 
 use crate::show::show;
 use crate::usage::say_usage;
-use command_runs::{Refusal, refuse};
-use command_words::{WordsError, map_of};
+use command_words::map_of;
 use gr_desk::Desk;
 use std::alloc::Global;
 
@@ -26,9 +25,8 @@ use std::alloc::Global;
 pub fn run_map<D: Desk>(alloc: Global, words: &Vec<String>, desk: &mut D) -> u8
     ensures { IsWholeMapRun words.now.items (D.told desk.old) (D.told desk.new) result }
 {
-    match map_of(alloc, words.as_slice()) {
+    match map_of(words.as_slice()) {
         Ok(request) => show(alloc, &request, desk),
-        Err(WordsError::Refused) => say_usage(desk),
-        Err(WordsError::NoMemory) => refuse(desk, Refusal::NoMemory),
+        Err(_) => say_usage(desk),
     }
 }
