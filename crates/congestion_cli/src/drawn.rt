@@ -93,7 +93,7 @@ pub(crate) fn drawing_of(
 ) -> Result<Drawing, NoMemory>
     requires loads { length loads.items ≡ edge_numbers design.grid }
     requires layers { AreLayersOf (size_of design.grid) shown }
-    ensures drawing { IfOk result (IsDrawingOf design loads.items shown (form_task_of form) cert.now measure) }
+    ensures drawing { IfOk result (IsDrawingOf design loads.items shown (form_task_of form.entry) cert.now measure) }
     ensures drawable { IfOk result IsDrawable }
 {
     match form {

@@ -13,7 +13,9 @@ use Rattle.congestion_cli.proofs.WholeMaps.{run-drawn, run-undrawn}
 use Rattle.congestion_cli.proofs.show.show.Goals as goal
 
 pub finish-requires : goal.finish-requires
-finish-requires g c = c.in-Ok-Drawn.ensures.drawable
+finish-requires g c =
+    let is : IsDrawableOutcome (Drawn c.in-Ok-Drawn.drawing c.in-Ok-Drawn.report) = rw c.in-Ok-Drawn.field-0-is at c.in-Ok-Drawn.ensures.drawable in
+    is
 
 pub returns-in-Ok-Drawn : goal.returns-in-Ok-Drawn
 returns-in-Ok-Drawn g c =
@@ -29,7 +31,7 @@ returns-in-Ok-Drawn g c =
       cert = r.cert;
       are_read = read.are_read;
       cert_read = read.cert;
-      comes = c.in-Ok-Drawn.ensures.outcome;
+      comes = rw c.in-Ok-Drawn.field-0-is at c.in-Ok-Drawn.ensures.outcome;
     })
     read.reads c.finish.ensures
 
@@ -48,7 +50,7 @@ returns-in-Ok-Objected g c =
       cert = r.cert;
       are_read = read.are_read;
       cert_read = read.cert;
-      comes = c.in-Ok-Objected.ensures.outcome;
+      comes = rw c.in-Ok-Objected.field-0-is at c.in-Ok-Objected.ensures.outcome;
     })
     read.reads (leaves-text (reason_text reason) true b (told c.say.new.desk) c.say.result c.say.ensures)
 
@@ -67,7 +69,7 @@ returns-in-Ok-NoLayer g c =
       cert = r.cert;
       are_read = read.are_read;
       cert_read = read.cert;
-      comes = c.in-Ok-NoLayer.ensures.outcome;
+      comes = rw c.in-Ok-NoLayer.field-0-is at c.in-Ok-NoLayer.ensures.outcome;
     })
     read.reads (leaves-text (no_layer_text missing) true b (told c.say-in-Ok-NoLayer.new.desk) c.say-in-Ok-NoLayer.result c.say-in-Ok-NoLayer.ensures)
 
