@@ -1,6 +1,5 @@
 -- The tiles of a cell lie in the grid.
-use Rattle.std.proofs.Common.{◌≡◌, ℕ, ◌+◌, ◌-◌, ◌*◌, ◌/◌, ◌%◌, ◌^◌, ◌<◌, ◌≤◌, min, ⊎_elim, arith}
-use Rattle.std.specs.Int.{div_ceil}
+use Rattle.std.proofs.Common.{◌≡◌, ℕ, ◌+◌, ◌*◌, ◌/◌, ◌%◌, ◌^◌, ◌<◌, ◌≤◌, ⊎_elim, arith}
 use Rattle.std.proofs.lemmas.Grind.{div_ceil_times}
 use Rattle.std.proofs.lemmas.Bool.{cases_lt}
 use Rattle.std.proofs.lemmas.Nat.{div_below, mod_below}
@@ -69,4 +68,4 @@ tile_below r column row j wide high across in_columns in_rows is_wide is_high is
     let up = part_within (rows r.size) r.side row r.some in_rows in
     let at = tile_within wide high j (omega (arith, is_wide, over.0)) below in
     rw is_across (place_below (cols r.size) (rows r.size) (column * r.side + j % wide) (row * r.side + j / wide)
-        (omega (arith, is_wide, over.1, at.0)) (omega (arith, is_high, up.1, at.1)))
+    (omega (arith, is_wide, over.1, at.0)) (omega (arith, is_high, up.1, at.1)))

@@ -1,6 +1,6 @@
 -- Several cells as one.
 use Rattle.std.proofs.Common.{◌≡◌, ℕ, ◌+◌, ◌++◌, ◌∷◌, [], ◌||◌, ◌<◌, Bool, true, false, List, get_or, length, max, map, flat_map, refl, sym, ◌∙◌, ap, arith, zero-add}
-use Rattle.std.specs.List.{list_any, range_with_len}
+use Rattle.std.specs.List.{range_with_len}
 use Rattle.std.proofs.lemmas.List.{append-nil, map-append}
 use Rattle.std.proofs.lemmas.Grind.{flat_map-append}
 use Rattle.std.proofs.lemmas.List.Folds.{list_any-append}
@@ -21,7 +21,7 @@ joined-append xs ys =
       greatest-append (map (λ (c : Cell). c.class) xs) (map (λ (c : Cell). c.class) ys),
       list_any-append (λ (c : Cell). c.is_overfull) xs ys,
       list_any-append (λ (c : Cell). c.is_closed) xs ys,
-      list_any-append (λ (c : Cell). c.is_partly_closed) xs ys
+      list_any-append (λ (c : Cell). c.is_partly_closed) xs ys,
     ) refl
 
 -- the tile edges at one more tile
@@ -37,9 +37,9 @@ joined-more cell direction tile n before is =
     ∙ ap (λ (last : List ℕ). flat_map (edges_at direction) old ++ last) (append-nil (edges_at direction (tile n)))
     in
     rw is (sym (
-      ap (λ (es : List ℕ). joined (map cell es)) edges
-      ∙ ap joined (map-append cell (flat_map (edges_at direction) old) (edges_at direction (tile n)))
-      ∙ joined-append (map cell (flat_map (edges_at direction) old)) (map cell (edges_at direction (tile n)))
+    ap (λ (es : List ℕ). joined (map cell es)) edges
+    ∙ ap joined (map-append cell (flat_map (edges_at direction) old) (edges_at direction (tile n)))
+    ∙ joined-append (map cell (flat_map (edges_at direction) old)) (map cell (edges_at direction (tile n)))
     ))
 
 max_zero : (n : ℕ) → max n 0 ≡ n

@@ -1,16 +1,14 @@
 -- The edges over a tile edge, and what one more of them adds.
 use Rattle.std.proofs.Common.{◌≡◌, ℕ, ◌+◌, ◌*◌, ◌<◌, ◌≤◌, ◌++◌, ◌∷◌, [], ◌||◌, Bool, true, false, List, cond, get_or, length, map, ltb, refl, sym, ◌∙◌, ap, arith, zero-add}
-use Rattle.std.specs.List.{filter, list_any, range_with_len, sum_by}
+use Rattle.std.specs.List.{filter, list_any, range_with_len}
 use Rattle.std.proofs.lemmas.List.Folds.{list_any-append, list_any_at}
 use Rattle.std.proofs.lemmas.List.FromFn.{filter_of_map_range_with_len_more, get_or-map-range_with_len, length-map-range_with_len, map-range_with_len_more, sum_by-map-range_with_len_more}
 use Rattle.std.proofs.Math.Nat.{mul-le-mul_right}
 use Rattle.grid_base.specs.declared.size.Size.{Size}
-use Rattle.grid_base.specs.Numbers.{cols, layers, rows, vertices}
+use Rattle.grid_base.specs.Numbers.{layers, vertices}
 use Rattle.grid_graph.specs.declared.grid.Grid.{Grid}
-use Rattle.grid_graph.specs.declared.kind.Kind.{Kind}
 use Rattle.grid_graph.specs.Flat.{tiles}
 use Rattle.grid_graph.specs.Grids.{capacity, kind, size_of}
-use Rattle.congestion_cells.specs.declared.shown_layers.ShownLayers.{ShownLayers}
 use Rattle.congestion_cells.specs.declared.tile_uses.TileUse.{TileUse}
 use Rattle.congestion_cells.specs.TileUses.{edge_over, is_choked, tile_use, with_edge}
 
@@ -29,12 +27,12 @@ any_more p f first n =
     ∙ list_any-append p (map f (range_with_len first n)) (f (first + n) ∷ [])
     ∙ ap (λ (last : Bool). list_any p (map f (range_with_len first n)) || last) (last_any p (f (first + n)))
   where
-  last_any : (p : ℕ → Bool) (x : ℕ) → list_any p (x ∷ []) ≡ p x
-  last_any p x = or_false (p x)
-    where
-    or_false : (b : Bool) → (b || false) ≡ b
-    or_false true = refl
-    or_false false = refl
+    last_any : (p : ℕ → Bool) (x : ℕ) → list_any p (x ∷ []) ≡ p x
+    last_any p x = or_false (p x)
+      where
+        or_false : (b : Bool) → (b || false) ≡ b
+        or_false true = refl
+        or_false false = refl
 
 -- the use of a tile edge by one more layer
 pub use_more : (g : Grid) (load : ℕ → ℕ) (first n tile_edge : ℕ) (before : TileUse)
@@ -47,7 +45,7 @@ use_more g load first n tile_edge before is =
       sum_by-map-range_with_len_more load f first n (first + n) refl,
       sum_by-map-range_with_len_more (capacity g) f first n (first + n) refl,
       any_more (λ e. is_choked (kind g e)) f first n,
-      any_more (λ e. ltb (capacity g e) (load e)) f first n
+      any_more (λ e. ltb (capacity g e) (load e)) f first n,
     ) refl))
 
 -- one that passes

@@ -1,5 +1,5 @@
 -- How full a tile edge is: what the edges over it carry, of the layers that are shown.
-use Rattle.std.specs.Prelude.{◌≡◌, ◌≤◌, ℕ, ◌+◌, ◌*◌, Bool, true, false, ◌||◌, List, ltb, map}
+use Rattle.std.specs.Prelude.{◌≤◌, ℕ, ◌+◌, ◌*◌, Bool, true, false, ◌||◌, List, ltb, map}
 use Rattle.std.specs.List.{list_any, range_with_len, sum_by}
 use Rattle.grid_base.specs.declared.size.Size.{Size}
 use Rattle.grid_base.specs.Numbers.{layers}

@@ -1,5 +1,5 @@
 -- What is drawn can be written.
-use Rattle.std.proofs.Common.{◌≡◌, ℕ, ◌+◌, ◌*◌, ◌<◌, ◌≤◌, ◌^◌, Bool, List, Option, Some, None, arith, subst, sym, slice_index, length, get_or}
+use Rattle.std.proofs.Common.{◌≡◌, ℕ, ◌+◌, ◌*◌, ◌<◌, ◌^◌, List, Option, Some, None, arith, subst, sym, slice_index}
 use Rattle.std.specs.Prelude.{Vec}
 use Rattle.std.specs.List.{All, range_with_len}
 use Rattle.std.specs.declared.alloc.Global.{Global}

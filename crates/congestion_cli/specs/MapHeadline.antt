@@ -28,7 +28,6 @@ use Rattle.grid_graph.specs.declared.design.Design.{Design}
 use Rattle.grid_graph.specs.declared.grid.Grid.{Grid}
 use Rattle.grid_graph.specs.declared.ground.Ground.{Ground}
 use Rattle.grid_graph.specs.Grids.{size_of}
-use Rattle.judge_cli.specs.declared.routes_report.RoutesReport.{RoutesReport}
 use Rattle.judge_cli.specs.AnswerLines.{reason_text, routes_report_text}
 use Rattle.judge_cli.specs.MeasureRun.{AreReadRoutes, IsReportOf}
 use Rattle.route_judge.specs.declared.counted.Counted.TheVariants.{Prices}

@@ -98,7 +98,13 @@ pub(crate) fn drawing_of(
 {
     match form {
         MapForm::Svg(picture) => {
-            let maps = maps_of(alloc, &design.grid, loads.as_slice(), shown, picture.greater)?;
+            let maps = maps_of(
+                alloc,
+                &design.grid,
+                loads.as_slice(),
+                shown,
+                picture.greater,
+            )?;
             let cut = cut_of(alloc, &design.grid, shown, cert)?;
             Ok(Drawing::Picture(Picture {
                 measure,

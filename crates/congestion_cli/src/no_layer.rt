@@ -23,6 +23,10 @@ impl Said for LayerMissing {
     ghost text = { no_layer_text };
 
     fn put<D: Desk>(&self, pen: &mut Pen<'_, D>) {
-        put_line(pen, b"no", &[NO_LAYER, u64::from(self.asked), u64::from(self.there)]);
+        put_line(
+            pen,
+            b"no",
+            &[NO_LAYER, u64::from(self.asked), u64::from(self.there)],
+        );
     }
 }

@@ -23,7 +23,9 @@ impl Said for Usage {
     ghost text = { λ _. map_usage_text };
 
     fn put<D: Desk>(&self, pen: &mut Pen<'_, D>) {
-        pen.put(b"refused 2\nusage: congestion_map IN ROUTES MAP [--cut CERT] [--layer L] [--layers] [--greater]\n");
+        pen.put(
+            b"refused 2\nusage: congestion_map IN ROUTES MAP [--cut CERT] [--layer L] [--layers] [--greater]\n",
+        );
     }
 }
 

@@ -23,11 +23,7 @@ fn main(rt: HostRuntime) -> ExitCode {
 }
 
 /// What the program ends with: the status of `run_map`, and nothing is done where there is no memory for the words.
-fn ended<D: Desk>(
-    alloc: Global,
-    words: Result<Vec<String>, AllocError>,
-    desk: &mut D,
-) -> ExitCode
+fn ended<D: Desk>(alloc: Global, words: Result<Vec<String>, AllocError>, desk: &mut D) -> ExitCode
     ensures run { IfOk words (λ w. IsWholeMapRun w.items (D.told desk.old) (D.told desk.new) (exit_status result)) }
     ensures no_memory { IsErr words → exit_status result ≡ status_of NoMemory }
     ensures nothing_done { IsErr words → D.told desk.new ≡ D.told desk.old }

@@ -1,5 +1,5 @@
 -- The cell of a tile lies in the raster.
-use Rattle.std.proofs.Common.{ℕ, ◌*◌, ◌/◌, ◌<◌, arith}
+use Rattle.std.proofs.Common.{ℕ, ◌/◌, ◌<◌, arith}
 use Rattle.std.proofs.lemmas.Grind.{div_ceil_times}
 use Rattle.std.proofs.lemmas.Nat.{div_below}
 use Rattle.congestion_cells.specs.Rasters.{parts_of}

@@ -1,5 +1,5 @@
 -- How long runs of painted cells are.
-use Rattle.std.proofs.Common.{◌≡◌, ℕ, zero, suc, ◌+◌, ◌-◌, ◌<◌, ◌≤◌, Bool, true, false, cond, refl, sym, ◌∙◌, ap, arith}
+use Rattle.std.proofs.Common.{◌≡◌, ℕ, zero, suc, ◌+◌, ◌-◌, ◌<◌, ◌≤◌, Bool, true, false, cond, ◌∙◌, ap, arith}
 use Rattle.congestion_picture.specs.CellMaps.{painted_from}
 
 painted_at : (is : ℕ → Bool) (at end : ℕ) → at < end

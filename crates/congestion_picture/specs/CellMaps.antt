@@ -1,5 +1,5 @@
 -- A map as it is drawn: how large its cells are, and which of them a path shows.
-use Rattle.std.specs.Prelude.{◌≡◌, ℕ, zero, suc, ◌+◌, ◌-◌, ◌*◌, ◌==◌, ◌&&◌, ◌||◌, Bool, true, false, not, cond, length, max, List, [], slice_index_or}
+use Rattle.std.specs.Prelude.{◌≡◌, ℕ, zero, suc, ◌+◌, ◌-◌, ◌*◌, ◌==◌, ◌&&◌, ◌||◌, Bool, true, false, not, cond, length, max, [], slice_index_or}
 use Rattle.std.specs.Int.{div_ceil}
 use Rattle.congestion_cells.specs.declared.cell.Cell.{Cell}
 use Rattle.congestion_cells.specs.declared.raster.Raster.{Raster}

@@ -38,7 +38,13 @@ fn put_escaped<D: Desk>(pen: &mut Pen<'_, D>, name: &[u8])
 }
 
 /// Puts a text, a width, a text, a height, and a text.
-fn put_sized<D: Desk>(pen: &mut Pen<'_, D>, before: &[u8], width: u128, between: &[u8], height: u128)
+fn put_sized<D: Desk>(
+    pen: &mut Pen<'_, D>,
+    before: &[u8],
+    width: u128,
+    between: &[u8],
+    height: u128,
+)
     ensures same_desk { HasSameDesk pen.old pen.new }
     ensures puts { Puts (pen_told D.told pen.old) (pen_told D.told pen.new) (sized before.now width between.now height) }
 {
@@ -53,12 +59,20 @@ pub(crate) fn put_head<D: Desk>(pen: &mut Pen<'_, D>, name: &str, width: u128, h
     ensures same_desk { HasSameDesk pen.old pen.new }
     ensures puts { Puts (pen_told D.told pen.old) (pen_told D.told pen.new) (head_text name.now width height) }
 {
-    pen.put(b"<?xml version=\"1.0\" encoding=\"UTF-8\"?>\n<svg xmlns=\"http://www.w3.org/2000/svg\" version=\"1.1\"");
+    pen.put(
+        b"<?xml version=\"1.0\" encoding=\"UTF-8\"?>\n<svg xmlns=\"http://www.w3.org/2000/svg\" version=\"1.1\"",
+    );
     put_sized(pen, b" width=\"", width, b"\" height=\"", height);
     put_sized(pen, b"\" viewBox=\"0 0 ", width, b" ", height);
     pen.put(b"\" font-family=\"sans-serif\" font-size=\"14\" fill=\"#222\">\n<title>");
     put_escaped(pen, name.as_bytes());
-    put_sized(pen, b"</title>\n<rect width=\"", width, b"\" height=\"", height);
+    put_sized(
+        pen,
+        b"</title>\n<rect width=\"",
+        width,
+        b"\" height=\"",
+        height,
+    );
     pen.put(b"\" fill=\"#fff\"/>\n<text x=\"20\" y=\"34\" font-size=\"20\">");
     put_escaped(pen, name.as_bytes());
     pen.put(b"</text>\n");
@@ -79,7 +93,12 @@ fn put_side<D: Desk>(pen: &mut Pen<'_, D>, side: u32)
 }
 
 /// Puts what is measured, and what is shown of it.
-pub(crate) fn put_facts<D: Desk>(pen: &mut Pen<'_, D>, measure: &Measure, shown: ShownLayers, side: u32)
+pub(crate) fn put_facts<D: Desk>(
+    pen: &mut Pen<'_, D>,
+    measure: &Measure,
+    shown: ShownLayers,
+    side: u32,
+)
     requires { shown.first + shown.count < 2 ^ 31 }
     ensures same_desk { HasSameDesk pen.old pen.new }
     ensures puts { Puts (pen_told D.told pen.old) (pen_told D.told pen.new) (facts_text measure.now shown side) }

@@ -18,8 +18,7 @@ fn begins(map: &CellMap, paint: Paint, row: u32, column: u32) -> bool
     requires column { column < rasters.columns map.now.raster }
     ensures { result ≡ words.begins map.now paint row column }
 {
-    map.is_painted(paint, row, column)
-        && (column == 0 || !map.is_painted(paint, row, column - 1))
+    map.is_painted(paint, row, column) && (column == 0 || !map.is_painted(paint, row, column - 1))
 }
 
 /// How many cells are painted side by side from a place on.

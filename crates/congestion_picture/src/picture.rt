@@ -37,6 +37,7 @@ pub struct Picture {
 
 /// So far from the edge of the picture its first map stands, and so far from each other the others.
 const MARGIN: u128 = 20;
+
 const GAP: u128 = 40;
 
 /// So many units above the maps are taken by the name and what is measured.
@@ -44,6 +45,7 @@ const TOP: u128 = 120;
 
 /// So wide the scale is, and so high at least.
 const SCALE_WIDTH: u128 = 180;
+
 const SCALE_HEIGHT: u128 = 340;
 
 /// A picture is at least so wide, so that what is measured has room.
@@ -109,7 +111,12 @@ fn put_hatching<D: Desk>(pen: &mut Pen<'_, D>, map: &CellMap)
     ensures same_desk { HasSameDesk pen.old pen.new }
     ensures puts { Puts (pen_told D.told pen.old) (pen_told D.told pen.new) (words.hatching_text map.now) }
 {
-    put_path(pen, map, Paint::Closed, b"stroke=\"#777\" stroke-width=\".2\" shape-rendering=\"auto\"");
+    put_path(
+        pen,
+        map,
+        Paint::Closed,
+        b"stroke=\"#777\" stroke-width=\".2\" shape-rendering=\"auto\"",
+    );
     put_path(
         pen,
         map,
@@ -158,7 +165,12 @@ fn put_map<D: Desk>(
     pen.put(b"\" height=\"");
     pen.put_number(map.height());
     pen.put(b"\"/>\n");
-    put_path(pen, map, Paint::Overfull, b"class=\"overfull\" transform=\"translate(-1,-1)\" fill=\"none\" stroke=\"#00a0ff\" stroke-width=\"2\"");
+    put_path(
+        pen,
+        map,
+        Paint::Overfull,
+        b"class=\"overfull\" transform=\"translate(-1,-1)\" fill=\"none\" stroke=\"#00a0ff\" stroke-width=\"2\"",
+    );
     put_cut_part(pen, map, cut);
     pen.put(b"</g>\n");
 }
@@ -198,7 +210,13 @@ fn put_maps<D: Desk>(pen: &mut Pen<'_, D>, maps: &Maps, cut: &Option<Vec<u32>>)
             let left = MARGIN + u128::from(along_x.width()) + GAP;
             put_map(pen, along_y, left, b"edges along y", cut);
         }
-        Maps::Greater(map) => put_map(pen, map, MARGIN, b"the fuller of the edges along x and y", cut),
+        Maps::Greater(map) => put_map(
+            pen,
+            map,
+            MARGIN,
+            b"the fuller of the edges along x and y",
+            cut,
+        ),
     }
 }
 

@@ -19,11 +19,7 @@ fn price_of(is_open: bool, listed: &[u32], place: usize) -> u32
 }
 
 /// The price of each edge number, where the prices of the open edges are listed in rising order.
-pub fn listed_prices(
-    alloc: Global,
-    grid: &Grid,
-    listed: &[u32],
-) -> Result<Vec<u32>, NoMemory>
+pub fn listed_prices(alloc: Global, grid: &Grid, listed: &[u32]) -> Result<Vec<u32>, NoMemory>
     ensures { IfOk result (λ prices. prices.items ≡ counts.listed_prices grid.now listed.now) }
 {
     let mut prices = Vec::new(alloc);

@@ -1,10 +1,8 @@
-use Rattle.std.proofs.Common.{◌≡◌, ℕ, ◌+◌, ◌-◌, ◌*◌, ◌/◌, ◌%◌, ◌<◌, ◌≤◌, length, map, min, sym, ◌∙◌, ap, arith}
-use Rattle.std.specs.List.{range_with_len}
+use Rattle.std.proofs.Common.{◌≡◌, ℕ, ◌-◌, ◌*◌, ◌≤◌, map, min, ◌∙◌, ap, arith}
 use Rattle.grid_base.specs.Numbers.{cols, rows}
-use Rattle.congestion_cells.specs.declared.cell.Cell.{Cell}
 use Rattle.congestion_cells.specs.Cells.{joined, with_cell}
 use Rattle.congestion_cells.specs.Rasters.{cell_tile, edges_at, tiles_in}
-use Rattle.congestion_cells.proofs.Blocks.{few_in_cell, few_tiles, part_within, tile_below, tile_number}
+use Rattle.congestion_cells.proofs.Blocks.{few_in_cell, few_tiles, tile_below, tile_number}
 use Rattle.congestion_cells.proofs.Joined.{joined-more}
 use Rattle.congestion_cells.proofs.cells_of_tiles.map_cell.Goals as goal
 

@@ -1,9 +1,9 @@
-use Rattle.std.proofs.Common.{◌≡◌, ℕ, ◌*◌, ◌/◌, ◌%◌, ◌≤◌, ◌∷◌, [], ◌++◌, List, length, map, sym, ◌∙◌, ap, arith, zero-add}
+use Rattle.std.proofs.Common.{◌≡◌, ℕ, ◌/◌, ◌%◌, ◌≤◌, ◌∷◌, [], ◌++◌, List, length, map, sym, ◌∙◌, ap, arith, zero-add}
 use Rattle.std.specs.List.{range_with_len}
 use Rattle.std.proofs.lemmas.List.FromFn.{map-range_with_len_more}
 use Rattle.grid_base.specs.Numbers.{cols, rows as tile_rows}
 use Rattle.congestion_cells.specs.declared.cell.Cell.{Cell}
-use Rattle.congestion_cells.specs.Rasters.{columns, map_cell, rows}
+use Rattle.congestion_cells.specs.Rasters.{columns, map_cell}
 use Rattle.congestion_cells.proofs.Blocks.{few_in_cell, few_parts}
 use Rattle.congestion_cells.proofs.cells_of_tiles.map_cells.Goals as goal
 

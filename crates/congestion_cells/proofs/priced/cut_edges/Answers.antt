@@ -1,4 +1,4 @@
-use Rattle.std.proofs.Common.{◌≡◌, ℕ, ◌∷◌, [], ◌++◌, Bool, true, false, List, cond, slice_index, sym, ◌∙◌, ap}
+use Rattle.std.proofs.Common.{ℕ, ◌∷◌, [], ◌++◌, Bool, List, cond, slice_index, sym, ◌∙◌, ap}
 use Rattle.std.specs.List.{filter, range_with_len}
 use Rattle.std.proofs.lemmas.List.{append-nil}
 use Rattle.congestion_cells.specs.CutEdges.{is_priced}

@@ -1,6 +1,5 @@
-use Rattle.std.proofs.Common.{◌≡◌, ℕ, ◌+◌, ◌*◌, ◌<◌, ◌≤◌, ◌||◌, Bool, false, ltb, slice_index, sym, ◌∙◌, ap, arith}
+use Rattle.std.proofs.Common.{◌≡◌, ℕ, ◌+◌, ◌<◌, ◌≤◌, ◌||◌, Bool, ltb, slice_index, sym, ◌∙◌, ap, arith}
 use Rattle.std.proofs.lemmas.Bool.{le-ltb, lt-ltb}
-use Rattle.grid_graph.specs.Flat.{tiles}
 use Rattle.congestion_cells.specs.CutEdges.{is_priced}
 use Rattle.congestion_cells.specs.TileUses.{edge_over}
 use Rattle.congestion_cells.proofs.Uses.{any_more, any_passes, edge_below}

@@ -1,4 +1,4 @@
-use Rattle.std.proofs.Common.{◌≡◌, ℕ, ◌≤◌, ◌<◌, ◌*◌, ◌^◌, ◌+◌, ◌∙◌, ap, arith, slice_index}
+use Rattle.std.proofs.Common.{◌≡◌, ℕ, ◌≤◌, ◌*◌, ◌^◌, ◌+◌, ◌∙◌, ap, arith, slice_index}
 use Rattle.grid_graph.specs.Flat.{tiles}
 use Rattle.grid_graph.specs.Grids.{capacity, kind, size_of}
 use Rattle.grid_base.specs.declared.size.Size.{Size}

@@ -1,6 +1,4 @@
 use Rattle.std.proofs.Common.{◌≡◌, ◌≤◌, ◌*◌, ◌^◌, slice_index}
-use Rattle.grid_graph.specs.Flat.{tiles}
-use Rattle.grid_graph.specs.Grids.{size_of}
 use Rattle.congestion_cells.specs.TileUses as words
 use Rattle.congestion_cells.proofs.tile_uses.tile_use.Given as goal
 

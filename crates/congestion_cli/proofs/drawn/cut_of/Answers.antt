@@ -1,4 +1,4 @@
-use Rattle.std.proofs.Common.{◌≡◌, ℕ, ◌*◌, ◌≤◌, List, length, ◌∙◌, ap, slice_index, arith}
+use Rattle.std.proofs.Common.{ℕ, List, length, ◌∙◌, ap, slice_index, arith}
 use Rattle.std.proofs.lemmas.List.FromFn.{length-map-range_with_len}
 use Rattle.congestion_cells.specs.CutEdges.{cut_edges}
 use Rattle.grid_base.specs.declared.size.Size.{Size}
@@ -19,7 +19,7 @@ returns c =
     let shown = c.args.shown in
     let prices = c.as_slice.ensures.value ∙ c.in_ok-prices.ensures ∙ ap (λ (l : List ℕ). listed_prices g l) c.list.ensures in
     rw c.in-Some.is (
-      c.in_ok-cut_edges.ensures
-      ∙ ap (λ (s : Size). cut_edges s (slice_index c.as_slice.result.now) shown) c.size.ensures
-      ∙ ap (λ (ps : List ℕ). cut_edges (size_of g) (slice_index ps) shown) prices
+    c.in_ok-cut_edges.ensures
+    ∙ ap (λ (s : Size). cut_edges s (slice_index c.as_slice.result.now) shown) c.size.ensures
+    ∙ ap (λ (ps : List ℕ). cut_edges (size_of g) (slice_index ps) shown) prices
     )

@@ -5,7 +5,6 @@ use Rattle.congestion_cells.specs.declared.cell.Cell.{Cell}
 use Rattle.congestion_cells.specs.declared.direction.Direction.TheVariants.{X, Y}
 use Rattle.congestion_cells.specs.Cells.{edge_cell}
 use Rattle.grid_base.specs.declared.size.Size.{Size}
-use Rattle.grid_graph.specs.declared.grid.Grid.{Grid}
 use Rattle.grid_graph.specs.Flat.{tiles}
 use Rattle.grid_graph.specs.Grids.{size_of}
 use Rattle.congestion_cli.specs.MapHeadline.{IsMapOf}

@@ -12,7 +12,7 @@ returns-in-Err-clause-reads g c =
     let r = c.args.request.now in
     let refusal = c.in-Err.refusal in
     subst (λ (cut : Option (List ℕ)). ReadsSources {T = MapInput} (record { port = In; name = r.input.now } ∷ record { port = RoutesIn; name = r.routes.now } ∷ cut_source cut)
-        (told c.args.desk.now) (told c.read_routed.new.desk) (Err refusal))
+    (told c.args.desk.now) (told c.read_routed.new.desk) (Err refusal))
     c.in-None.ensures (sources-failed (Err refusal) refusal refl refl c.in-Err.ensures.reads)
 
 pub returns-in-Err-read_certified-clause-reads : goal.returns-in-Err-read_certified-clause-reads
@@ -21,5 +21,5 @@ returns-in-Err-read_certified-clause-reads g c =
     let r = c.args.request.now in
     let refusal = c.in-Err-read_certified.refusal in
     subst (λ (cut : Option (List ℕ)). ReadsSources {T = MapInput} (record { port = In; name = r.input.now } ∷ record { port = RoutesIn; name = r.routes.now } ∷ cut_source cut)
-        (told c.args.desk.now) (told c.read_certified.new.desk) (Err refusal))
+    (told c.args.desk.now) (told c.read_certified.new.desk) (Err refusal))
     c.in-Some.ensures (sources-failed (Err refusal) refusal refl refl c.in-Err-read_certified.ensures.reads)

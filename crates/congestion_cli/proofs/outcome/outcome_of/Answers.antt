@@ -1,4 +1,4 @@
-use Rattle.std.proofs.Common.{◌≡◌, List, ℕ, length, Option, None, Some, sym, ◌∙◌, ap, subst}
+use Rattle.std.proofs.Common.{◌≡◌, List, length, None, Some, ◌∙◌, ap, subst}
 use Rattle.command_words.specs.MapLine.{map_task_of}
 use Rattle.congestion_cells.specs.declared.shown_layers.ShownLayers.{ShownLayers}
 use Rattle.grid_base.specs.declared.size.Size.{Size}

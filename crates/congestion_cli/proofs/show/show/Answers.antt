@@ -4,7 +4,6 @@ use Rattle.command_runs.proofs.LeftOutcomes.{leaves-text}
 use Rattle.command_runs.proofs.ReadFiles.{sources-memory}
 use Rattle.command_words.specs.MapLine.{map_task_of}
 use Rattle.judge_cli.specs.AnswerLines.{reason_text}
-use Rattle.congestion_cli.specs.declared.outcome.Outcome.{Outcome}
 use Rattle.congestion_cli.specs.declared.outcome.Outcome.TheVariants.{Drawn, NoLayer, Objected}
 use Rattle.congestion_cli.specs.MapHeadline.{IsDrawableOutcome}
 use Rattle.congestion_cli.specs.MapSources.{map_sources}

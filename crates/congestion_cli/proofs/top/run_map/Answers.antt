@@ -1,5 +1,5 @@
-use Rattle.std.proofs.Common.{◌≡◌, true, false, sym, ◌∙◌, subst, string_bytes, map, true≢false}
-use Rattle.command_words.specs.MapLine.{MapTask, is_map_command, map_task_of, map_task_of_words}
+use Rattle.std.proofs.Common.{◌≡◌, false, sym, ◌∙◌, subst, string_bytes, map, true≢false}
+use Rattle.command_words.specs.MapLine.{MapTask, is_map_command}
 use Rattle.congestion_cli.specs.MapRun.{IsMapRun}
 use Rattle.congestion_cli.proofs.WholeMaps.{run-map_usage}
 use Rattle.congestion_cli.proofs.top.run_map.Goals as goal

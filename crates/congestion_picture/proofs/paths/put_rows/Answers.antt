@@ -1,6 +1,6 @@
-use Rattle.std.proofs.Common.{◌≡◌, ℕ, ◌+◌, List, slice_index, ◌∙◌, ap, arith}
+use Rattle.std.proofs.Common.{◌∙◌}
 use Rattle.congestion_picture.specs.Paths.{row_text}
-use Rattle.congestion_picture.proofs.Ranges.{puts-number, puts-numbers}
+use Rattle.congestion_picture.proofs.Ranges.{puts-number}
 use Rattle.congestion_picture.proofs.paths.put_rows.Goals as goal
 
 pub loop-row-preserved : goal.loop-row-preserved

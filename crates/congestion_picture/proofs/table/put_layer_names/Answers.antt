@@ -1,4 +1,4 @@
-use Rattle.std.proofs.Common.{◌≡◌, ℕ, ◌+◌, List, slice_index, ◌∙◌, ap, arith}
+use Rattle.std.proofs.Common.{◌+◌, ◌∙◌, arith}
 use Rattle.congestion_picture.specs.Tables.{layer_name}
 use Rattle.congestion_picture.proofs.Ranges.{puts-number, puts-numbers}
 use Rattle.congestion_picture.proofs.table.put_layer_names.Goals as goal

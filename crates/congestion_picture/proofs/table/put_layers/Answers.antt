@@ -1,4 +1,4 @@
-use Rattle.std.proofs.Common.{◌≡◌, ℕ, ◌+◌, List, slice_index, ◌∙◌, ap, arith}
+use Rattle.std.proofs.Common.{slice_index, ◌∙◌, arith}
 use Rattle.congestion_picture.specs.Tables.{columns_of_layer}
 use Rattle.congestion_picture.proofs.Ranges.{puts-number, puts-numbers}
 use Rattle.congestion_picture.proofs.table.put_layers.Goals as goal

@@ -1,4 +1,4 @@
-use Rattle.std.proofs.Common.{◌≡◌, ℕ, ◌+◌, ◌*◌, List, slice_index, ◌∙◌, ap, arith}
+use Rattle.std.proofs.Common.{◌≡◌, ◌*◌, slice_index, ◌∙◌, ap, arith}
 use Rattle.grid_base.specs.declared.size.Size.{Size}
 use Rattle.grid_graph.specs.Flat.{tiles}
 use Rattle.grid_graph.specs.Grids.{size_of}

@@ -1,4 +1,4 @@
-use Rattle.std.proofs.Common.{◌≡◌, ℕ, ◌+◌, ◌*◌, ◌<◌, List, get_or, length, [], ◌∙◌, ap, arith}
+use Rattle.std.proofs.Common.{ℕ, ◌+◌, ◌*◌, ◌<◌, List, get_or, length, [], ◌∙◌, ap, arith}
 use Rattle.std.proofs.lemmas.List.{get_or_default}
 use Rattle.grid_base.specs.Numbers.{cols, rows as tile_rows}
 use Rattle.congestion_cells.specs.declared.cell.Cell.{Cell}
@@ -29,7 +29,7 @@ returns c =
     (omega (arith, c.requires.map, place_below (columns r) (rows r) c.args.column c.args.row c.requires.column c.requires.row)) in
     c.covers.ensures
     ∙ ap (covers c.args.paint) (
-      get_or_default c.as_slice-cells.result.now place _ (joined []) below
-      ∙ ap (λ (xs : List Cell). get_or xs place (joined [])) c.as_slice-cells.ensures.value
-      ∙ ap (λ (k : ℕ). get_or c.args.self.now.cells.items (c.args.row * k + c.args.column) (joined [])) c.columns.ensures
+    get_or_default c.as_slice-cells.result.now place _ (joined []) below
+    ∙ ap (λ (xs : List Cell). get_or xs place (joined [])) c.as_slice-cells.ensures.value
+    ∙ ap (λ (k : ℕ). get_or c.args.self.now.cells.items (c.args.row * k + c.args.column) (joined [])) c.columns.ensures
     )
