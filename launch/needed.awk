@@ -17,5 +17,6 @@ END {
     need("grouter")
     need("unavoidable")
     need("reroute")
+    need("congestion_map")
     for (at = 1; at <= count; at++) if (names[at] in needed) print line[names[at]]
 }

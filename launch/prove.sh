@@ -95,7 +95,7 @@ if [ "$status" -ne 0 ]; then
 fi
 
 # As old as the copy, so that a change that came meanwhile counts as newer; and put in place whole, since the old one may be running.
-for made in grouter reroute unavoidable; do
+for made in grouter reroute unavoidable congestion_map; do
     mkdir -p "$top/crates/$made/out"
     cp "$room/crates/$made/out/$made" "$top/crates/$made/out/$made.new"
     touch -r "$room/crates.txt" "$top/crates/$made/out/$made.new"

@@ -1,6 +1,6 @@
 #!/bin/sh
 # Starts one of the programs on the words given, and has all of them proved and built first where that is still to do:
-#   launch/start.sh grouter|reroute|unavoidable WORD..
+#   launch/start.sh grouter|reroute|unavoidable|congestion_map WORD..
 # Its own statuses are 0 for --help, 126 where the programs could not be proved or built, and 127 without a toolchain.
 set -eu
 

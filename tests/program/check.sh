@@ -2,7 +2,7 @@
 # Runs the built programs on real files, and compares their status and what they wrote, byte for byte, with what
 # docs/FORMATS.md says.
 #
-#   tests/program/check.sh [GROUTER [UNAVOIDABLE [REROUTE]]]
+#   tests/program/check.sh [GROUTER [UNAVOIDABLE [REROUTE [CONGESTION_MAP]]]]
 #
 # Without words it takes the programs that `rt ci` left in crates/*/out, and has one built where there is none. It
 # prints a line for each case, then how many passed and failed, and fails where one did.
@@ -37,6 +37,7 @@ take() {
 take grouter "${1:-$top/crates/grouter/out/grouter}"
 take unavoidable "${2:-$top/crates/unavoidable/out/unavoidable}"
 take reroute "${3:-$top/crates/reroute/out/reroute}"
+take congestion_map "${4:-$top/crates/congestion_map/out/congestion_map}"
 program=$room/grouter
 cp "$examples"/*.gr "$room/files"
 cd "$room/files" || exit 1
@@ -467,6 +468,36 @@ expect 'new routes in a folder that is missing' 7 'refused 7' detour.gr missing/
 expect_unheard 'new routes whose report can not be said' 7 detour.gr new.routes
 made 'new routes without a report' new.routes "$examples/detour.routes"
 rm ./*.routes ./*.cert
+
+# ---- maps of congestion
+
+# The pictures and the table were made by a plain program of another make.
+program=$room/congestion_map
+measured='nets 8
+forced 0
+beyond 0
+overflow 4
+wirelength 59
+peak 3/2'
+ln -s "$examples" examples
+expect 'a picture with a cut' 0 "$measured" examples/few_exits.gr few_exits.routes few_exits.svg --cut few_exits_cut.cert
+made 'its text, which the README shows' few_exits.svg "$top/docs/pictures/few_exits.svg"
+expect 'a table of both layers' 0 "$measured" few_exits.gr few_exits.routes few_exits.csv --layers
+made 'its text' few_exits.csv "$here/few_exits.csv"
+"$program" three_layers.gr examples/three_layers.routes three_layers.svg --greater >"$room/reported"
+made 'a picture of the fuller direction' three_layers.svg "$here/three_layers.svg"
+usage='refused 2
+usage: congestion_map IN ROUTES MAP [--cut CERT] [--layer L] [--layers] [--greater]'
+expect 'no words to congestion_map' 2 "$usage"
+expect 'a map of no form' 2 "$usage" few_exits.gr few_exits.routes few_exits.png
+expect 'a table of one map' 2 "$usage" few_exits.gr few_exits.routes few_exits.csv --greater
+expect 'routes that are none of the design' 1 'no 47 0' detour.gr cut_off.routes detour.svg
+expect 'a cut of another design' 1 'no 51 prices 16 33' few_exits.gr few_exits.routes few_exits.svg --cut detour.cert
+expect 'a layer that is missing' 1 'no 53 3 2' few_exits.gr few_exits.routes few_exits.svg --layer 3
+expect 'a map in a folder that is missing' 7 'refused 7' few_exits.gr few_exits.routes missing/few_exits.svg
+expect_unheard 'a map that can not be reported' 7 few_exits.gr few_exits.routes few_exits.csv --layers
+made 'its text without a report' few_exits.csv "$here/few_exits.csv"
+rm examples ./*.routes ./*.cert
 program=$room/grouter
 
 # ---- designs that are made
@@ -650,14 +681,14 @@ judge 'want of memory' 8
 # They stand beside the built programs here, which are newer than all else, so that nothing is left to prove.
 house=$room/house
 mkdir -p "$house/docs"
-cp -R "$top/launch" "$top/grouter" "$top/reroute" "$top/unavoidable" "$house"
+cp -R "$top/launch" "$top/grouter" "$top/reroute" "$top/unavoidable" "$top/congestion_map" "$house"
 cp "$top/docs/FORMATS.md" "$house/docs"
-printf '%s\n' grouter: reroute: unavoidable: >"$house/crates.txt"
-for each in grouter reroute unavoidable; do
+printf '%s\n' grouter: reroute: unavoidable: congestion_map: >"$house/crates.txt"
+for each in grouter reroute unavoidable congestion_map; do
     mkdir -p "$house/crates/$each/out"
     cp "$room/$each" "$house/crates/$each/out"
 done
-for each in grouter reroute unavoidable; do
+for each in grouter reroute unavoidable congestion_map; do
     program=$house/$each
     help=$(awk -v name="$each" '/^```/ { inside = $0 == "```help-" name; next } inside' "$top/docs/FORMATS.md")
     [ -n "$help" ]

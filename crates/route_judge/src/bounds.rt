@@ -12,7 +12,7 @@ ghost use Rattle.route_judge.specs.Judgements.{IsFound};
 ghost use Rattle.route_judge.specs.Orders.{bound_objections};
 ghost use Rattle.route_judge.specs.Stops.{StopsAt};
 
-use crate::listed_prices::listed_prices;
+use crate::listing::listed_prices;
 use crate::reason::Reason;
 use crate::stop::Stop;
 use cert_text::Cert;

@@ -73,7 +73,7 @@ pub fn forced_count(grounds: &[Ground]) -> u64
 }
 
 /// How many edges are open.
-fn open_count(grid: &Grid) -> u64
+pub fn open_count(grid: &Grid) -> u64
     ensures { result ≡ counts.open_count grid.now }
 {
     let mut count = 0;

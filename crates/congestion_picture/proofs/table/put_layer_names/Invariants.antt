@@ -1,0 +1,12 @@
+use Rattle.std.proofs.Common.{◌+◌}
+use Rattle.std.specs.Prelude.{flat_map}
+use Rattle.std.specs.List.{range_with_len}
+use Rattle.gr_desk.specs.Pens.{HasSameDesk, Puts, pen_told}
+use Rattle.congestion_picture.specs.Tables.{layer_name}
+use Rattle.congestion_picture.proofs.table.put_layer_names.Given as goal
+
+abbrev pub invariant-loop-i : goal.invariant-loop-i
+invariant-loop-i g l = record {
+  same_desk : HasSameDesk l.fn.pen l.pen;
+  puts : Puts (pen_told g.D.Desk.told l.fn.pen) (pen_told g.D.Desk.told l.pen) (flat_map (λ i. layer_name (l.each.first + i)) (range_with_len 0 l.i));
+}
