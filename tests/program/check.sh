@@ -476,7 +476,7 @@ judge 'a trial ends with a yes' 0
 # ---- words that are no command
 
 usage='refused 2
-usage: grouter route|measure|judge|make|trial'
+usage: grouter route|measure|judge|make|trial|guide'
 expect 'no words' 2 "$usage"
 expect 'a command without its names' 2 "$usage" route
 expect 'a name too few' 2 "$usage" route one_net.gr a.routes
