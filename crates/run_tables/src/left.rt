@@ -10,7 +10,7 @@ use test_rows::{agree, text_of};
 pub struct Left {
     /// The status, with a word behind it where the desk strayed or starved.
     pub status: String,
-    /// The texts of the report, the routes, the certificate and the design.
+    /// The texts of the report, the routes, the certificate, the design and the guides.
     pub texts: Vec<Vec<u8>>,
 }
 
@@ -29,6 +29,7 @@ pub fn left_of(alloc: Global, status: u8, desk: &MemDesk) -> Result<Left, AllocE
         Port::RoutesOut,
         Port::CertOut,
         Port::DesignOut,
+        Port::GuideOut,
     ] {
         texts.push(Vec::from_slice(alloc, desk.written(port))?)?;
     }
