@@ -247,6 +247,16 @@ expect 'a route that lacks a via' 1 'no 47 0' judge detour.gr cut_off.routes det
 expect 'a route that lacks a via, measured' 1 'no 47 0' measure detour.gr cut_off.routes
 expect 'a bound that the prices do not show' 1 'no 52 1/2 41633/378056' judge detour.gr detour.routes overstated.cert
 
+expect 'guides are written' 0 "$measured
+guides 3" guide detour.gr detour.routes a.guide
+made 'the guides' a.guide "$examples/detour.guide"
+expect 'no guides of a route that lacks a via' 1 'no 47 0' guide detour.gr cut_off.routes a.guide
+expect 'no file of guides for an objection' 6 'refused 6' measure a.guide detour.routes
+row 0 4 1 '1099511627747 0 10 10' 0 >far.gr
+expect 'a design that guides can not hold' 3 'refused 3 23' guide far.gr missing.routes a.guide
+expect 'guides that can not be created' 7 'refused 7' guide detour.gr detour.routes folder
+rm far.gr
+
 # judged NAME STATUS LINES: a.routes and a.cert are judged by the example one_net
 judged() {
     expect "$1" "$2" "$3" judge one_net.gr a.routes a.cert
@@ -561,7 +571,7 @@ judge 'a trial ends with a yes' 0
 # ---- words that are no command
 
 usage='refused 2
-usage: grouter route|measure|judge|make|trial'
+usage: grouter route|measure|judge|make|trial|guide'
 expect 'no words' 2 "$usage"
 expect 'a command without its names' 2 "$usage" route
 expect 'a name too few' 2 "$usage" route one_net.gr a.routes

@@ -44,7 +44,7 @@ creates_of (f ∷ later) a outputs fresh names = (
   creates_of later a outputs.2 fresh (λ t at. names t (Contains-rest f later t at)),
 )
 
-expected_opens : (read made : List Source) (a : Told) → AreInputs read → ExpectsNames (read ++ made) a → AreOrderlyOpens a read
+pub expected_opens : (read made : List Source) (a : Told) → AreInputs read → ExpectsNames (read ++ made) a → AreOrderlyOpens a read
 expected_opens read made a inputs expects = opens_of read a inputs expects.fresh
     (λ s at. expects.names s (Contains-append_left read made s at))
 

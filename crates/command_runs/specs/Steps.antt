@@ -1,5 +1,5 @@
 -- What a run does to the desk before its report, and how the faults of its steps become refusals.
-use Rattle.std.specs.Prelude.{◌≡◌, ◌≢◌, ◌≤◌, ℕ, List, [], ◌∷◌, Contains, Result, Err, IsErrOf, IsOk}
+use Rattle.std.specs.Prelude.{◌≡◌, ◌≢◌, ◌⊎◌, ◌≤◌, ℕ, List, [], ◌∷◌, Contains, Result, Err, IsErrOf, IsOk}
 use Rattle.gr_desk.specs.declared.port.Port.{Port}
 use Rattle.gr_desk.specs.declared.port.Port.TheVariants.{In}
 use Rattle.gr_desk.specs.Told.{Told}
@@ -48,6 +48,10 @@ IsRefusedFor port text refusal = IsRefusedAt port text refusal
 abbrev pub too_long_at : Port → Refusal
 too_long_at In = Input input_faults.TooLong
 too_long_at _ = Text text_faults.TooLong
+
+-- a file is refused before its text is looked at: it is too long or can't be read, or memory is wanting
+abbrev pub IsBeforeText : Port → Refusal → Type 0
+IsBeforeText port r = (r ≡ too_long_at port) ⊎ ((r ≡ Unread) ⊎ (r ≡ NoMemory))
 
 -- what an error of the text is
 abbrev pub of_input_error : InputError → Refusal

@@ -98,7 +98,7 @@ fn put_ending<D: Desk>(pen: &mut Pen<'_, D>, refusal: Refusal)
     ensures puts { Puts (pen_told D.told pen.old) (pen_told D.told pen.new) (ending_of refusal) }
 {
     match refusal {
-        Refusal::NoCommand => pen.put(b"\nusage: grouter route|measure|judge|make|trial\n"),
+        Refusal::NoCommand => pen.put(b"\nusage: grouter route|measure|judge|make|trial|guide\n"),
         Refusal::Input(fault) => {
             put_wanted(pen, fault.wanted());
             pen.put(b"\n");

@@ -9,7 +9,7 @@ ghost use Rattle.command_runs.specs.declared.refusal.Refusal.{Refusal};
 ghost use Rattle.command_runs.specs.Refusals.{IsRefusedAt};
 ghost use Rattle.command_runs.specs.Sources.{HasBytes, IfTold, design_source};
 ghost use Rattle.command_runs.specs.Steps as steps;
-ghost use Rattle.command_runs.specs.Steps.{ReadsFile, ReadsSources};
+ghost use Rattle.command_runs.specs.Steps.{IsBeforeText, ReadsFile, ReadsSources};
 
 use crate::grounded_design::GroundedDesign;
 use crate::refusal::Refusal;
@@ -38,6 +38,7 @@ pub fn read_source<D: Desk>(
     requires input { IsTrue (is_input port) }
     ensures bytes { IfOk result (λ v. IfTold (D.told desk.old).files name.now (λ told. v.items ≡ told)) }
     ensures short { IfOk result (λ v. length v.items ≤ max_bytes) }
+    ensures early { (r : Refusal) → IsErrOf result r → IsBeforeText port r }
     ensures reads { ReadsFile (record { port = port; name = name.now }) (D.told desk.old) (D.told desk.new) result }
 {
     if desk.open(port, name).is_err() {

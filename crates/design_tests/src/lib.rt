@@ -10,6 +10,10 @@ mod design_grid_tests;
 #[cfg(test)]
 mod design_text_tests;
 #[cfg(test)]
+mod guide_run_tests;
+#[cfg(test)]
+mod guide_tests;
+#[cfg(test)]
 mod judge_run_tests;
 #[cfg(test)]
 mod make_tests;

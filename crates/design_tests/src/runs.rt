@@ -23,6 +23,13 @@ const JUDGED: &[(Port, &str)] = &[
     (Port::CertIn, "a.cert"),
 ];
 
+/// Where `guide` has them.
+const GUIDED: &[(Port, &str)] = &[
+    (Port::In, "a.gr"),
+    (Port::RoutesIn, "a.routes"),
+    (Port::GuideOut, "a.guide"),
+];
+
 /// Where `make` has its file.
 const MADE: &[(Port, &str)] = &[(Port::DesignOut, "made.gr")];
 
@@ -32,6 +39,7 @@ fn names_of(command: &str) -> &'static [(Port, &'static str)] {
         "route" => ROUTED,
         "make" => MADE,
         "trial" => &[],
+        "guide" => GUIDED,
         _ => JUDGED,
     }
 }

@@ -41,6 +41,6 @@ pub use answer::Answer;
 pub use certified_input::CertifiedInput;
 pub use judged_files::{read_blocks, read_certificate, read_certified, read_routed};
 pub use judging::judge;
-pub use measuring::measure;
+pub use measuring::{answer_on_routes, measure};
 pub use routed_input::RoutedInput;
 pub use routes_report::RoutesReport;

@@ -6,15 +6,19 @@ use Rattle.std.specs.Str.{bytes_eq}
 use Rattle.std.proofs.lemmas.Bool.{and_parts}
 use Rattle.std.proofs.lemmas.List.Folds.{list_any_at}
 use Rattle.std.proofs.lemmas.Slice.Eq.{bytes_eq-Decides}
+use Rattle.command_words.specs.declared.guide_request.GuideRequest.{GuideRequest}
 use Rattle.command_words.specs.declared.judge_request.JudgeRequest.{JudgeRequest}
 use Rattle.command_words.specs.declared.measure_request.MeasureRequest.{MeasureRequest}
-use Rattle.command_words.specs.CommandLine.{CommandForm, AsksForJudge, AsksForMeasure, are_names, are_options, begins_with, command_forms, has_shape, has_values_in_range, is_command, is_command_of, names_in, option_words}
-use Rattle.command_words.specs.CommandLine.{route_form, measure_form, judge_form, make_form, trial_form}
+use Rattle.command_words.specs.CommandLine.{CommandForm, AsksForGuide, AsksForJudge, AsksForMeasure, are_names, are_options, begins_with, command_forms, has_shape, has_values_in_range, is_command, is_command_of, names_in, option_words}
+use Rattle.command_words.specs.CommandLine.{route_form, measure_form, judge_form, make_form, trial_form, guide_form}
 use Rattle.gr_desk.specs.Told.{Told}
 use Rattle.command_runs.specs.declared.refusal.Refusal.{Refusal}
 use Rattle.command_runs.specs.declared.refusal.Refusal.TheVariants.{NoCommand, NoMemory}
 use Rattle.command_runs.specs.AnsweredRun.{AnswersRightly}
 use Rattle.command_runs.specs.CommandRun.{RunOutcome, IsCommandRun}
+use Rattle.guide_cli.specs.GuideLines.{guide_outcome}
+use Rattle.guide_cli.specs.GuideRun.{GuideTask, IsGuideAnswer, IsGuideRun, guide_files, guide_sources, guide_task_of, guide_task_of_words}
+use Rattle.guide_cli.proofs.GuidedRuns.{guide-inputs, guide-outputs}
 use Rattle.judge_cli.specs.AnswerLines.{answer_outcome}
 use Rattle.judge_cli.specs.JudgeRun.{JudgeTask, IsJudgeAnswer, IsJudgeRun, judge_sources, judge_task_of, judge_task_of_words}
 use Rattle.command_runs.specs.Lines.{lines_of, status_of}
@@ -76,6 +80,14 @@ pub judge_task-asked : (words : List (List ℕ)) (r : JudgeRequest) → AsksForJ
     → judge_task_of_words words ≡ judge_task_of r
 judge_task-asked words r asks = ap judge_of_names asks.names
 
+abbrev guide_of_names : List (List ℕ) → GuideTask
+guide_of_names names =
+    record { input = slice_index_or names 0 []; routes = slice_index_or names 1 []; guides = slice_index_or names 2 [] }
+
+pub guide_task-asked : (words : List (List ℕ)) (r : GuideRequest) → AsksForGuide words r
+    → guide_task_of_words words ≡ guide_task_of r
+guide_task-asked words r asks = ap guide_of_names asks.names
+
 -- ---- runs that are refused before a file is read
 
 -- a run of a command that had no memory to read its words
@@ -107,6 +119,7 @@ run-without_memory words a c status is tries =
     let judge = judge_task_of_words bytes in
     let make = make_task_of_words bytes in
     let trial = trial_task_of_words bytes in
+    let guide = guide_task_of_words bytes in
     record {
       no_command = λ none. run-no_command a c status NoMemory (inr refl) is tries;
       route = λ _. run-unbegun (design_source route.input) (route_files route) (IsRouteOutcome route.input route.settings a) a
@@ -118,6 +131,11 @@ run-without_memory words a c status is tries =
       make = λ _. run-unbegun [] (make_files make) (λ outcome. outcome ≡ made_outcome make) a c status tt (make-outputs make)
           is tries;
       trial = λ _. run-unbegun [] [] (IsTrialOutcome trial) a c status tt tt is tries;
+      guide = λ _. inl (record {
+        run = run-unbegun (guide_sources guide) (guide_files guide) (AnswersRightly guide_outcome (IsGuideAnswer guide a)) a c status
+            (guide-inputs guide) (guide-outputs guide) is tries;
+        near = λ _ _ _. inr is;
+      });
     }
 
 -- a run whose words are no command
@@ -133,6 +151,7 @@ run-without_command words a c status none is tries =
       judge = λ of. absurd (no_command-not bytes judge_form (2, lit< tt, refl) none of);
       make = λ of. absurd (no_command-not bytes make_form (3, lit< tt, refl) none of);
       trial = λ of. absurd (no_command-not bytes trial_form (4, lit< tt, refl) none of);
+      guide = λ of. absurd (no_command-not bytes guide_form (5, lit< tt, refl) none of);
     }
 
 -- a run whose words are this command owes what it promises, and nothing for the other commands
@@ -143,8 +162,9 @@ pub run-of_command : {Z : Type 0} (words : List (String Z)) (a c : Told) (status
     → (bytes_eq form.word judge_form.word ≡ true → IsJudgeRun (judge_task_of_words (map string_bytes words)) a c status)
     → (bytes_eq form.word make_form.word ≡ true → IsMakeRun (make_task_of_words (map string_bytes words)) a c status)
     → (bytes_eq form.word trial_form.word ≡ true → IsTrialRun (trial_task_of_words (map string_bytes words)) a c status)
+    → (bytes_eq form.word guide_form.word ≡ true → IsGuideRun (guide_task_of_words (map string_bytes words)) a c status)
     → IsRun words a c status
-run-of_command words a c status form at is route measure judge make trial =
+run-of_command words a c status form at is route measure judge make trial guide =
     let bytes = map string_bytes words in
     record {
       no_command = λ none. absurd (no_command-not bytes form at none is);
@@ -153,4 +173,5 @@ run-of_command words a c status form at is route measure judge make trial =
       judge = λ other. judge (one_word form judge_form bytes is other);
       make = λ other. make (one_word form make_form bytes is other);
       trial = λ other. trial (one_word form trial_form bytes is other);
+      guide = λ other. guide (one_word form guide_form bytes is other);
     }

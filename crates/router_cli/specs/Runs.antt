@@ -13,8 +13,11 @@
 --   MeasureRun   what a run of `measure` says of routes, and
 --   JudgeRun     what a run of `judge` says of routes and a certificate
 --   AnswerLines  what these two have to leave, and its lines, byte for byte
+-- in `guide_cli`:
+--   GuideRun     what a run of `guide` writes and says, and when a design is refused that is not near
+--   GuideLines   its lines, byte for byte
 -- and in `command_runs`, where no word says how they are judged:
---   CommandRun   what a run of any of the five commands leaves on each status
+--   CommandRun   what a run of any of the six commands leaves on each status
 --   Sources      the files that a command reads or makes
 --   JudgedTexts  what the texts of routes and certificates say
 --   Refusals     why a run can be refused, and what it then says
@@ -29,10 +32,11 @@
 use Rattle.std.specs.Prelude.{◌≡◌, ◌⊎◌, ℕ, List, [], map, string_bytes, true, false}
 use Rattle.std.specs.declared.string.String.{String}
 use Rattle.gr_desk.specs.Told.{Told}
-use Rattle.command_words.specs.CommandLine.{is_command, is_command_of, route_form, measure_form, judge_form, make_form, trial_form}
+use Rattle.command_words.specs.CommandLine.{is_command, is_command_of, route_form, measure_form, judge_form, make_form, trial_form, guide_form}
 use Rattle.command_runs.specs.declared.refusal.Refusal.{Refusal}
 use Rattle.command_runs.specs.declared.refusal.Refusal.TheVariants.{NoCommand, NoMemory}
 use Rattle.command_runs.specs.Lines.{status_of}
+use Rattle.guide_cli.specs.GuideRun.{IsGuideRun, guide_task_of_words}
 use Rattle.judge_cli.specs.JudgeRun.{IsJudgeRun, judge_task_of_words}
 use Rattle.router_cli.specs.MakeRun.{IsMakeRun, make_task_of_words}
 use Rattle.judge_cli.specs.MeasureRun.{IsMeasureRun, measure_task_of_words}
@@ -62,3 +66,4 @@ pub record IsRun {Z : Type 0} (words : List (String Z)) (before after : Told) (s
   pub judge : is_command_of (map string_bytes words) judge_form ≡ true → IsJudgeRun (judge_task_of_words (map string_bytes words)) before after status
   pub make : is_command_of (map string_bytes words) make_form ≡ true → IsMakeRun (make_task_of_words (map string_bytes words)) before after status
   pub trial : is_command_of (map string_bytes words) trial_form ≡ true → IsTrialRun (trial_task_of_words (map string_bytes words)) before after status
+  pub guide : is_command_of (map string_bytes words) guide_form ≡ true → IsGuideRun (guide_task_of_words (map string_bytes words)) before after status

@@ -8,6 +8,7 @@ use crate::trial::trial;
 use command_runs::{Refusal, refuse};
 use command_words::{Command, WordsError, command_of};
 use gr_desk::Desk;
+use guide_cli::guide;
 use judge_cli::{judge, measure};
 use routing_stages::Gate;
 use std::alloc::Global;
@@ -21,7 +22,7 @@ use std::thread::Threads;
 /// | 0 | what was asked for is written and reported, or the routes are accepted |
 /// | 1 | routes or a certificate are not accepted, and the report says why |
 /// | 2 | the words are no command |
-/// | 3 | the input is no design |
+/// | 3 | the input is no design, or one that guides can't hold |
 /// | 4 | a text that is to be judged is no route text or no certificate |
 /// | 5 | a net is unreachable |
 /// | 6 | a file could not be opened or read |
@@ -42,6 +43,7 @@ pub fn run<R: Threads + Sync, D: Desk, G: Gate>(
         Ok(Command::Judge(request)) => judge(rt, alloc, &request, desk),
         Ok(Command::Make(request)) => make(desk, &request),
         Ok(Command::Trial(request)) => trial(rt, alloc, &request, desk, gate),
+        Ok(Command::Guide(request)) => guide(alloc, &request, desk),
         Err(WordsError::Refused) => refuse(desk, Refusal::NoCommand),
         Err(WordsError::NoMemory) => refuse(desk, Refusal::NoMemory),
     }

@@ -1,0 +1,3 @@
+pub mod FarDesigns
+pub mod GuidedRuns
+pub mod Sets

@@ -1,0 +1,28 @@
+//! Routes with their guides.
+
+ghost use Rattle.std.specs.Prelude.{◌≡◌};
+ghost use Rattle.gr_desk.specs.Pens.{Puts, pen_told, HasSameDesk};
+ghost use Rattle.guide_cli.specs.GuideLines.{guided_text};
+
+use command_runs::{Said, put_line};
+use gr_desk::{Desk, Pen};
+use guide_text::Guide;
+use judge_cli::{Answer, RoutesReport};
+
+/// What is reported of routes that are accepted, and the guides of all nets.
+#[derive(Drop)]
+pub struct GuidedRoutes {
+    pub report: RoutesReport,
+    pub guides: Vec<Guide>,
+}
+
+impl Said for GuidedRoutes {
+    ghost may = { λ _. Unit {0} };
+
+    ghost text = { guided_text };
+
+    fn put<D: Desk>(&self, pen: &mut Pen<'_, D>) {
+        Answer::Measured(self.report).put(pen);
+        put_line(pen, b"guides", &[self.report.nets]);
+    }
+}

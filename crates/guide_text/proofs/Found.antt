@@ -1,0 +1,29 @@
+-- A binary search in a rising list of numbers finds exactly what is in it.
+use Rattle.std.proofs.Common.{◌≡◌, ℕ, ◌<◌, ◌≤◌, List, length, get_or, Contains, true, false, refl, ◌∙◌, Ok, Err, arith, ⊎_elim}
+use Rattle.std.specs.Prelude.{Result, is_ok, ◌↔◌, MatchResult}
+use Rattle.std.specs.List.Sorted.{IsStrictlyIncreasing, IsBinarySearchResult}
+use Rattle.std.specs.Ordering.{nat_cmp}
+use Rattle.std.proofs.lemmas.Bool.{cases_lt}
+use Rattle.std.proofs.lemmas.List.{get_or_default}
+use Rattle.std.proofs.lemmas.List.Sorted.{searched}
+use Rattle.std.proofs.lemmas.Map.Keys.{sorted_from_strictly_increasing, below_from_sorted}
+
+-- no later number of a rising list is less
+rising_far : (xs : List ℕ) → IsStrictlyIncreasing xs → (i j : ℕ) → i ≤ j → j < length xs → get_or xs i 0 ≤ get_or xs j 0
+rising_far xs up i j before within = ⊎_elim
+    (λ (less : i < j). omega (arith, below_from_sorted xs i j 0 (sorted_from_strictly_increasing xs up) less within))
+    (λ (other : j ≤ i). let same : i ≡ j = omega arith in rw same (omega arith))
+    (cases_lt i j)
+
+found_or_not : (xs : List ℕ) (x : ℕ) (r : Result ℕ ℕ) → MatchResult r (λ i. (i < length xs) × (get_or xs i 0 ≡ x)) (λ i. (i ≤ length xs) × ((k : ℕ) → k < i → get_or xs k 0 < x) × ((k : ℕ) → i ≤ k → k < length xs → x < get_or xs k 0)) → (is_ok r ≡ true) ↔ Contains xs x
+found_or_not xs x (Ok i) found = (λ _. (i, found.0, get_or_default xs i x 0 found.0 ∙ found.1), λ _. refl)
+found_or_not xs x (Err i) parted = (
+  λ (no : false ≡ true). cc,
+  λ held.
+      let k = held.0 in
+      let at : get_or xs k 0 ≡ x = get_or_default xs k 0 x held.1 ∙ held.2 in
+      ⊎_elim (λ (before : k < i). absurd (omega (arith, at, parted.1 k before))) (λ (behind : i ≤ k). absurd (omega (arith, at, parted.2 k behind held.1))) (cases_lt k i),
+)
+
+pub found_by_search : (xs : List ℕ) (x : ℕ) (r : Result ℕ ℕ) → IsStrictlyIncreasing xs → IsBinarySearchResult (λ y. nat_cmp y x) xs r → (is_ok r ≡ true) ↔ Contains xs x
+found_by_search xs x r up position = found_or_not xs x r (searched xs x r position (rising_far xs up))

@@ -1,0 +1,15 @@
+pub mod BorderOrder
+pub mod EndLists
+pub mod Found
+pub mod Same
+pub mod Runs
+pub mod FirstRects
+pub mod Vertices
+pub mod WholeRects
+pub mod GuideLists
+pub mod Takes
+pub mod ReadBack
+pub mod Extending
+pub mod RectAround
+pub mod Coverings
+pub mod InRange
