@@ -18,7 +18,7 @@ pub(crate) struct Bound<'a> {
 
 impl Bound<'_> {
     /// What a way from here to the nearest of some targets costs at least.
-    pub(crate) fn rest(&self, targets: &[Target], site: Site) -> u64 {
+    pub(crate) fn rest(&self, targets: &[Target], site: &Site) -> u64 {
         let from_landmark = self.from_landmark(site);
         let mut least = u64::MAX;
         for target in targets {
@@ -28,7 +28,7 @@ impl Bound<'_> {
     }
 
     /// What a way to a target costs at least: its pieces, and what prices and overflow add.
-    fn rest_to(&self, site: Site, from_landmark: u32, target: &Target) -> u64 {
+    fn rest_to(&self, site: &Site, from_landmark: u32, target: &Target) -> u64 {
         let cols = site.col.abs_diff(target.site.col);
         let rows = site.row.abs_diff(target.site.row);
         let vias = self
@@ -47,7 +47,7 @@ impl Bound<'_> {
     }
 
     /// The distance of the tile of a site from the landmark, or 0 where there is none.
-    pub(crate) fn from_landmark(&self, site: Site) -> u32 {
+    pub(crate) fn from_landmark(&self, site: &Site) -> u32 {
         let tile = site.row.wrapping_mul(self.cols).wrapping_add(site.col) as usize;
         if tile < self.landmark.len() {
             self.landmark[tile]

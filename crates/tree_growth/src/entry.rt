@@ -30,14 +30,34 @@ fn entry_on_layer(size: Size, labels: &Labels, weights: &Weights<'_>, site: Site
     if layer.along_x {
         let west = site.beside(size, Side::West);
         least = least
-            .min(beyond_unit(weights, site.east(), labels.at(site).east, layer.demand))
-            .min(beyond_unit(weights, west.east(), labels.at(west).east, layer.demand));
+            .min(beyond_unit(
+                weights,
+                site.east(),
+                labels.at(site.label).east,
+                layer.demand,
+            ))
+            .min(beyond_unit(
+                weights,
+                west.east(),
+                labels.at(west.label).east,
+                layer.demand,
+            ));
     }
     if layer.along_y {
         let south = site.beside(size, Side::South);
         least = least
-            .min(beyond_unit(weights, site.north(), labels.at(site).north, layer.demand))
-            .min(beyond_unit(weights, south.north(), labels.at(south).north, layer.demand));
+            .min(beyond_unit(
+                weights,
+                site.north(),
+                labels.at(site.label).north,
+                layer.demand,
+            ))
+            .min(beyond_unit(
+                weights,
+                south.north(),
+                labels.at(south.label).north,
+                layer.demand,
+            ));
     }
     least
 }

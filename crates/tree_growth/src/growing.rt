@@ -77,7 +77,7 @@ impl Growing {
                     site,
                     distance: site.tiles_to(root),
                     entry: entry_weight(plan.size, &self.search.labels, &plan.weights, site),
-                    from_landmark: plan.bound.from_landmark(site),
+                    from_landmark: plan.bound.from_landmark(&site),
                 })?;
             }
         }
@@ -159,7 +159,7 @@ impl Growing {
             if grown.has(Vertex(here.vertex)) {
                 return Ok(());
             }
-            let side = self.search.labels.at(here).back;
+            let side = self.search.labels.at(here.label).back;
             self.way.push(here.piece(plan.size, side))?;
             self.joined.push(here)?;
             here = here.beside(plan.size, side);

@@ -65,9 +65,9 @@ impl Labels {
         }
     }
 
-    /// The label of a site. That of one outside the grid is blank.
-    pub(crate) fn at(&self, site: Site) -> Label {
-        let at = site.label as usize;
+    /// The label at a place. One that is outside the grid is blank.
+    pub(crate) fn at(&self, place: u32) -> Label {
+        let at = place as usize;
         if at < self.labels.len() {
             self.labels[at]
         } else {
@@ -75,9 +75,9 @@ impl Labels {
         }
     }
 
-    /// Whether a way at this cost would lower the cost of a site.
-    pub(crate) fn may_lower(&self, site: Site, cost: u64) -> bool {
-        let at = site.label as usize;
+    /// Whether a way at this cost would lower the cost of a label.
+    pub(crate) fn may_lower(&self, place: u32, cost: u64) -> bool {
+        let at = place as usize;
         at < self.labels.len()
             && {
                 let label = self.labels[at];
@@ -85,9 +85,9 @@ impl Labels {
             }
     }
 
-    /// Gives a site this cost and this way back.
-    pub(crate) fn lower(&mut self, site: Site, cost: u64, back: Side) {
-        let at = site.label as usize;
+    /// Gives a label this cost and this way back.
+    pub(crate) fn lower(&mut self, place: u32, cost: u64, back: Side) {
+        let at = place as usize;
         if at < self.labels.len() {
             let label = self.labels[at];
             self.labels[at] = Label {
@@ -100,9 +100,9 @@ impl Labels {
         }
     }
 
-    /// Takes a site, and answers its cost. `None` where it was taken before.
-    pub(crate) fn take(&mut self, site: Site) -> Option<u64> {
-        let at = site.label as usize;
+    /// Takes a label, and answers its cost. `None` where it was taken before.
+    pub(crate) fn take(&mut self, place: u32) -> Option<u64> {
+        let at = place as usize;
         if at >= self.labels.len() || self.labels[at].is_taken {
             return None;
         }

@@ -25,30 +25,16 @@ pub(crate) struct View<'t, 'p, 'a> {
 
 impl View<'_, '_, '_> {
     /// What is still to go from here at least.
-    fn rest(&self, site: Site) -> u64 {
+    fn rest(&self, site: &Site) -> u64 {
         self.plan.bound.rest(self.targets, site)
     }
 
     /// Whether a site is that of a target.
-    fn is_target(&self, site: Site) -> bool {
+    fn is_target(&self, site: &Site) -> bool {
         self.targets
             .iter()
             .any(|target| target.site.vertex == site.vertex)
     }
-}
-
-/// A way over a neighbour to a site.
-#[derive(Clone, Copy)]
-struct Offer {
-    to: Site,
-    /// The side that it comes from.
-    back: Side,
-    /// What it costs as far as the neighbour.
-    cost: u64,
-    edge: Edge,
-    road: Road,
-    /// What the net uses of the edge.
-    demand: u32,
 }
 
 /// The tables of a search.
@@ -56,8 +42,6 @@ struct Offer {
 pub(crate) struct Search {
     pub(crate) labels: Labels,
     queue: BucketQueue,
-    /// What is still to go at least where the search begins: keys count from here.
-    base: u64,
 }
 
 impl Search {
@@ -66,7 +50,6 @@ impl Search {
         Ok(Search {
             labels: Labels::new(alloc, grid)?,
             queue: BucketQueue::new(alloc)?,
-            base: 0,
         })
     }
 
@@ -79,28 +62,27 @@ impl Search {
     ) -> Result<Option<Site>, NoMemory> {
         self.labels.begin();
         self.queue.clear();
-        self.base = least_rest(view, sources);
         for source in sources {
             if view.frame.has(*source) {
-                self.lower(view, *source, 0, Side::Up)?;
+                self.lower(view, source, 0, Side::Up)?;
             }
         }
         for _ in 0..u64::MAX {
             let Some(site) = self.queue.pop() else {
                 return Ok(None);
             };
-            if let Some(cost) = self.labels.take(site) {
-                if view.is_target(site) {
+            if let Some(cost) = self.labels.take(site.label) {
+                if view.is_target(&site) {
                     return Ok(Some(site));
                 }
-                self.spread(view, site, cost)?;
+                self.spread(view, &site, cost)?;
             }
         }
         Ok(None)
     }
 
     /// Offers each neighbour of a site the way over this one.
-    fn spread(&mut self, view: &View<'_, '_, '_>, from: Site, cost: u64) -> Result<(), NoMemory> {
+    fn spread(&mut self, view: &View<'_, '_, '_>, from: &Site, cost: u64) -> Result<(), NoMemory> {
         if from.layer > 0 {
             self.offer_via(view, from, Side::Down, Side::Up, cost)?;
         }
@@ -123,43 +105,19 @@ impl Search {
     fn spread_along_x(
         &mut self,
         view: &View<'_, '_, '_>,
-        from: Site,
+        from: &Site,
         cost: u64,
         demand: u32,
     ) -> Result<(), NoMemory> {
         if from.col > view.frame.west {
             let to = from.beside(view.plan.size, Side::West);
-            let road = self.labels.at(to).east;
-            let edge = to.east();
-            let back = Side::East;
-            self.offer(
-                view,
-                Offer {
-                    to,
-                    back,
-                    cost,
-                    edge,
-                    road,
-                    demand,
-                },
-            )?;
+            let road = self.labels.at(to.label).east;
+            self.offer(view, &to, Side::East, cost, to.east(), road, demand)?;
         }
         if from.col < view.frame.east {
             let to = from.beside(view.plan.size, Side::East);
-            let road = self.labels.at(from).east;
-            let edge = from.east();
-            let back = Side::West;
-            self.offer(
-                view,
-                Offer {
-                    to,
-                    back,
-                    cost,
-                    edge,
-                    road,
-                    demand,
-                },
-            )?;
+            let road = self.labels.at(from.label).east;
+            self.offer(view, &to, Side::West, cost, from.east(), road, demand)?;
         }
         Ok(())
     }
@@ -168,43 +126,19 @@ impl Search {
     fn spread_along_y(
         &mut self,
         view: &View<'_, '_, '_>,
-        from: Site,
+        from: &Site,
         cost: u64,
         demand: u32,
     ) -> Result<(), NoMemory> {
         if from.row > view.frame.south {
             let to = from.beside(view.plan.size, Side::South);
-            let road = self.labels.at(to).north;
-            let edge = to.north();
-            let back = Side::North;
-            self.offer(
-                view,
-                Offer {
-                    to,
-                    back,
-                    cost,
-                    edge,
-                    road,
-                    demand,
-                },
-            )?;
+            let road = self.labels.at(to.label).north;
+            self.offer(view, &to, Side::North, cost, to.north(), road, demand)?;
         }
         if from.row < view.frame.north {
             let to = from.beside(view.plan.size, Side::North);
-            let road = self.labels.at(from).north;
-            let edge = from.north();
-            let back = Side::South;
-            self.offer(
-                view,
-                Offer {
-                    to,
-                    back,
-                    cost,
-                    edge,
-                    road,
-                    demand,
-                },
-            )?;
+            let road = self.labels.at(from.label).north;
+            self.offer(view, &to, Side::South, cost, from.north(), road, demand)?;
         }
         Ok(())
     }
@@ -213,35 +147,36 @@ impl Search {
     fn offer_via(
         &mut self,
         view: &View<'_, '_, '_>,
-        from: Site,
+        from: &Site,
         side: Side,
         back: Side,
         cost: u64,
     ) -> Result<(), NoMemory> {
         let to = from.beside(view.plan.size, side);
         let cost = cost.saturating_add(UNIT);
-        if self.labels.may_lower(to, cost) {
-            self.lower(view, to, cost, back)?;
+        if self.labels.may_lower(to.label, cost) {
+            self.lower(view, &to, cost, back)?;
         }
         Ok(())
     }
 
     /// Offers a site the way by an edge. Nothing is read of the edge where even the least weight would be too much.
-    fn offer(&mut self, view: &View<'_, '_, '_>, offer: Offer) -> Result<(), NoMemory> {
-        let Offer {
-            to,
-            back,
-            cost,
-            edge,
-            road,
-            demand,
-        } = offer;
-        if !self.labels.may_lower(to, cost.saturating_add(UNIT)) {
+    fn offer(
+        &mut self,
+        view: &View<'_, '_, '_>,
+        to: &Site,
+        back: Side,
+        cost: u64,
+        edge: Edge,
+        road: Road,
+        demand: u32,
+    ) -> Result<(), NoMemory> {
+        if !self.labels.may_lower(to.label, cost.saturating_add(UNIT)) {
             return Ok(());
         }
         if let Some(weight) = view.plan.weights.weight(edge, road, demand) {
             let cost = cost.saturating_add(weight);
-            if weight == UNIT || self.labels.may_lower(to, cost) {
+            if weight == UNIT || self.labels.may_lower(to.label, cost) {
                 self.lower(view, to, cost, back)?;
             }
         }
@@ -252,23 +187,12 @@ impl Search {
     fn lower(
         &mut self,
         view: &View<'_, '_, '_>,
-        to: Site,
+        to: &Site,
         cost: u64,
         back: Side,
     ) -> Result<(), NoMemory> {
-        self.labels.lower(to, cost, back);
-        let key = cost.saturating_add(view.rest(to)).saturating_sub(self.base);
-        self.queue.push(key, to)
+        self.labels.lower(to.label, cost, back);
+        let key = cost.saturating_add(view.rest(to));
+        self.queue.push(key, *to)
     }
-}
-
-/// What is still to go at least from the sources.
-fn least_rest(view: &View<'_, '_, '_>, sources: &[Site]) -> u64 {
-    let mut least = u64::MAX;
-    for source in sources {
-        if view.frame.has(*source) {
-            least = least.min(view.rest(*source));
-        }
-    }
-    least
 }

@@ -1,7 +1,7 @@
-use Rattle.std.proofs.Common.{◌≡◌, refl, sym, subst, inl, inr}
+use Rattle.std.proofs.Common.{refl, sym, subst, inl, inr}
 use Rattle.grid_base.specs.declared.size.Size.{Size}
 use Rattle.grid_base.specs.Numbers.{IsPiece}
-use Rattle.grid_graph.specs.Grids.{size_of, Allows}
+use Rattle.grid_graph.specs.Grids.{Allows}
 use Rattle.grid_graph.proofs.Allowed.{Allows-IsPiece}
 use Rattle.tree_growth.proofs.grown.Grown.add.Goals as goal
 

@@ -2,7 +2,6 @@ use Rattle.std.proofs.Common.{◌≡◌, ◌∙◌, Contains, All, refl, sym, su
 use Rattle.std.specs.Prelude.{List}
 use Rattle.grid_base.specs.declared.piece.Piece.{Piece}
 use Rattle.grid_base.specs.declared.vertex.Vertex.{Vertex}
-use Rattle.grid_base.specs.Walks.{WalkBetween, InPieces}
 use Rattle.grid_graph.specs.Grids.{size_of, Allows}
 use Rattle.tree_growth.specs.Growns.{IsMarked}
 use Rattle.tree_growth.proofs.Joins.{all_of, joined_by}

@@ -1,4 +1,4 @@
-use Rattle.std.proofs.Common.{◌≡◌, List, length, ap, arith, subst}
+use Rattle.std.proofs.Common.{List, length, ap, arith, subst}
 use Rattle.std.specs.Prelude.{IfOk, IfSome}
 use Rattle.std.proofs.lemmas.List.Elements.{All-contains}
 use Rattle.grid_base.specs.declared.vertex.Vertex.{Vertex}
