@@ -11,6 +11,9 @@ use std::thread::{Threads, join};
 use tree_growth::Growth;
 use tree_set::Tree;
 
+/// A worker of its own is worth its start for so many nets.
+const LEAST_RUN: usize = 4;
+
 /// New sets for these nets, in their order, by one worker. All searches see the same.
 fn search_in_turn(
     alloc: Global,
@@ -43,7 +46,7 @@ pub(crate) fn search_batch<R: Threads + Sync>(
     requires workers { 0 < length growths.old }
     ensures found { IfOk result (λ found. AreFound sight.entry.design.now nets.now found.items) }
 {
-    if growths.len() == 1 || nets.len() < 2 {
+    if growths.len() == 1 || nets.len() < 2 * LEAST_RUN {
         return search_in_turn(alloc, sight, nets, &mut growths[0]);
     }
     let (few, more) = growths.split_at_mut(growths.len() / 2);
