@@ -10,9 +10,6 @@ use std::alloc::Global;
 use std::test::Fail;
 use test_rows::{number_of, paragraphs_of};
 
-/// The ports of the first three words.
-const PORTS: [Port; 3] = [Port::In, Port::RoutesIn, Port::MapOut];
-
 /// The first so many names, each with its port.
 fn names_of(
     alloc: Global,
@@ -20,12 +17,14 @@ fn names_of(
     count: usize,
 ) -> Result<Vec<(Port, &'static str)>, Fail> {
     let mut names = Vec::new(alloc);
-    for (port, word) in PORTS.iter().zip(line.split(' ')) {
-        names.push((*port, word))?;
-    }
+    let mut words = line.split(' ');
+    names.push((Port::In, words.next().unwrap_or("")))?;
+    names.push((Port::RoutesIn, words.next().unwrap_or("")))?;
+    let map = words.next().unwrap_or("");
     if let Some((_, cert)) = line.split_once(" --cut ") {
-        names.insert(2, (Port::CertIn, cert))?;
+        names.push((Port::CertIn, cert))?;
     }
+    names.push((Port::MapOut, map))?;
     names.truncate(count);
     if names.len() != count {
         return Err(Fail::new("fewer words than names"));
