@@ -477,7 +477,6 @@ expect 'routes that are missing, and no new ones' 6 'refused 6' detour.gr missin
 expect 'new routes in a folder that is missing' 7 'refused 7' detour.gr missing/new.routes
 expect_unheard 'new routes whose report can not be said' 7 detour.gr new.routes
 made 'new routes without a report' new.routes "$examples/detour.routes"
-rm ./*.routes ./*.cert
 
 # ---- maps of congestion
 
