@@ -12,6 +12,7 @@ pub mod Grids
 pub mod GroundErrors
 pub mod Grounds
 pub mod Components
+pub mod GroundComponents
 pub mod Layouts
 pub mod Limits
 pub mod Nets

@@ -2,13 +2,11 @@
 
 ghost use Rattle.grid_graph.specs.Nets.{IsDesign};
 
-use crate::components_of::components_of;
-use crate::first_apart::first_apart;
 use crate::grid::Grid;
 use crate::ground::Ground;
+use crate::ground_components::GroundComponents;
 use crate::ground_error::GroundError;
 use crate::nets::Nets;
-use crate::unreachable_net::UnreachableNet;
 
 /// A grid and the nets to be routed on it.
 #[derive(Drop)]
@@ -23,9 +21,8 @@ pub struct Design {
 impl Design {
     ghost use Rattle.std.specs.Prelude.{ℕ, ◌≡◌, ◌<◌, length, IfOk, IfErr};
     ghost use Rattle.grid_graph.specs.declared.net_spec.NetSpec.{NetSpec};
-    ghost use Rattle.grid_graph.specs.Grids.{size_of, Allows};
     ghost use Rattle.grid_graph.specs.Grounds.{IsGround, IsGroundError, IsFirstGroundError, AreGrounds};
-    ghost use Rattle.grid_graph.specs.Components.{AreComponents};
+    ghost use Rattle.grid_graph.specs.GroundComponents.{AreGroundComponents};
     ghost use Rattle.grid_base.specs.Lists.{At};
 
     /// The ground of the net at this place of the list. `Unreachable` is a net that no ground joins.
@@ -34,9 +31,8 @@ impl Design {
         ensures found { (n : NetSpec) → At self.now.nets net n → IfOk result (λ found. IsGround self.now.grid n.terminals found) }
         ensures cause { (n : NetSpec) → At self.now.nets net n → IfErr result (λ e. IsGroundError self.now.grid n e) }
     {
-        let by_open = components_of(self.grid.allocator(), &self.grid, Ground::Open)?;
-        let by_choked = components_of(self.grid.allocator(), &self.grid, Ground::WithChoked)?;
-        self.ground_by(by_open.as_slice(), by_choked.as_slice(), net)
+        let components = GroundComponents::of(self.grid.allocator(), &self.grid)?;
+        self.ground_by(&components, net)
     }
 
     /// The grounds of all nets, in file order. `Unreachable` is the first net that no ground joins.
@@ -46,39 +42,24 @@ impl Design {
         ensures grounds { IfOk result (λ grounds. AreGrounds self.now.grid self.now.nets grounds.items) }
         ensures cause { IfErr result (λ e. IsFirstGroundError self.now.grid self.now.nets e) }
     {
-        let by_open = components_of(self.grid.allocator(), &self.grid, Ground::Open)?;
-        let by_choked = components_of(self.grid.allocator(), &self.grid, Ground::WithChoked)?;
+        let components = GroundComponents::of(self.grid.allocator(), &self.grid)?;
         let mut grounds = Vec::new(self.grid.allocator());
         for net in 0..self.nets.list().len() {
-            grounds.push(self.ground_by(by_open.as_slice(), by_choked.as_slice(), net)?)?;
+            grounds.push(self.ground_by(&components, net)?)?;
         }
         Ok(grounds)
     }
 
     /// The ground of a net, by the components of the vertices.
-    fn ground_by(
-        &self,
-        by_open: &[u32],
-        by_choked: &[u32],
-        net: usize,
-    ) -> Result<Ground, GroundError>
+    fn ground_by(&self, components: &GroundComponents, net: usize) -> Result<Ground, GroundError>
         requires net { net < length self.now.nets }
-        requires by_open { AreComponents (size_of self.now.grid) (Allows self.now.grid Ground.Open) by_open.now }
-        requires by_choked { AreComponents (size_of self.now.grid) (Allows self.now.grid Ground.WithChoked) by_choked.now }
+        requires components { AreGroundComponents self.now.grid components.now }
         ensures found { (n : NetSpec) → At self.now.nets net n → IfOk result (λ found. IsGround self.now.grid n.terminals found) }
         ensures cause { (n : NetSpec) → At self.now.nets net n → IfErr result (λ e. IsGroundError self.now.grid n e) }
     {
-        let spec = &self.nets.list()[net];
-        let terminals = spec.terminals.list();
-        let Some(_) = first_apart(by_open, terminals) else {
-            return Ok(Ground::Open);
-        };
-        match first_apart(by_choked, terminals) {
-            None => Ok(Ground::WithChoked),
-            Some(terminal) => Err(GroundError::Unreachable(UnreachableNet {
-                id: spec.id,
-                terminal: terminal as u32,
-            })),
+        match components.ground_of(&self.nets.list()[net]) {
+            Ok(found) => Ok(found),
+            Err(unreachable) => Err(GroundError::Unreachable(unreachable)),
         }
     }
 }

@@ -6,12 +6,6 @@ use Rattle.grid_base.specs.Lists.{At}
 use Rattle.grid_graph.proofs.Grounds.{first_cause, at_place, joined_so_far, AreGroundsSoFar-push, AreGrounds-from_so_far}
 use Rattle.grid_graph.proofs.design.Design.grounds.Goals as goal
 
-pub ground_by-requires-clause-by_open : goal.ground_by-requires-clause-by_open
-ground_by-requires-clause-by_open c = rw c.as_slice.ensures.value c.in_ok-by_open.ensures
-
-pub ground_by-requires-clause-by_choked : goal.ground_by-requires-clause-by_choked
-ground_by-requires-clause-by_choked c = rw c.as_slice-in-loop-net.ensures.value c.in_ok-by_choked.ensures
-
 pub returns-in_err-ground_by-clause-cause : goal.returns-in_err-ground_by-clause-cause
 returns-in_err-ground_by-clause-cause c =
     let d = c.args.self.now in
