@@ -13,6 +13,7 @@ pub mod Least
 pub mod Limits
 pub mod PieceLists
 pub mod Prices
+pub mod Resting
 pub mod TilePrices
 pub mod Vectors
 pub mod Weighings

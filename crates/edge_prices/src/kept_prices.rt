@@ -17,13 +17,13 @@ use grid_graph::{Grid, Ground};
 /// A change of one load changes one price, unless the greatest index changes: then all prices are stale until `renew`.
 #[derive(Drop)]
 pub struct KeptPrices<'a> {
-    resources: Resources<'a>,
-    loads: Vec<u64>,
-    prices: Vec<u32>,
-    top: u128,
-    least: LeastPrices,
-    tile_prices: Vec<u32>,
-    stale: bool,
+    pub(crate) resources: Resources<'a>,
+    pub(crate) loads: Vec<u64>,
+    pub(crate) prices: Vec<u32>,
+    pub(crate) top: u128,
+    pub(crate) least: LeastPrices,
+    pub(crate) tile_prices: Vec<u32>,
+    pub(crate) stale: bool,
     pub ghost kept: { IsKept resources.grid.now loads.items resources.scale resources.budget prices.items top least tile_prices.items stale },
 }
 

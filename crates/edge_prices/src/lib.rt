@@ -30,6 +30,7 @@ mod price_lists;
 mod price_table;
 mod price_vector;
 mod resources;
+mod resting_prices;
 mod tile_prices;
 mod weighing;
 
@@ -41,4 +42,5 @@ pub use limits::{LAST_INDEX, MAX_BUDGET, MAX_LOAD, MAX_PRICE, MAX_SCALE};
 pub use price::{price_at, price_from};
 pub use price_lists::are_edge_prices;
 pub use price_vector::prices;
+pub use resting_prices::RestingPrices;
 pub use weighing::Weighing;

@@ -27,6 +27,7 @@ mod reading;
 mod taking;
 mod worker;
 
+pub use loads::{forget_tree, notice_tree};
 pub use net_route::{prices_without_loads, route_net};
 pub use routing_stages::{Chosen, Gate, OpenGate, Routed, Settings, Shared};
 pub use taking::take_load;

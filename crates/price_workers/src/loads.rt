@@ -6,7 +6,7 @@ ghost use Rattle.grid_graph.specs.Limits.{max_load};
 ghost use Rattle.grid_graph.specs.Grids.{entries, size_of, IsNetWidth};
 ghost use Rattle.load_core.specs.Parties.{added, share_at};
 ghost use Rattle.load_table.specs.Holdings.{held, IsShare};
-ghost use Rattle.tree_set.specs.Loads.{net_load, tree_load};
+ghost use Rattle.tree_set.specs.Loads.{net_load, tree_load, max_tree_load};
 ghost use Rattle.tree_set.specs.Routings.{ArePieces};
 ghost use Rattle.price_workers.specs.Readings.{AreCloseTo};
 ghost use Rattle.price_workers.specs.TreeLoads.{GainsTree, without_tree, DiffersInShares, HasRoomForSet, HoldsTree};
@@ -105,8 +105,38 @@ fn put_edges(
     }
 }
 
+/// Puts the load of a net of this width by its set on loads that no share has.
+pub fn notice_tree(kept: &mut KeptPrices<'_>, grid: &Grid, width: u32, tree: &Tree)
+    requires grid { grid_of kept.old ≡ grid.now }
+    requires width { IsNetWidth grid.now width }
+    requires pieces { ArePieces (size_of grid.now) tree.now }
+    requires room { (r : ℕ) → slice_index (loads_of kept.old) r + max_tree_load ≤ max_load }
+    ensures seen { GainsTree grid.now width tree.now (loads_of kept.old) (loads_of kept.new) }
+    ensures setting { KeepsSetting kept.old kept.new }
+{
+    notice_edges(kept, grid, width, tree);
+    let wirelength = 2 * grid.size().vertices();
+    lift(kept, wirelength, tree.pieces().len() as u64);
+}
+
+/// Puts what a net of this width uses of each edge of its set on loads that no share has.
+fn notice_edges(kept: &mut KeptPrices<'_>, grid: &Grid, width: u32, tree: &Tree)
+    requires grid { grid_of kept.old ≡ grid.now }
+    requires width { IsNetWidth grid.now width }
+    requires pieces { ArePieces (size_of grid.now) tree.now }
+    requires room { (r : ℕ) → slice_index (loads_of kept.old) r + max_tree_load ≤ max_load }
+    ensures seen { (e : ℕ) → slice_index (loads_of kept.new) e ≡ slice_index (loads_of kept.old) e + net_load grid.now width tree.now e }
+    ensures setting { KeepsSetting kept.old kept.new }
+{
+    for p in tree.pieces() {
+        if let Piece::Edge(e) = *p {
+            lift(kept, e.0, u64::from(grid.demand(width, e)));
+        }
+    }
+}
+
 /// Takes the load of a net of this width by its set from the seen loads.
-fn forget_tree(kept: &mut KeptPrices<'_>, grid: &Grid, width: u32, tree: &Tree)
+pub fn forget_tree(kept: &mut KeptPrices<'_>, grid: &Grid, width: u32, tree: &Tree)
     requires grid { grid_of kept.old ≡ grid.now }
     requires width { IsNetWidth grid.now width }
     requires pieces { ArePieces (size_of grid.now) tree.now }
@@ -148,6 +178,16 @@ fn raise(share: &mut Share, kept: &mut KeptPrices<'_>, table: &LoadTable, entry:
     ensures setting { KeepsSetting kept.old kept.new }
 {
     share.add(table, entry, amount);
+    lift(kept, entry, amount);
+}
+
+/// One entry of the seen loads rises.
+fn lift(kept: &mut KeptPrices<'_>, entry: u32, amount: u64)
+    requires entry { entry < entries (grid_of kept.old) }
+    requires load { slice_index (loads_of kept.old) entry + amount ≤ max_load }
+    ensures seen { loads_of kept.new ≡ slice_set (loads_of kept.old) entry (slice_index (loads_of kept.old) entry + amount) }
+    ensures setting { KeepsSetting kept.old kept.new }
+{
     let load = kept.load(entry);
     kept.set_load(entry, load + amount);
 }
