@@ -12,3 +12,4 @@ pub mod TileLists
 pub mod TileSteps
 pub mod TileWalks
 pub mod Weighed
+pub mod WithoutRepeats

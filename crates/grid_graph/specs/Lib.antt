@@ -16,6 +16,7 @@ pub mod GroundComponents
 pub mod Layouts
 pub mod Limits
 pub mod Nets
+pub mod Terms
 pub mod TilePieces
 pub mod Tiles
 pub mod Weighed

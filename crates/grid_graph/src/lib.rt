@@ -52,7 +52,7 @@ pub use limits::{MAX_CAPACITY, MAX_DEMAND, MAX_NETS, MAX_NUMBER, MAX_PINS, MAX_W
 pub use name::Name;
 pub use net_spec::NetSpec;
 pub use nets::{DifferentIds, Nets};
-pub use terms::{Distinct, Terms};
+pub use terms::{Distinct, Terms, terms_of};
 pub use tiles::{tile_index, written_position};
 pub use unreachable_net::UnreachableNet;
 pub use weights::Weights;

@@ -1,6 +1,5 @@
 pub mod AdjustSteps
 pub mod Alike
-pub mod Distinct
 pub mod Limits
 pub mod NetNames
 pub mod NetSteps

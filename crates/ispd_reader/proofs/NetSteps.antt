@@ -18,7 +18,7 @@ use Rattle.ispd_reader.specs.declared.input_error.InputError.{InputError}
 use Rattle.text_scan.proofs.Parts.{with_parts, with_parts-one, Refuses-with}
 use Rattle.ispd_reader.specs.Parsing.{Reading, InputRead, ◌>>=◌, Refuses, refusal_in}
 use Rattle.ispd_reader.specs.Header.{Header}
-use Rattle.ispd_reader.specs.Nets.{Net, without_repeats, net_at, more_nets_at}
+use Rattle.ispd_reader.specs.Nets.{Net, net_at, more_nets_at}
 use Rattle.ispd_reader.specs.Views.{net_of, nets_of}
 
 -- one more net was read
@@ -51,16 +51,6 @@ nets_done header before pins taken count i r total le so_far =
     let k : count - i ≡ 0 = omega arith in
     let none : more_nets_at header taken pins (count - i) r ≡ Ok ([], r) = rw k refl in
     sym so_far ∙ ap (with_parts before) none ∙ ap (λ (nets : List Net). Ok (nets, r)) (append-nil before)
-
--- there are no more terminals than pins
-pub length-without_repeats : (xs : List ℕ) → length (without_repeats xs) ≤ length xs
-length-without_repeats [] = le_refl 0
-length-without_repeats (x ∷ xs) = omega (arith, length-without_repeats xs, length-filter (λ w. not (w == x)) (without_repeats xs), count_by-le-length (λ w. not (w == x)) (without_repeats xs))
-
--- and each is at a pin
-pub All-without_repeats : (P : ℕ → Type 0) (xs : List ℕ) → All P xs → All P (without_repeats xs)
-All-without_repeats P [] h = All-nil P
-All-without_repeats P (x ∷ xs) h = All-cons P x _ (All-head P x xs h) (All-filter (λ w. not (w == x)) P (without_repeats xs) (All-without_repeats P xs (All-tail P x xs h)))
 
 -- a net of these has the id
 abbrev has_id : List Net → ℕ → Bool

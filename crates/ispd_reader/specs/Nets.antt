@@ -1,6 +1,7 @@
 -- The nets and their pins.
-use Rattle.std.specs.Prelude.{ℕ, zero, suc, Bool, false, not, ◌+◌, ◌-◌, ◌*◌, ◌==◌, ◌||◌, max, List, [], ◌∷◌, fold, filter, if◌then◌else◌, ℤ, Option, Ok, Err}
+use Rattle.std.specs.Prelude.{ℕ, zero, suc, Bool, false, ◌+◌, ◌-◌, ◌*◌, ◌==◌, ◌||◌, max, List, [], ◌∷◌, fold, if◌then◌else◌, ℤ, Option, Ok, Err}
 use Rattle.grid_graph.specs.Limits.{max_demand, max_id, max_nets, max_pins}
+pub use Rattle.grid_graph.specs.Terms.{without_repeats}
 use Rattle.grid_graph.specs.Tiles.{tile_index}
 use Rattle.ispd_reader.specs.declared.input_fault.InputFault.TheVariants.{Range, WidthLimit, DuplicateId, PinOutside, PinLayer}
 use Rattle.ispd_reader.specs.declared.wanted.Wanted.TheVariants as wanted
@@ -19,11 +20,6 @@ pub record Net : Type 0 where
 -- the vertex at this column, row and layer
 abbrev pub vertex_at : Extent → ℕ → ℕ → ℕ → ℕ
 vertex_at e col row layer = (layer * e.rows + row) * e.cols + col
-
--- the vertices without repeats, in the order in which they come first
-abbrev pub without_repeats : List ℕ → List ℕ
-without_repeats [] = []
-without_repeats (v ∷ vs) = v ∷ filter (λ w. not (w == v)) (without_repeats vs)
 
 -- the greatest of the layers' spacings
 abbrev pub widest_spacing : List ℕ → ℕ

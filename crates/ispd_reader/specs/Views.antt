@@ -1,10 +1,10 @@
 -- What the values of the program are in the words of the format.
-use Rattle.std.specs.Prelude.{ℕ, List, map}
+use Rattle.std.specs.Prelude.{List, map}
 use Rattle.grid_base.specs.declared.size.Size.{Size}
-use Rattle.grid_base.specs.declared.vertex.Vertex.{Vertex}
 use Rattle.grid_base.specs.Numbers.{cols, rows, layers}
 use Rattle.grid_graph.specs.declared.net_spec.NetSpec.{NetSpec}
 use Rattle.grid_graph.specs.Layouts.{Layout}
+pub use Rattle.grid_graph.specs.Terms.{numbers}
 use Rattle.ispd_reader.specs.Header.{Extent, Header}
 use Rattle.ispd_reader.specs.Nets.{Net}
 
@@ -15,10 +15,6 @@ extent_of_size s = record { cols = cols s; rows = rows s; layers = layers s }
 -- a layout, with its size by numbers
 abbrev pub header_of : Layout → Header
 header_of y = record { extent = extent_of_size y.size; vertical = y.vertical; horizontal = y.horizontal; widths = y.widths; spacings = y.spacings; origin = y.origin; tile = y.tile }
-
--- the numbers of vertices
-abbrev pub numbers : List Vertex → List ℕ
-numbers vertices = map (λ v. v.0) vertices
 
 -- a net, with its terminals by number
 abbrev pub net_of : NetSpec → Net

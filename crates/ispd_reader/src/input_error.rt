@@ -60,6 +60,14 @@ impl<T: Drop> From<AllocFailed<T>> for InputError {
     }
 }
 
+impl From<grid_base::NoMemory> for InputError {
+    ghost from_gives = { λ _ e. e ≡ NoMemory };
+
+    fn from(_: grid_base::NoMemory) -> InputError {
+        InputError::NoMemory
+    }
+}
+
 impl From<GridRefusal> for InputError {
     ghost from_gives = { λ _ e. e ≡ NoMemory };
 

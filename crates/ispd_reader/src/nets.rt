@@ -13,10 +13,10 @@ ghost use Rattle.ispd_reader.specs.Views.{header_of, net_of, nets_of};
 use crate::fields::count;
 use crate::input_error::InputError;
 use crate::input_fault::InputFault;
-use crate::pins::{pins, terminals};
+use crate::pins::pins;
 use crate::tokens::{name, number, word};
 use crate::wanted::Wanted;
-use grid_graph::{Grid, MAX_DEMAND, MAX_NETS, MAX_PINS, Name, NetSpec, Nets};
+use grid_graph::{Grid, MAX_DEMAND, MAX_NETS, MAX_PINS, Name, NetSpec, Nets, terms_of};
 use std::alloc::Global;
 use std::collections::BTreeSet;
 use text_scan::Scanner;
@@ -87,7 +87,7 @@ fn net(
     let width = net_width(scanner, grid)?;
     let pins = pins(alloc, scanner, grid, id, count)?;
     let name = Name::of(Vec::from_slice(alloc, name)?);
-    let terminals = terminals(alloc, &pins)?;
+    let terminals = terms_of(alloc, &pins)?;
     let net = NetSpec {
         id,
         name,

@@ -1,21 +1,19 @@
-//! The pins of a net, and its terminals.
+//! The pins of a net.
 
-ghost use Rattle.std.specs.Prelude.{◌≡◌, ◌<◌, IfOk, IfErr, IfSome, All, length};
+ghost use Rattle.std.specs.Prelude.{◌≡◌, ◌<◌, IfOk, IfSome, All, length};
 ghost use Rattle.grid_base.specs.Numbers.{cols, rows, IsVertex, vertices};
 ghost use Rattle.grid_graph.specs.Grids.{size_of, layout_of};
 ghost use Rattle.grid_graph.specs.Layouts.{IsPosition};
-ghost use Rattle.grid_graph.specs.Lists.{HasNoRepeats};
 ghost use Rattle.ispd_reader.specs.Parsing.{IsReadAs, refusal_in};
-ghost use Rattle.ispd_reader.specs.Nets.{tile_along, pin_at, pins_at, without_repeats};
+ghost use Rattle.ispd_reader.specs.Nets.{tile_along, pin_at, pins_at};
 ghost use Rattle.ispd_reader.specs.Views.{header_of, numbers};
 
 use crate::input_error::InputError;
 use crate::input_fault::InputFault;
 use crate::tokens::number;
 use grid_base::{Place, Vertex};
-use grid_graph::{Grid, Terms, tile_index};
+use grid_graph::{Grid, tile_index};
 use std::alloc::Global;
-use std::collections::BTreeSet;
 use text_scan::{Number, Scanner};
 
 /// The column of a position, where it is inside the grid.
@@ -82,20 +80,4 @@ pub fn pins(
         pins.push(pin(scanner, grid, id, index)?)?;
     }
     Ok(pins)
-}
-
-/// The vertices of the pins without repeats, in the order of the first pins.
-pub fn terminals(alloc: Global, pins: &[Vertex]) -> Result<Terms, InputError>
-    ensures terminals { IfOk result (λ t. numbers t ≡ without_repeats (numbers pins.now)) }
-    ensures distinct { IfOk result (λ t. HasNoRepeats t) }
-    ensures memory { IfErr result (λ e. e ≡ InputError.NoMemory) }
-{
-    let mut seen = BTreeSet::new(alloc);
-    let mut vertices = Vec::new(alloc);
-    for pin in pins {
-        if seen.insert(pin.0)? {
-            vertices.push(*pin)?;
-        }
-    }
-    Ok(Terms::of(vertices))
 }

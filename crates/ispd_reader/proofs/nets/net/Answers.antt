@@ -7,7 +7,7 @@ use Rattle.grid_base.proofs.SameNumbers.{All-at}
 use Rattle.grid_graph.specs.Grids.{size_of}
 use Rattle.ispd_reader.specs.Nets.{without_repeats}
 use Rattle.ispd_reader.specs.Views.{numbers}
-use Rattle.ispd_reader.proofs.NetSteps.{All-without_repeats, length-without_repeats}
+use Rattle.grid_graph.proofs.WithoutRepeats.{All-without_repeats, length-without_repeats}
 use Rattle.ispd_reader.proofs.nets.net.Goals as goal
 
 pub returns-clause-fits : goal.returns-clause-fits

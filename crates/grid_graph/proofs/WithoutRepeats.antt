@@ -1,20 +1,20 @@
 -- Lists without repeats.
-use Rattle.std.proofs.Common.{◌≡◌, ◌≢◌, ℕ, ◌+◌, ◌<◌, Bool, true, false, cond, not, ◌||◌, ◌==◌, List, [], ◌∷◌, ◌++◌, length, Some, refl, sym, ap, ◌∙◌, ⊎_elim, eq-eqb, ne_eqb, eqb-true, take, get_or}
-use Rattle.std.specs.List.{list_any}
+use Rattle.std.proofs.Common.{◌≡◌, ◌≢◌, ℕ, ◌+◌, ◌<◌, ◌≤◌, le_refl, arith, Bool, true, false, cond, not, ◌||◌, ◌==◌, List, [], ◌∷◌, ◌++◌, length, Some, refl, sym, ap, ◌∙◌, ⊎_elim, eq-eqb, ne_eqb, eqb-true, take, get_or}
+use Rattle.std.specs.List.{list_any, All}
 use Rattle.std.proofs.lemmas.Bool.{cases_Bool, cases_eq, false≢true}
 use Rattle.std.proofs.lemmas.List.{append-nil, map_more, map_push}
-use Rattle.std.proofs.lemmas.List.Elements.{filter-append}
+use Rattle.std.proofs.lemmas.List.Elements.{filter-append, All-nil, All-cons, All-head, All-tail, All-filter}
+use Rattle.std.proofs.lemmas.List.Sums.{length-filter, count_by-le-length}
 use Rattle.std.proofs.lemmas.Map.Views.{any-filter_same}
 use Rattle.std.specs.Cmp.{unsigned_tied}
 use Rattle.std.specs.Option.{option_map}
 use Rattle.std.specs.Ordering.{nat_cmp, eq_by_cmp}
 use Rattle.grid_base.specs.declared.vertex.Vertex.{Vertex}
-use Rattle.ispd_reader.specs.Views.{numbers}
 use Rattle.std.proofs.lemmas.Option.{slice_get-map}
 use Rattle.grid_base.proofs.Lists.{list_any-pushed, not_at}
 use Rattle.grid_base.proofs.NoRepeats.{HasNoRepeats-push}
-use Rattle.grid_graph.specs.Lists.{At, HasNoRepeats}
-use Rattle.ispd_reader.specs.Nets.{without_repeats}
+use Rattle.grid_base.specs.Lists.{At, HasNoRepeats}
+use Rattle.grid_graph.specs.Terms.{numbers, without_repeats}
 
 -- one more vertex
 pub without_repeats-push : (xs : List ℕ) (v : ℕ) → without_repeats (xs ++ v ∷ []) ≡ cond (list_any (λ w. w == v) xs) (without_repeats xs) (without_repeats xs ++ v ∷ [])
@@ -93,3 +93,13 @@ terminal_known pins i old new vertices v lt is so_far known more =
           (cases_eq v.0 q)) ∙ so_far.has q;
       distinct = so_far.distinct;
     }
+
+-- there are no more terminals than pins
+pub length-without_repeats : (xs : List ℕ) → length (without_repeats xs) ≤ length xs
+length-without_repeats [] = le_refl 0
+length-without_repeats (x ∷ xs) = omega (arith, length-without_repeats xs, length-filter (λ w. not (w == x)) (without_repeats xs), count_by-le-length (λ w. not (w == x)) (without_repeats xs))
+
+-- and each is at a pin
+pub All-without_repeats : (P : ℕ → Type 0) (xs : List ℕ) → All P xs → All P (without_repeats xs)
+All-without_repeats P [] h = All-nil P
+All-without_repeats P (x ∷ xs) h = All-cons P x _ (All-head P x xs h) (All-filter (λ w. not (w == x)) P (without_repeats xs) (All-without_repeats P xs (All-tail P x xs h)))
