@@ -8,8 +8,12 @@ use Rattle.std.proofs.lemmas.List.{get_or_default}
 use Rattle.std.proofs.lemmas.List.Sorted.{searched}
 use Rattle.std.proofs.lemmas.Map.Keys.{sorted_from_strictly_increasing, below_from_sorted}
 
--- no later number of a rising list is less
-rising_far : (xs : List ℕ) → IsStrictlyIncreasing xs → (i j : ℕ) → i ≤ j → j < length xs → get_or xs i 0 ≤ get_or xs j 0
+-- a later number of a rising list is greater
+pub rises : (xs : List ℕ) (i j : ℕ) → IsStrictlyIncreasing xs → i < j → j < length xs → get_or xs i 0 < get_or xs j 0
+rises xs i j up before within = below_from_sorted xs i j 0 (sorted_from_strictly_increasing xs up) before within
+
+-- no later number is less
+pub rising_far : (xs : List ℕ) → IsStrictlyIncreasing xs → (i j : ℕ) → i ≤ j → j < length xs → get_or xs i 0 ≤ get_or xs j 0
 rising_far xs up i j before within = ⊎_elim
     (λ (less : i < j). omega (arith, below_from_sorted xs i j 0 (sorted_from_strictly_increasing xs up) less within))
     (λ (other : j ≤ i). let same : i ≡ j = omega arith in rw same (omega arith))

@@ -1,5 +1,6 @@
 pub mod BorderOrder
 pub mod EndLists
+pub mod Following
 pub mod Found
 pub mod Same
 pub mod Runs

@@ -55,17 +55,18 @@ fn rect_on(tiles: &Tiles, layer: u32, row: u32, first_col: u32, last_col: u32) -
     })
 }
 
-/// The rectangle whose lower-left tile this is, if there is one.
-fn rect_at(tiles: &Tiles, tile: u32) -> Option<TileRect>
-    requires vertex { tile < vertices tiles.now.size }
-    requires listed { Contains tiles.now.numbers.items tile }
-    ensures { MatchOption result ((rect : TileRect) → corner tiles.now.size rect ≡ tile → ¬ IsTileRect tiles.now.size tiles.now.numbers.items rect) (λ rect. IsTileRect tiles.now.size tiles.now.numbers.items rect × (corner tiles.now.size rect ≡ tile)) }
+/// The rectangle whose lower-left tile stands at this place of the list, if there is one.
+fn rect_at(tiles: &Tiles, at: usize) -> Option<TileRect>
+    requires within { at < length tiles.now.numbers.items }
+    requires vertices { All (IsVertex tiles.now.size) tiles.now.numbers.items }
+    ensures { MatchOption result ((rect : TileRect) → corner tiles.now.size rect ≡ slice_index tiles.now.numbers.items at → ¬ IsTileRect tiles.now.size tiles.now.numbers.items rect) (λ rect. IsTileRect tiles.now.size tiles.now.numbers.items rect × (corner tiles.now.size rect ≡ slice_index tiles.now.numbers.items at)) }
 {
-    let place = tiles.size.place_of(Vertex(tile));
-    match tiles.run_from(place.layer, place.row, place.col) {
-        None => None,
-        Some(last_col) => rect_on(tiles, place.layer, place.row, place.col, last_col),
+    if tiles.is_inner(at) {
+        return None;
     }
+    let place = tiles.size.place_of(Vertex(tiles.list()[at]));
+    let last_col = tiles.run_end(at, place);
+    rect_on(tiles, place.layer, place.row, place.col, last_col)
 }
 
 /// Puts the rectangle whose lower-left tile stands at this place of the list behind those of earlier tiles, if there is one.
@@ -75,7 +76,7 @@ fn add_rect(tiles: &Tiles, place: usize, rects: &mut Vec<TileRect>) -> Result<()
     requires first { AreFirstRects tiles.now.size tiles.now.numbers.items place rects.old.items }
     ensures { OnOk result (AreFirstRects tiles.now.size tiles.now.numbers.items (place + 1) rects.new.items) }
 {
-    match rect_at(tiles, tiles.list()[place]) {
+    match rect_at(tiles, place) {
         None => Ok(()),
         Some(rect) => Ok(rects.push(rect)?),
     }

@@ -16,10 +16,11 @@ pub(crate) struct Tiles {
 }
 
 impl Tiles {
-    ghost use Rattle.std.specs.Prelude.{ℕ, ◌≡◌, ◌↔◌, ◌+◌, ◌≤◌, ◌<◌, Contains, IfOk, MatchOption, IsTrue};
+    ghost use Rattle.std.specs.Prelude.{ℕ, ◌≡◌, ◌↔◌, ◌+◌, ◌≤◌, ◌<◌, All, Contains, IfOk, IsTrue, length, slice_index};
     ghost use Rattle.grid_base.specs.Limits.{max_vertices};
     ghost use Rattle.tree_set.specs.Routings.{ArePieces};
-    ghost use Rattle.guide_text.specs.RouteTiles.{route_tiles, HasTile};
+    ghost use Rattle.grid_base.specs.Numbers.{place_at, IsVertex};
+    ghost use Rattle.guide_text.specs.RouteTiles.{route_tiles, HasTile, HasTileBefore, HasTileBehind};
     ghost use Rattle.guide_text.specs.TileRects.{IsTileRun};
 
     /// The tiles of a route: the ends of its pieces, and the terminals.
@@ -82,38 +83,54 @@ impl Tiles {
         requires last { last ≤ max_vertices }
         ensures { IsTrue result ↔ IsTileRun self.now.size self.now.numbers.items layer row first last }
     {
+        if !self.has_all(layer, row, first, last) {
+            return false;
+        }
         if self.has_before(layer, row, first) {
             return false;
         }
-        if self.has(layer, row, last + 1) {
-            return false;
-        }
-        self.has_all(layer, row, first, last)
+        !self.has(layer, row, last + 1)
     }
 
-    /// The last column up to which the tiles of a row are there without a gap.
-    fn run_end(&self, layer: u32, row: u32, first: u32) -> u32
-        requires { HasTile self.now.size self.now.numbers.items layer row first }
-        ensures order { first ≤ result }
-        ensures each { (col : ℕ) → first ≤ col → col ≤ result → HasTile self.now.size self.now.numbers.items layer row col }
-        ensures behind { ¬ HasTile self.now.size self.now.numbers.items layer row (result + 1) }
+    /// Whether the tile behind the one at this place of the list is there, in the same row.
+    fn is_followed(&self, at: usize) -> bool
+        requires within { at < length self.now.numbers.items }
+        requires vertices { All (IsVertex self.now.size) self.now.numbers.items }
+        ensures { IsTrue result ↔ HasTileBehind self.now.size self.now.numbers.items (place_at self.now.size (slice_index self.now.numbers.items at)) }
     {
-        let mut last = first;
-        while self.has(layer, row, last + 1) {
+        if at + 1 == self.numbers.len() {
+            return false;
+        }
+        let next = self.numbers[at + 1];
+        next - self.numbers[at] == 1 && next % self.size.cols() != 0
+    }
+
+    /// Whether the tile before the one at this place of the list is there, in the same row.
+    pub fn is_inner(&self, at: usize) -> bool
+        requires within { at < length self.now.numbers.items }
+        requires vertices { All (IsVertex self.now.size) self.now.numbers.items }
+        ensures { IsTrue result ↔ HasTileBefore self.now.size self.now.numbers.items (place_at self.now.size (slice_index self.now.numbers.items at)) }
+    {
+        at > 0 && self.is_followed(at - 1)
+    }
+
+    /// The last column up to which the tiles of a row are there without a gap, from the tile at this place of the list, which is
+    /// the tile `from`.
+    pub fn run_end(&self, at: usize, from: Place) -> u32
+        requires within { at < length self.now.numbers.items }
+        requires vertices { All (IsVertex self.now.size) self.now.numbers.items }
+        requires from { from ≡ place_at self.now.size (slice_index self.now.numbers.items at) }
+        ensures order { from.col ≤ result }
+        ensures each { (col : ℕ) → from.col ≤ col → col ≤ result → HasTile self.now.size self.now.numbers.items from.layer from.row col }
+        ensures behind { ¬ HasTile self.now.size self.now.numbers.items from.layer from.row (result + 1) }
+    {
+        let mut last = from.col;
+        let mut place = at;
+        while self.is_followed(place) {
             last += 1;
+            place += 1;
         }
         last
-    }
-
-    /// The last column of the run that begins at a tile, if one does.
-    pub fn run_from(&self, layer: u32, row: u32, first: u32) -> Option<u32>
-        requires { HasTile self.now.size self.now.numbers.items layer row first }
-        ensures { MatchOption result ((last : ℕ) → ¬ IsTileRun self.now.size self.now.numbers.items layer row first last) (λ last. IsTileRun self.now.size self.now.numbers.items layer row first last) }
-    {
-        if self.has_before(layer, row, first) {
-            return None;
-        }
-        Some(self.run_end(layer, row, first))
     }
 
     /// The numbers of the tiles.
