@@ -1,13 +1,11 @@
-use Rattle.std.proofs.Common.{◌≡◌, ◌∙◌, ℕ, ap, subst, get_or}
+use Rattle.std.proofs.Common.{◌∙◌, ap, subst, get_or}
 use Rattle.std.specs.Prelude.{MatchOption}
-use Rattle.std.proofs.lemmas.List.Elements.{Contains-get_or}
 use Rattle.grid_base.specs.declared.place.Place.{Place}
 use Rattle.grid_base.specs.Numbers.{place_at}
 use Rattle.guide_text.proofs.FirstRects.{rect_at_place}
-use Rattle.guide_text.proofs.Runs.{no_run_no_rect, not_both}
-use Rattle.guide_text.specs.RouteTiles.{HasTileBefore}
+use Rattle.guide_text.proofs.Runs.{no_run_no_rect}
 use Rattle.guide_text.specs.declared.tile_rect.TileRect.{TileRect}
-use Rattle.guide_text.specs.TileRects.{IsTileRun, IsTileRect, StandsOn}
+use Rattle.guide_text.specs.TileRects.{IsTileRect, StandsOn}
 use Rattle.guide_text.proofs.tile_rects.rect_at.Goals as goal
 
 pub returns-then-is_inner : goal.returns-then-is_inner

@@ -1,8 +1,8 @@
-use Rattle.std.proofs.Common.{◌≡◌, ◌+◌, ◌-◌, ◌<◌, ℕ, List, length, true, false, sym, ap, subst, refl, ◌∙◌, get_or, arith}
+use Rattle.std.proofs.Common.{◌≡◌, ◌+◌, ◌-◌, ◌<◌, length, sym, ap, subst, ◌∙◌, get_or, arith}
 use Rattle.std.proofs.lemmas.Bool.{ltb-true}
 use Rattle.std.proofs.lemmas.List.Elements.{Contains-get_or}
 use Rattle.grid_base.specs.Numbers.{place_at}
-use Rattle.guide_text.specs.RouteTiles.{HasTileBefore, HasTileBehind}
+use Rattle.guide_text.specs.RouteTiles.{HasTileBehind}
 use Rattle.guide_text.proofs.Following.{next_listed, is_next_listed, before_next, prior_followed}
 use Rattle.guide_text.proofs.tiles.Tiles.is_inner.Goals as goal
 

@@ -1,11 +1,11 @@
-use Rattle.std.proofs.Common.{◌≡◌, ◌≤◌, ◌<◌, ℕ, ◌+◌, List, length, sym, ap, subst, refl, ◌∙◌, get_or, arith}
+use Rattle.std.proofs.Common.{◌≡◌, ◌≤◌, ℕ, ◌+◌, sym, ap, subst, ◌∙◌, get_or, arith}
 use Rattle.std.proofs.lemmas.List.Elements.{Contains-get_or}
 use Rattle.grid_base.specs.declared.place.Place.{Place}
 use Rattle.grid_base.specs.Numbers.{cols, place_at, col_of, row_of, layer_of}
 use Rattle.grid_base.proofs.Extents.{cols_within}
 use Rattle.guide_text.specs.RouteTiles.{HasTile, HasTileBehind}
 use Rattle.guide_text.proofs.Following.{next_listed, is_next_listed, place_behind}
-use Rattle.guide_text.proofs.Runs.{one_further, one_alone, not_both, tile_at_place, col_limit}
+use Rattle.guide_text.proofs.Runs.{one_further, one_alone, not_both, tile_at_place}
 use Rattle.guide_text.proofs.tiles.Tiles.run_end.Goals.{Start, After-is_followed}
 use Rattle.guide_text.proofs.tiles.Tiles.run_end.Goals as goal
 

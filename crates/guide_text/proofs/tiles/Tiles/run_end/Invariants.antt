@@ -1,5 +1,5 @@
 use Rattle.std.proofs.Common.{◌≡◌, ℕ, ◌≤◌, ◌<◌, ◌-◌, length, get_or}
-use Rattle.grid_base.specs.Numbers.{cols, col_of, row_of, layer_of, place_at}
+use Rattle.grid_base.specs.Numbers.{col_of, row_of, layer_of, place_at}
 use Rattle.guide_text.specs.RouteTiles.{HasTile}
 use Rattle.guide_text.proofs.tiles.Tiles.run_end.Given as goal
 
