@@ -1,11 +1,16 @@
--- A binary search in a rising list of numbers finds exactly what is in it.
-use Rattle.std.proofs.Common.{◌≡◌, ℕ, ◌<◌, ◌≤◌, List, length, get_or, Contains, true, false, refl, ◌∙◌, Ok, Err, arith, ⊎_elim}
-use Rattle.std.specs.Prelude.{Result, is_ok, ◌↔◌, MatchResult}
+-- A binary search in the rising list of tiles finds exactly what is in it.
+use Rattle.std.proofs.Common.{◌≡◌, ℕ, ◌<◌, ◌≤◌, List, length, get_or, Contains, sym, ap, subst, ◌∙◌, Ok, Err, arith, ⊎_elim}
+use Rattle.std.specs.Prelude.{Result, MatchOption, MatchResult}
+use Rattle.std.specs.Result.{result_ok}
 use Rattle.std.specs.List.Sorted.{IsStrictlyIncreasing, IsBinarySearchResult}
 use Rattle.std.specs.Ordering.{nat_cmp}
 use Rattle.std.proofs.lemmas.Bool.{cases_lt}
 use Rattle.std.proofs.lemmas.List.{get_or_default}
 use Rattle.std.proofs.lemmas.List.Sorted.{searched}
+use Rattle.grid_base.specs.declared.place.Place.{Place}
+use Rattle.grid_base.specs.declared.size.Size.{Size}
+use Rattle.grid_base.specs.Numbers.{vertex_number, place_at}
+use Rattle.guide_text.specs.RouteTiles.{HasTile}
 use Rattle.std.proofs.lemmas.Map.Keys.{sorted_from_strictly_increasing, below_from_sorted}
 
 -- a later number of a rising list is greater
@@ -19,15 +24,17 @@ rising_far xs up i j before within = ⊎_elim
     (λ (other : j ≤ i). let same : i ≡ j = omega arith in rw same (omega arith))
     (cases_lt i j)
 
-found_or_not : (xs : List ℕ) (x : ℕ) (r : Result ℕ ℕ) → MatchResult r (λ i. (i < length xs) × (get_or xs i 0 ≡ x)) (λ i. (i ≤ length xs) × ((k : ℕ) → k < i → get_or xs k 0 < x) × ((k : ℕ) → i ≤ k → k < length xs → x < get_or xs k 0)) → (is_ok r ≡ true) ↔ Contains xs x
-found_or_not xs x (Ok i) found = (λ _. (i, found.0, get_or_default xs i x 0 found.0 ∙ found.1), λ _. refl)
-found_or_not xs x (Err i) parted = (
-  λ (no : false ≡ true). cc,
-  λ held.
-      let k = held.0 in
-      let at : get_or xs k 0 ≡ x = get_or_default xs k 0 x held.1 ∙ held.2 in
-      ⊎_elim (λ (before : k < i). absurd (omega (arith, at, parted.1 k before))) (λ (behind : i ≤ k). absurd (omega (arith, at, parted.2 k behind held.1))) (cases_lt k i),
-)
+found_or_not : (s : Size) (xs : List ℕ) (from : Place) (x : ℕ) (r : Result ℕ ℕ) → x ≡ vertex_number s from.col from.row from.layer → place_at s x ≡ from
+    → MatchResult r (λ i. (i < length xs) × (get_or xs i 0 ≡ x)) (λ i. (i ≤ length xs) × ((k : ℕ) → k < i → get_or xs k 0 < x) × ((k : ℕ) → i ≤ k → k < length xs → x < get_or xs k 0))
+    → MatchOption (result_ok r) (¬ HasTile s xs from.layer from.row from.col) (λ at. (at < length xs) × (from ≡ place_at s (get_or xs at 0)))
+found_or_not s xs from x (Ok i) number place found = (found.0, sym place ∙ ap (place_at s) (sym found.1))
+found_or_not s xs from x (Err i) number place parted = λ has.
+    let held = subst (Contains xs) (sym number) has.listed in
+    let k = held.0 in
+    let at : get_or xs k 0 ≡ x = get_or_default xs k 0 x held.1 ∙ held.2 in
+    ⊎_elim (λ (before : k < i). absurd (omega (arith, at, parted.1 k before))) (λ (behind : i ≤ k). absurd (omega (arith, at, parted.2 k behind held.1))) (cases_lt k i)
 
-pub found_by_search : (xs : List ℕ) (x : ℕ) (r : Result ℕ ℕ) → IsStrictlyIncreasing xs → IsBinarySearchResult (λ y. nat_cmp y x) xs r → (is_ok r ≡ true) ↔ Contains xs x
-found_by_search xs x r up position = found_or_not xs x r (searched xs x r position (rising_far xs up))
+-- where the tile of a place is found, if it is there
+pub found_by_search : (s : Size) (xs : List ℕ) (from : Place) (x : ℕ) (r : Result ℕ ℕ) → IsStrictlyIncreasing xs → x ≡ vertex_number s from.col from.row from.layer → place_at s x ≡ from
+    → IsBinarySearchResult (λ y. nat_cmp y x) xs r → MatchOption (result_ok r) (¬ HasTile s xs from.layer from.row from.col) (λ at. (at < length xs) × (from ≡ place_at s (get_or xs at 0)))
+found_by_search s xs from x r up number place position = found_or_not s xs from x r number place (searched xs x r position (rising_far xs up))

@@ -8,12 +8,17 @@ use grid_base::{NoMemory, Size, Vertex};
 use std::alloc::Global;
 use tree_set::Tree;
 
-/// The ends of the pieces of a set.
-fn ends_of_all(alloc: Global, size: Size, tree: &Tree) -> Result<Vec<u32>, NoMemory>
+/// The ends of the pieces of a set, with room for so many further numbers.
+fn ends_of_all(alloc: Global, size: Size, tree: &Tree, further: usize) -> Result<Vec<u32>, NoMemory>
     requires { ArePieces size tree.now }
     ensures { IfOk result (λ ends. ends.items ≡ flat_map (ends_of size) tree.now) }
 {
-    let mut ends = Vec::new(alloc);
+    let count = tree
+        .pieces()
+        .len()
+        .saturating_mul(2)
+        .saturating_add(further);
+    let mut ends = Vec::with_capacity(alloc, count)?;
     for piece in tree.pieces() {
         let (start, end) = size.ends_of(*piece);
         ends.push(start.0)?;
@@ -32,7 +37,7 @@ pub(crate) fn listed(
     requires { ArePieces size tree.now }
     ensures { IfOk result (λ tiles. tiles.items ≡ route_tiles size tree.now terminals.now) }
 {
-    let mut tiles = ends_of_all(alloc, size, tree)?;
+    let mut tiles = ends_of_all(alloc, size, tree, terminals.len())?;
     for terminal in terminals {
         tiles.push(terminal.0)?;
     }

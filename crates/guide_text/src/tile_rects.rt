@@ -1,7 +1,6 @@
 //! The rectangles of tiles.
 
 ghost use Rattle.std.specs.Prelude.{ℕ, ◌≡◌, ◌+◌, ◌≤◌, ◌<◌, ◌↔◌, All, Contains, IfOk, OnOk, MatchOption, IsTrue, length, slice_index};
-ghost use Rattle.grid_base.specs.Limits.{max_vertices};
 ghost use Rattle.grid_base.specs.Numbers.{vertices, IsVertex};
 ghost use Rattle.guide_text.specs.declared.tile_rect.TileRect.{TileRect};
 ghost use Rattle.guide_text.specs.RouteTiles.{route_tiles};
@@ -16,8 +15,6 @@ use tree_set::Tree;
 
 /// Whether the row below has a run of these columns.
 fn has_run_below(tiles: &Tiles, layer: u32, row: u32, first_col: u32, last_col: u32) -> bool
-    requires order { first_col ≤ last_col }
-    requires last { last_col ≤ max_vertices }
     ensures { IsTrue result ↔ ((below : ℕ) × (below + 1 ≡ row) × IsTileRun tiles.now.size tiles.now.numbers.items layer below first_col last_col) }
 {
     row > 0 && tiles.is_run(layer, row - 1, first_col, last_col)
@@ -57,8 +54,7 @@ fn rect_on(tiles: &Tiles, layer: u32, row: u32, first_col: u32, last_col: u32) -
 
 /// The rectangle whose lower-left tile stands at this place of the list, if there is one.
 fn rect_at(tiles: &Tiles, at: usize) -> Option<TileRect>
-    requires within { at < length tiles.now.numbers.items }
-    requires vertices { All (IsVertex tiles.now.size) tiles.now.numbers.items }
+    requires { at < length tiles.now.numbers.items }
     ensures { MatchOption result ((rect : TileRect) → corner tiles.now.size rect ≡ slice_index tiles.now.numbers.items at → ¬ IsTileRect tiles.now.size tiles.now.numbers.items rect) (λ rect. IsTileRect tiles.now.size tiles.now.numbers.items rect × (corner tiles.now.size rect ≡ slice_index tiles.now.numbers.items at)) }
 {
     if tiles.is_inner(at) {
@@ -71,7 +67,6 @@ fn rect_at(tiles: &Tiles, at: usize) -> Option<TileRect>
 
 /// Puts the rectangle whose lower-left tile stands at this place of the list behind those of earlier tiles, if there is one.
 fn add_rect(tiles: &Tiles, place: usize, rects: &mut Vec<TileRect>) -> Result<(), NoMemory>
-    requires vertices { All (IsVertex tiles.now.size) tiles.now.numbers.items }
     requires place { place < length tiles.now.numbers.items }
     requires first { AreFirstRects tiles.now.size tiles.now.numbers.items place rects.old.items }
     ensures { OnOk result (AreFirstRects tiles.now.size tiles.now.numbers.items (place + 1) rects.new.items) }
@@ -84,7 +79,6 @@ fn add_rect(tiles: &Tiles, place: usize, rects: &mut Vec<TileRect>) -> Result<()
 
 /// The rectangles of tiles, in order.
 fn rects_of(alloc: Global, tiles: &Tiles) -> Result<Vec<TileRect>, NoMemory>
-    requires { All (IsVertex tiles.now.size) tiles.now.numbers.items }
     ensures { IfOk result (λ rects. AreTileRects tiles.now.size tiles.now.numbers.items rects.items) }
 {
     let mut rects = Vec::new(alloc);

@@ -1,20 +1,12 @@
 use Rattle.std.proofs.Common.{◌+◌, arith}
 use Rattle.guide_text.specs.TileRects.{IsTileRun}
-use Rattle.guide_text.proofs.Runs.{one_further, one_alone, not_both, first_tile, last_tile, col_limit}
+use Rattle.guide_text.proofs.Runs.{one_further, one_alone, not_both, first_tile}
 use Rattle.guide_text.proofs.tile_rects.last_row.Goals as goal
 
 pub loop-row-init : goal.loop-row-init
 loop-row-init c =
     let tiles = c.args.tiles.now in
     record { order = omega arith; each = one_alone (λ r. IsTileRun tiles.size tiles.numbers.items c.args.layer r c.args.first_col c.args.last_col) c.args.first_row c.requires }
-
-pub is_run-requires-clause-order : goal.is_run-requires-clause-order
-is_run-requires-clause-order c = c.requires.order
-
-pub is_run-requires-clause-last : goal.is_run-requires-clause-last
-is_run-requires-clause-last c =
-    let tiles = c.args.tiles.now in
-    omega (arith, col_limit tiles.size tiles.numbers.items c.args.layer c.args.first_row c.args.last_col (last_tile tiles.size tiles.numbers.items c.args.layer c.args.first_row c.args.first_col c.args.last_col c.requires))
 
 pub loop-row-preserved : goal.loop-row-preserved
 loop-row-preserved c =

@@ -1,14 +1,6 @@
-use Rattle.std.proofs.Common.{refl, arith}
-use Rattle.guide_text.proofs.Runs.{not_both, last_tile, col_limit, other_run}
+use Rattle.std.proofs.Common.{refl}
+use Rattle.guide_text.proofs.Runs.{not_both, other_run}
 use Rattle.guide_text.proofs.tile_rects.rect_on.Goals as goal
-
-pub has_run_below-requires-clause-order : goal.has_run_below-requires-clause-order
-has_run_below-requires-clause-order c = c.requires.order
-
-pub has_run_below-requires-clause-last : goal.has_run_below-requires-clause-last
-has_run_below-requires-clause-last c =
-    let tiles = c.args.tiles.now in
-    omega (arith, col_limit tiles.size tiles.numbers.items c.args.layer c.args.row c.args.last_col (last_tile tiles.size tiles.numbers.items c.args.layer c.args.row c.args.first_col c.args.last_col c.requires))
 
 pub returns-then-has_run_below : goal.returns-then-has_run_below
 returns-then-has_run_below c =

@@ -2,14 +2,7 @@ use Rattle.std.proofs.lemmas.Result.{IfOk-weaker}
 use Rattle.guide_text.specs.RouteTiles.{route_tiles}
 use Rattle.guide_text.specs.TileRects.{AreTileRects}
 use Rattle.guide_text.proofs.Same.{rects_of_same}
-use Rattle.guide_text.proofs.Vertices.{tiles_are_vertices, same_are_vertices}
 use Rattle.guide_text.proofs.tile_rects.tile_rects.Goals as goal
-
-pub rects_of-requires : goal.rects_of-requires
-rects_of-requires c =
-    let s = c.args.size in
-    let tiles = c.in_ok-tiles.tiles in
-    rw c.in_ok-tiles.ensures.size (same_are_vertices s tiles.numbers.items (route_tiles s c.args.tree.now c.args.terminals.now) c.in_ok-tiles.ensures.same (tiles_are_vertices s c.args.tree.now c.args.terminals.now c.requires.pieces c.requires.terminals))
 
 pub returns : goal.returns
 returns c =

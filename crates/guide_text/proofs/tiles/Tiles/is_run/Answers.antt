@@ -1,21 +1,37 @@
-use Rattle.std.proofs.Common.{◌≡◌, true, false}
-use Rattle.std.proofs.lemmas.Bool.{not-true, not_from_false, false_from_ne_true}
-use Rattle.guide_text.proofs.Runs.{not_both}
+use Rattle.std.proofs.Common.{◌≡◌, true, false, sym, subst}
+use Rattle.std.proofs.lemmas.Bool.{eqb-true, eq-eqb}
+use Rattle.guide_text.specs.RouteTiles.{HasTileBefore}
+use Rattle.guide_text.specs.TileRects.{IsTileRun}
+use Rattle.guide_text.proofs.Runs.{first_tile, not_both, one_end}
 use Rattle.guide_text.proofs.tiles.Tiles.is_run.Goals as goal
 
-pub returns-then-has_before : goal.returns-then-has_before
-returns-then-has_before c = (
-  λ (no : false ≡ true). absurd (cc no),
-  λ run. let b = c.has_before.ensures.0 c.if-has_before.true in absurd (run.before b.0 b.1 b.2),
-)
+pub returns-in-None : goal.returns-in-None
+returns-in-None c =
+    let tiles = c.args.self.now in (
+      λ (no : false ≡ true). absurd (cc no),
+      λ run. absurd (c.in-None.ensures (first_tile tiles.size tiles.numbers.items c.args.layer c.args.row c.args.first c.args.last run)),
+    )
 
-pub returns : goal.returns
-returns c = (
-  λ none. record {
-    order = c.requires.order;
-    each = c.has_all.ensures.0 c.if-not-has_all.false;
-    before = λ col next has. not_both c.has_before.result (c.has_before.ensures.1 (col, next, has)) c.if-has_before.false;
-    behind = λ has. not_both c.has.result (c.has.ensures.1 has) (not-true c.has.result none);
-  },
-  λ run. not_from_false c.has.result (false_from_ne_true c.has.result (λ has. run.behind (c.has.ensures.0 has))),
-)
+pub returns-then-is_inner : goal.returns-then-is_inner
+returns-then-is_inner c =
+    let tiles = c.args.self.now in (
+      λ (no : false ≡ true). absurd (cc no),
+      λ run.
+          let before = subst (HasTileBefore tiles.size tiles.numbers.items) (sym c.in-Some.ensures.1) (c.is_inner.ensures.0 c.if-is_inner.true) in
+          absurd (run.before before.0 before.1 before.2),
+    )
+
+pub returns-else-is_inner : goal.returns-else-is_inner
+returns-else-is_inner c =
+    let tiles = c.args.self.now in
+    let s = tiles.size in
+    let xs = tiles.numbers.items in
+    let found : IsTileRun s xs c.args.layer c.args.row c.args.first c.run_end.result = record {
+      order = c.run_end.ensures.order;
+      each = c.run_end.ensures.each;
+      before = λ col next has. not_both c.is_inner.result (c.is_inner.ensures.1 (subst (HasTileBefore s xs) c.in-Some.ensures.1 (col, next, has))) c.if-is_inner.false;
+      behind = c.run_end.ensures.behind;
+    } in (
+      λ same. subst (IsTileRun s xs c.args.layer c.args.row c.args.first) (eqb-true c.run_end.result c.args.last same) found,
+      λ run. eq-eqb c.run_end.result c.args.last (one_end s xs c.args.layer c.args.row c.args.first c.run_end.result c.args.last found run),
+    )

@@ -19,7 +19,7 @@ loop-last-init c =
     let xs = tiles.numbers.items in
     let s = tiles.size in
     let v = get_or xs c.args.at 0 in
-    let here = tile_at_place s xs v (c.requires.vertices c.args.at 0 c.requires.within) (Contains-get_or xs c.args.at 0 c.requires.within) in
+    let here = tile_at_place s xs v (tiles.vertices c.args.at 0 c.requires.within) (Contains-get_or xs c.args.at 0 c.requires.within) in
     let col = from_col c in
     record {
       within = c.requires.within;
@@ -33,8 +33,8 @@ behind_last : (c : After-is_followed) → HasTileBehind c.args.self.now.size c.a
     → HasTile c.args.self.now.size c.args.self.now.numbers.items (layer_of c.args.self.now.size (get_or c.args.self.now.numbers.items c.args.at 0)) (row_of c.args.self.now.size (get_or c.args.self.now.numbers.items c.args.at 0)) (c.loop-last.last + 1)
 behind_last c behind = subst (HasTileBehind c.args.self.now.size c.args.self.now.numbers.items) c.loop-last.invariant.here behind
 
-pub is_followed-requires-clause-within : goal.is_followed-requires-clause-within
-is_followed-requires-clause-within c = c.loop-last.invariant.within
+pub is_followed-requires : goal.is_followed-requires
+is_followed-requires c = c.loop-last.invariant.within
 
 pub overflow_add-last : goal.overflow_add-last
 overflow_add-last c =
