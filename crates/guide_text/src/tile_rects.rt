@@ -13,36 +13,60 @@ use grid_base::{NoMemory, Size, Vertex};
 use std::alloc::Global;
 use tree_set::Tree;
 
-/// Whether the row below has a run of these columns.
-fn has_run_below(tiles: &Tiles, layer: u32, row: u32, first_col: u32, last_col: u32) -> bool
+/// Whether the row below has a run of these columns. The run's first tile stands at this place of the list, so that one below, where
+/// nothing else is near, stands before it.
+fn has_run_below(
+    tiles: &Tiles,
+    at: usize,
+    layer: u32,
+    row: u32,
+    first_col: u32,
+    last_col: u32,
+) -> bool
     ensures { IsTrue result ↔ ((below : ℕ) × (below + 1 ≡ row) × IsTileRun tiles.now.size tiles.now.numbers.items layer below first_col last_col) }
 {
-    row > 0 && tiles.is_run(layer, row - 1, first_col, last_col)
+    row > 0 && tiles.is_run(layer, row - 1, first_col, last_col, at.wrapping_sub(1))
 }
 
 /// The last row up to which a run has one of the same columns above it, without a gap.
-fn last_row(tiles: &Tiles, layer: u32, first_row: u32, first_col: u32, last_col: u32) -> u32
+fn last_row(
+    tiles: &Tiles,
+    at: usize,
+    layer: u32,
+    first_row: u32,
+    first_col: u32,
+    last_col: u32,
+) -> u32
     requires { IsTileRun tiles.now.size tiles.now.numbers.items layer first_row first_col last_col }
     ensures order { first_row ≤ result }
     ensures each { (row : ℕ) → first_row ≤ row → row ≤ result → IsTileRun tiles.now.size tiles.now.numbers.items layer row first_col last_col }
     ensures above { ¬ IsTileRun tiles.now.size tiles.now.numbers.items layer (result + 1) first_col last_col }
 {
     let mut row = first_row;
-    while tiles.is_run(layer, row + 1, first_col, last_col) {
+    let mut near = at.wrapping_add(1);
+    while tiles.is_run(layer, row + 1, first_col, last_col, near) {
         row += 1;
+        near = near.wrapping_add(1);
     }
     row
 }
 
-/// The rectangle whose lowest run this is, if there is one.
-fn rect_on(tiles: &Tiles, layer: u32, row: u32, first_col: u32, last_col: u32) -> Option<TileRect>
+/// The rectangle whose lowest run this is, if there is one. The run's first tile stands at this place of the list.
+fn rect_on(
+    tiles: &Tiles,
+    at: usize,
+    layer: u32,
+    row: u32,
+    first_col: u32,
+    last_col: u32,
+) -> Option<TileRect>
     requires { IsTileRun tiles.now.size tiles.now.numbers.items layer row first_col last_col }
     ensures { MatchOption result ((rect : TileRect) → StandsOn layer row first_col rect → ¬ IsTileRect tiles.now.size tiles.now.numbers.items rect) (λ rect. IsTileRect tiles.now.size tiles.now.numbers.items rect × StandsOn layer row first_col rect) }
 {
-    if has_run_below(tiles, layer, row, first_col, last_col) {
+    if has_run_below(tiles, at, layer, row, first_col, last_col) {
         return None;
     }
-    let last_row = last_row(tiles, layer, row, first_col, last_col);
+    let last_row = last_row(tiles, at, layer, row, first_col, last_col);
     Some(TileRect {
         layer,
         first_row: row,
@@ -62,7 +86,7 @@ fn rect_at(tiles: &Tiles, at: usize) -> Option<TileRect>
     }
     let place = tiles.size.place_of(Vertex(tiles.list()[at]));
     let last_col = tiles.run_end(at, place);
-    rect_on(tiles, place.layer, place.row, place.col, last_col)
+    rect_on(tiles, at, place.layer, place.row, place.col, last_col)
 }
 
 /// Puts the rectangle whose lower-left tile stands at this place of the list behind those of earlier tiles, if there is one.
@@ -81,7 +105,7 @@ fn add_rect(tiles: &Tiles, place: usize, rects: &mut Vec<TileRect>) -> Result<()
 fn rects_of(alloc: Global, tiles: &Tiles) -> Result<Vec<TileRect>, NoMemory>
     ensures { IfOk result (λ rects. AreTileRects tiles.now.size tiles.now.numbers.items rects.items) }
 {
-    let mut rects = Vec::new(alloc);
+    let mut rects = Vec::with_capacity(alloc, tiles.list().len())?;
     for place in 0..tiles.list().len() {
         add_rect(tiles, place, &mut rects)?;
     }

@@ -43,14 +43,24 @@ impl Tiles {
         Ok(Tiles { size, numbers })
     }
 
-    /// Where the tile at this place of the grid stands in the list, if it is there.
-    fn position(&self, from: Place) -> Option<usize>
+    /// Where the tile at this place of the grid stands in the list, if it is there. It is looked for at `near` first.
+    fn position(&self, from: Place, near: usize) -> Option<usize>
         ensures { MatchOption result (¬ HasTile self.now.size self.now.numbers.items from.layer from.row from.col) (λ at. (at < length self.now.numbers.items) × (from ≡ place_at self.now.size (slice_index self.now.numbers.items at))) }
     {
         match self.size.vertex_of(from) {
-            Some(v) => self.numbers.as_slice().binary_search(&v.0).ok(),
+            Some(v) => self.place_of_number(v.0, near),
             None => None,
         }
+    }
+
+    /// Where this number stands in the list, if it is there. It is looked for at `near` first.
+    fn place_of_number(&self, number: u32, near: usize) -> Option<usize>
+        ensures { MatchOption result (¬ Contains self.now.numbers.items number) (λ at. (at < length self.now.numbers.items) × (slice_index self.now.numbers.items at ≡ number)) }
+    {
+        if near < self.numbers.len() && self.numbers[near] == number {
+            return Some(near);
+        }
+        self.numbers.as_slice().binary_search(&number).ok()
     }
 
     /// Whether the tile behind the one at this place of the list is there, in the same row.
@@ -91,8 +101,8 @@ impl Tiles {
         last
     }
 
-    /// Whether the tiles of a row from one column to another are a run.
-    pub fn is_run(&self, layer: u32, row: u32, first: u32, last: u32) -> bool
+    /// Whether the tiles of a row from one column to another are a run. The first of them is looked for at `near` in the list first.
+    pub fn is_run(&self, layer: u32, row: u32, first: u32, last: u32, near: usize) -> bool
         ensures { IsTrue result ↔ IsTileRun self.now.size self.now.numbers.items layer row first last }
     {
         let from = Place {
@@ -100,7 +110,7 @@ impl Tiles {
             row,
             layer,
         };
-        match self.position(from) {
+        match self.position(from, near) {
             None => false,
             Some(at) => {
                 if self.is_inner(at) {
