@@ -1,3 +1,5 @@
+pub mod FlatBlocks
+pub mod ReadSegments
 pub mod Texts
 pub mod Takes
 pub mod ReadBackPoints

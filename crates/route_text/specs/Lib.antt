@@ -1,5 +1,6 @@
 pub use Rattle.gr_desk.specs.Pens
 pub use Rattle.grid_base.specs.Lines
+pub use Rattle.grid_base.specs.Lists
 pub use Rattle.grid_base.specs.Numbers
 pub use Rattle.grid_graph.specs.Layouts
 pub use Rattle.grid_graph.specs.Limits
@@ -12,6 +13,8 @@ pub use Rattle.text_scan.specs.Tokens
 pub use Rattle.tree_set.specs.Order
 pub use Rattle.tree_set.specs.Routings
 pub use Rattle.tree_set.specs.Runs
+pub mod FlatBlocks
+pub mod LentBlocks
 pub mod Segments
 pub mod RouteText
 pub mod Pieces

@@ -1,13 +1,18 @@
 //! Reads a route text.
 
-ghost use Rattle.std.specs.Prelude.{◌≡◌, ◌≤◌, ◌+◌, length, IfOk, IfErr};
+ghost use Rattle.std.specs.Prelude.{◌≡◌, ◌≤◌, ◌+◌, ◌++◌, length, IfOk, IfErr, OnOk};
 ghost use Rattle.std.specs.List.{All};
 ghost use Rattle.text_scan.specs.Moves.{Moves};
 ghost use Rattle.route_text.specs.Blocks.{begins_number, further_at, segments_at, block_name_at, block_at, blocks_of};
+ghost use Rattle.route_text.specs.LentBlocks.{added, headed_block};
 ghost use Rattle.route_text.specs.ReadLimits.{IsSegmentInRange, IsBlockInRange, block_and_segment_count};
+ghost use Rattle.route_text.specs.declared.route_error.RouteError.TheVariants.{NoMemory};
 ghost use Rattle.route_text.specs.Reads.{RefusesRoute, IsRouteReadAs};
 
 use crate::block::Block;
+use crate::block_head::BlockHead;
+use crate::block_heading::BlockHeading;
+use crate::block_list::BlockList;
 use crate::parts::{segment, token_number};
 use crate::route_error::RouteError;
 use crate::segment::{Segment, Segments};
@@ -30,22 +35,74 @@ pub fn read_routes(alloc: Global, bytes: &[u8]) -> Result<Vec<Block>, RouteError
     Ok(blocks)
 }
 
+/// The blocks of a route text, in little memory.
+pub fn read_block_list(alloc: Global, bytes: &[u8]) -> Result<BlockList, RouteError>
+    ensures blocks { IfOk result (λ blocks. blocks_of bytes.now ≡ Ok blocks) }
+    ensures refusal { IfErr result (λ e. RefusesRoute e (blocks_of bytes.now)) }
+    ensures range { IfOk result (λ blocks. All IsBlockInRange blocks) }
+    ensures few { IfOk result (λ blocks. block_and_segment_count blocks ≤ length bytes.now) }
+{
+    let mut scanner = Scanner::over(bytes);
+    let mut names = Vec::new(alloc);
+    let mut segments = Vec::new(alloc);
+    let mut heads = Vec::new(alloc);
+    while scanner.peek().is_some() {
+        let heading = next_block(&mut scanner, &mut segments)?;
+        names.extend_from_slice(heading.name)?;
+        heads.push(BlockHead {
+            id: heading.id,
+            name_end: end_of(names.len())?,
+            segments_end: end_of(segments.len())?,
+        })?;
+    }
+    Ok(BlockList::of(names, segments, heads))
+}
+
+/// The end of a list, where it fits.
+fn end_of(len: usize) -> Result<u32, RouteError>
+    ensures end { IfOk result (λ end. end ≡ len) }
+    ensures no_memory { IfErr result (λ e. e ≡ NoMemory) }
+{
+    match u32::try_from(len) {
+        Ok(end) => Ok(end),
+        Err(_) => Err(RouteError::NoMemory),
+    }
+}
+
 /// The next block.
-#[tactic(auto, unfolding(crate::specs::Blocks::block_at))]
 fn block(alloc: Global, scanner: &mut Scanner<'_>) -> Result<Block, RouteError>
     ensures block { IsRouteReadAs (λ b. b) result scanner.new (block_at scanner.old) }
     ensures passed { IfOk result (λ b. Moves (1 + length b.segments) scanner.old scanner.new) }
     ensures range { IfOk result (λ b. IsBlockInRange b) }
 {
-    let name = name(scanner)?;
-    let id = token_number(scanner, 0, i64::from(u32::MAX))?;
-    further(scanner)?;
-    let segments = segments(alloc, scanner)?;
+    let mut segments = Vec::new(alloc);
+    let BlockHeading { name, id } = next_block(scanner, &mut segments)?;
     let name = Vec::from_slice(alloc, name)?;
     Ok(Block {
         name: Name::of(name),
-        id: id as u32,
+        id,
         segments: Segments::of(segments),
+    })
+}
+
+/// What stands before the next block's segments. The segments are put on the list.
+#[tactic(auto, unfolding(crate::specs::Blocks::block_at))]
+fn next_block<'a>(
+    scanner: &mut Scanner<'a>,
+    segments: &mut Vec<Segment>,
+) -> Result<BlockHeading<'a>, RouteError>
+    ensures block { IsRouteReadAs (headed_block (added segments.old.items segments.new.items)) result scanner.new (block_at scanner.old) }
+    ensures kept { OnOk result (segments.new.items ≡ segments.old.items ++ added segments.old.items segments.new.items) }
+    ensures passed { OnOk result (Moves (1 + length (added segments.old.items segments.new.items)) scanner.old scanner.new) }
+    ensures range { OnOk result (All IsSegmentInRange (added segments.old.items segments.new.items)) }
+{
+    let name = name(scanner)?;
+    let id = token_number(scanner, 0, i64::from(u32::MAX))?;
+    further(scanner)?;
+    add_segments(scanner, segments)?;
+    Ok(BlockHeading {
+        name,
+        id: id as u32,
     })
 }
 
@@ -83,15 +140,15 @@ fn begins_number(byte: Option<u8>) -> bool
     }
 }
 
-/// The segments up to the `!`, and the `!`.
-fn segments(alloc: Global, scanner: &mut Scanner<'_>) -> Result<Vec<Segment>, RouteError>
-    ensures segments { IsRouteReadAs (λ s. s.items) result scanner.new (segments_at scanner.old) }
-    ensures passed { IfOk result (λ s. Moves (1 + length s.items) scanner.old scanner.new) }
-    ensures range { IfOk result (λ s. All IsSegmentInRange s.items) }
+/// The segments up to the `!` are put on the list, and the `!` is passed.
+fn add_segments(scanner: &mut Scanner<'_>, segments: &mut Vec<Segment>) -> Result<(), RouteError>
+    ensures segments { IsRouteReadAs (λ _. added segments.old.items segments.new.items) result scanner.new (segments_at scanner.old) }
+    ensures kept { OnOk result (segments.new.items ≡ segments.old.items ++ added segments.old.items segments.new.items) }
+    ensures passed { OnOk result (Moves (1 + length (added segments.old.items segments.new.items)) scanner.old scanner.new) }
+    ensures range { OnOk result (All IsSegmentInRange (added segments.old.items segments.new.items)) }
 {
-    let mut segments = Vec::new(alloc);
     while !scanner.mark(b'!') {
         segments.push(segment(scanner)?)?;
     }
-    Ok(segments)
+    Ok(())
 }
