@@ -1,5 +1,5 @@
 -- What blocks give the nets of a design, where nets may lack one.
-use Rattle.std.specs.Prelude.{ℕ, ◌≡◌, ◌<◌, ◌≤◌, ◌↔◌, All, Bool, Contains, List, length}
+use Rattle.std.specs.Prelude.{ℕ, ◌<◌, ◌≤◌, ◌↔◌, All, Bool, Contains, List, length}
 use Rattle.grid_base.specs.declared.piece.Piece.{Piece}
 use Rattle.grid_base.specs.Lists.{At, HasNoRepeats}
 use Rattle.grid_graph.specs.declared.design.Design.{Design}

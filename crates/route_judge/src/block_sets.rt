@@ -14,7 +14,7 @@ use crate::net_sets::sets_of;
 use crate::stop::Stop;
 use grid_base::NoMemory;
 use grid_graph::Design;
-use route_text::Block;
+use route_text::Blocks;
 use std::alloc::Global;
 use tree_set::Tree;
 
@@ -30,10 +30,10 @@ pub struct BlockSets {
 }
 
 /// The sets and the nets without a block. Stops at the first reason against the blocks.
-fn named_sets(alloc: Global, design: &Design, blocks: &[Block]) -> Result<BlockSets, Stop>
-    requires { AreBlocks blocks.now }
-    ensures stops { StopsAt design.now (all_block_objections blocks.now) result }
-    ensures sets { IfOk result (λ sets. AreBlockSets design.now blocks.now sets.trees.items sets.has_block.items sets.missing.items) }
+fn named_sets<B: Blocks>(alloc: Global, design: &Design, blocks: B) -> Result<BlockSets, Stop>
+    requires { AreBlocks (B.list blocks) }
+    ensures stops { StopsAt design.now (all_block_objections (B.list blocks)) result }
+    ensures sets { IfOk result (λ sets. AreBlockSets design.now (B.list blocks) sets.trees.items sets.has_block.items sets.missing.items) }
 {
     let sets = sets_of(alloc, design, blocks)?;
     let missing = missing_nets(alloc, design, sets.taken.nets.as_slice())?;
@@ -48,14 +48,14 @@ fn named_sets(alloc: Global, design: &Design, blocks: &[Block]) -> Result<BlockS
 /// terminals inside the grid and without walls. A yes has the sets that they give the nets.
 ///
 /// It takes memory and time for each piece, however few segments there are.
-pub fn sets_of_blocks(
+pub fn sets_of_blocks<B: Blocks>(
     alloc: Global,
     design: &Design,
-    blocks: &[Block],
+    blocks: B,
 ) -> Result<CheckedBlocks, NoMemory>
-    requires { AreBlocks blocks.now }
-    ensures first { IfOk result (λ answer. Finds design.now (all_block_objections blocks.now) (reason_against_blocks answer)) }
-    ensures sets { IfOk result (λ answer. IfNamed answer (λ sets. AreBlockSets design.now blocks.now sets.trees.items sets.has_block.items sets.missing.items)) }
+    requires { AreBlocks (B.list blocks) }
+    ensures first { IfOk result (λ answer. Finds design.now (all_block_objections (B.list blocks)) (reason_against_blocks answer)) }
+    ensures sets { IfOk result (λ answer. IfNamed answer (λ sets. AreBlockSets design.now (B.list blocks) sets.trees.items sets.has_block.items sets.missing.items)) }
 {
     match named_sets(alloc, design, blocks) {
         Ok(sets) => Ok(CheckedBlocks::Yes(sets)),

@@ -10,6 +10,7 @@ ghost use Rattle.grid_graph.specs.declared.kind.Kind.TheVariants.{Wall};
 ghost use Rattle.grid_graph.specs.Grids.{size_of};
 ghost use Rattle.route_text.specs.declared.block.Block.{Block};
 ghost use Rattle.route_text.specs.BlockPieces.{IsPieceOf};
+ghost use Rattle.route_text.specs.LentBlocks.{lent_block};
 ghost use Rattle.route_text.specs.ReadLimits.{IsBlockInRange};
 ghost use Rattle.route_judge.specs.KindCounts.{AreCountsOf};
 ghost use Rattle.route_judge.specs.Limits.{number_limit, AreBlocks};
@@ -29,7 +30,7 @@ use crate::taken::TakenNets;
 use crate::tested::TestedBlock;
 use grid_base::NoMemory;
 use grid_graph::Design;
-use route_text::Block;
+use route_text::{BlockRef, Blocks};
 use std::alloc::Global;
 use straight_runs::{LineCounts, Run, merged};
 
@@ -51,18 +52,18 @@ fn joining_runs_of(
     design: &Design,
     walls: &LineCounts<'_>,
     number: u32,
-    block: &Block,
+    block: &BlockRef<'_>,
     place: usize,
 ) -> Result<Vec<Run>, Stop>
-    requires short { length block.now.segments < number_limit }
-    requires range { IsBlockInRange block.now }
+    requires short { length (lent_block block.now).segments < number_limit }
+    requires range { IsBlockInRange (lent_block block.now) }
     requires walls { AreCountsOf design.now.grid Wall walls.now }
     requires place { place < length design.now.nets }
-    requires net { (n : NetSpec) → At design.now.nets place n → n.id ≡ block.now.id }
-    ensures stops { StopsAt design.now (all_segment_objections number block.now.segments ++ objections.not_joined block.now ∷ []) result }
+    requires net { (n : NetSpec) → At design.now.nets place n → n.id ≡ (lent_block block.now).id }
+    ensures stops { StopsAt design.now (all_segment_objections number (lent_block block.now).segments ++ objections.not_joined (lent_block block.now) ∷ []) result }
     ensures runs { IfOk result (λ runs. All (IsStraightRun (size_of design.now.grid)) runs.items) }
     ensures once { IfOk result (λ runs. HasNoRepeats (pieces_of (size_of design.now.grid) runs.items)) }
-    ensures named { IfOk result (λ runs. (p : Piece) → Contains (pieces_of (size_of design.now.grid) runs.items) p ↔ IsPieceOf design.now.grid block.now p) }
+    ensures named { IfOk result (λ runs. (p : Piece) → Contains (pieces_of (size_of design.now.grid) runs.items) p ↔ IsPieceOf design.now.grid (lent_block block.now) p) }
     ensures joining { (n : NetSpec) → At design.now.nets place n → IfOk result (λ runs. IsJoining design.now.grid n (pieces_of (size_of design.now.grid) runs.items)) }
 {
     let listed = runs_of(alloc, design, walls, number, block)?;
@@ -74,28 +75,28 @@ fn joining_runs_of(
 }
 
 /// Tests the block that has this number in the text.
-pub(crate) fn test_block(
+pub(crate) fn test_block<B: Blocks>(
     alloc: Global,
     design: &Design,
     places: &NetPlaces,
     walls: &LineCounts<'_>,
-    blocks: &[Block],
+    blocks: B,
     number: usize,
     taken: &mut TakenNets,
 ) -> Result<TestedBlock, Stop>
-    requires blocks { AreBlocks blocks.now }
-    requires number { number < length blocks.now }
+    requires blocks { AreBlocks (B.list blocks) }
+    requires number { number < length (B.list blocks) }
     requires places { ArePlacesOf design.now.nets (place_by_id places.now) }
     requires walls { AreCountsOf design.now.grid Wall walls.now }
-    requires taken { AreTaken design.now (take number blocks.now) taken.old.nets.items }
-    ensures stops { (block : Block) → At blocks.now number block → StopsAt design.now (block_objections blocks.now (number, block)) result }
+    requires taken { AreTaken design.now (take number (B.list blocks)) taken.old.nets.items }
+    ensures stops { (block : Block) → At (B.list blocks) number block → StopsAt design.now (block_objections (B.list blocks) (number, block)) result }
     ensures place { IfOk result (λ b. b.place < length design.now.nets) }
     ensures runs { IfOk result (λ b. All (IsStraightRun (size_of design.now.grid)) b.runs.items) }
-    ensures tested { (block : Block) → At blocks.now number block
-        → IfOk result (λ b. IsTested design.now (take number blocks.now) block b.place (pieces_of (size_of design.now.grid) b.runs.items)) }
-    ensures taken { OnOk result (AreTaken design.now (take (number + 1) blocks.now) taken.new.nets.items) }
+    ensures tested { (block : Block) → At (B.list blocks) number block
+        → IfOk result (λ b. IsTested design.now (take number (B.list blocks)) block b.place (pieces_of (size_of design.now.grid) b.runs.items)) }
+    ensures taken { OnOk result (AreTaken design.now (take (number + 1) (B.list blocks)) taken.new.nets.items) }
 {
-    let block = &blocks[number];
+    let block = blocks.block(number);
     let Some(place) = places.place_of(block.id) else {
         return Err(Stop::Refused(Reason::UnknownNet {
             block: number as u32,
@@ -104,7 +105,7 @@ pub(crate) fn test_block(
     if taken.nets[place] {
         return Err(Stop::Refused(Reason::RepeatedNet { id: block.id }));
     }
-    let runs = joining_runs_of(alloc, design, walls, number as u32, block, place)?;
+    let runs = joining_runs_of(alloc, design, walls, number as u32, &block, place)?;
     taken.nets[place] = true;
     Ok(TestedBlock { place, runs })
 }

@@ -23,7 +23,7 @@ use crate::verdict::Verdict;
 use cert_text::Cert;
 use grid_base::NoMemory;
 use grid_graph::{Design, Ground};
-use route_text::Block;
+use route_text::Blocks;
 use std::alloc::Global;
 use std::thread::Threads;
 use tree_set::Budget;
@@ -57,20 +57,20 @@ fn test_claims(
 }
 
 /// Measures routes and tests what a certificate states. Stops at the first reason against them.
-fn go_through<R: Threads + Sync>(
+fn go_through<R: Threads + Sync, B: Blocks>(
     rt: &R,
     alloc: Global,
     design: &Design,
     grounds: &[Ground],
-    blocks: &[Block],
+    blocks: B,
     cert: &Cert,
 ) -> Result<Measured, Stop>
     requires grounds { AreGrounds design.now.grid design.now.nets grounds.now }
-    requires blocks { AreBlocks blocks.now }
+    requires blocks { AreBlocks (B.list blocks) }
     requires prices { All (λ price. price ≤ max_price) cert.now.prices }
     requires budget { IsWithinLimits cert.now.budget }
-    ensures judged { IsJudgedAs design.now grounds.now blocks.now cert.now result }
-    ensures measured { IfOk result (λ m. AreMeasured design.now grounds.now blocks.now (most_of cert.now.budget) m.measure m.beyond) }
+    ensures judged { IsJudgedAs design.now grounds.now (B.list blocks) cert.now result }
+    ensures measured { IfOk result (λ m. AreMeasured design.now grounds.now (B.list blocks) (most_of cert.now.budget) m.measure m.beyond) }
     ensures bound { OnOk result (StatesBound design.now cert.now) }
 {
     let measured = with_budget(measure_routes(alloc, design, grounds, blocks)?, cert.budget);
@@ -85,20 +85,20 @@ fn go_through<R: Threads + Sync>(
 /// states is at most the design's bound at its prices.
 ///
 /// Whoever made the prices, the bound of a certificate that is accepted holds of every mixture of routings.
-pub fn judge<R: Threads + Sync>(
+pub fn judge<R: Threads + Sync, B: Blocks>(
     rt: &R,
     alloc: Global,
     design: &Design,
     grounds: &[Ground],
-    blocks: &[Block],
+    blocks: B,
     cert: &Cert,
 ) -> Result<Verdict, NoMemory>
     requires grounds { AreGrounds design.now.grid design.now.nets grounds.now }
-    requires blocks { AreBlocks blocks.now }
+    requires blocks { AreBlocks (B.list blocks) }
     requires prices { All (λ price. price ≤ max_price) cert.now.prices }
     requires budget { IsWithinLimits cert.now.budget }
-    ensures first { IfOk result (λ answer. IsJudged design.now grounds.now blocks.now cert.now (reason_of_verdict answer)) }
-    ensures measured { IfOk result (λ answer. IfYes answer (AreMeasured design.now grounds.now blocks.now (most_of cert.now.budget))) }
+    ensures first { IfOk result (λ answer. IsJudged design.now grounds.now (B.list blocks) cert.now (reason_of_verdict answer)) }
+    ensures measured { IfOk result (λ answer. IfYes answer (AreMeasured design.now grounds.now (B.list blocks) (most_of cert.now.budget))) }
     ensures bound { IfOk result (λ answer. IfYes answer (λ _ _. StatesBound design.now cert.now)) }
 {
     match go_through(rt, alloc, design, grounds, blocks, cert) {

@@ -2,16 +2,16 @@
 //!
 //! ```text
 //! let grounds = design.grounds()?;
-//! let blocks = read_routes(alloc, routes)?;
-//! match judge_routes(alloc, &design, grounds.as_slice(), blocks.as_slice())? {
+//! let blocks = read_block_list(alloc, routes)?;                // or read_routes(alloc, routes)?, and blocks.as_slice()
+//! match judge_routes(alloc, &design, grounds.as_slice(), &blocks)? {
 //!     Checked::Yes { measure, beyond } => ..    // overflow, wirelength, peak; nets beyond their grounds
 //!     Checked::No(reason) => ..                 // Reason::NotJoined { id: 7 }
 //! }
 //! let cert = read_cert(alloc, certificate)?;
-//! let verdict = judge(&rt, alloc, &design, grounds.as_slice(), blocks.as_slice(), &cert)?;
-//! let loads = loads_of(alloc, &design, grounds.as_slice(), blocks.as_slice())?;    // the edges' loads, of routes
-//! let trees = trees_of(alloc, &design, blocks.as_slice())?;    // and the nets' sets
-//! match sets_of_blocks(alloc, &design, blocks.as_slice())? {   // where nets may lack a block
+//! let verdict = judge(&rt, alloc, &design, grounds.as_slice(), &blocks, &cert)?;
+//! let loads = loads_of(alloc, &design, grounds.as_slice(), &blocks)?;    // the edges' loads, of routes
+//! let trees = trees_of(alloc, &design, &blocks)?;    // and the nets' sets
+//! match sets_of_blocks(alloc, &design, &blocks)? {   // where nets may lack a block
 //!     CheckedBlocks::Yes(sets) => ..            // the sets, and which nets need a block and have none
 //!     CheckedBlocks::No(reason) => ..
 //! }

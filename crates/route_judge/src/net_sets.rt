@@ -13,7 +13,7 @@ use crate::taken::TakenNets;
 use crate::tested::TestedBlock;
 use grid_base::NoMemory;
 use grid_graph::{Design, Kind};
-use route_text::Block;
+use route_text::Blocks;
 use std::alloc::Global;
 use straight_runs::{LineCounts, set_of_runs};
 use tree_set::Tree;
@@ -38,17 +38,17 @@ fn empty_sets(alloc: Global, design: &Design) -> Result<Vec<Tree>, NoMemory>
 }
 
 /// The set of each net after all blocks, and which nets have one of them. Stops at the first reason against them.
-pub(crate) fn sets_of(alloc: Global, design: &Design, blocks: &[Block]) -> Result<NetSets, Stop>
-    requires { AreBlocks blocks.now }
-    ensures stops { StopsAt design.now (all_block_objections blocks.now) result }
-    ensures sets { IfOk result (λ sets. AreSetsAfter design.now blocks.now sets.trees.items) }
-    ensures taken { IfOk result (λ sets. AreTaken design.now blocks.now sets.taken.nets.items) }
+pub(crate) fn sets_of<B: Blocks>(alloc: Global, design: &Design, blocks: B) -> Result<NetSets, Stop>
+    requires { AreBlocks (B.list blocks) }
+    ensures stops { StopsAt design.now (all_block_objections (B.list blocks)) result }
+    ensures sets { IfOk result (λ sets. AreSetsAfter design.now (B.list blocks) sets.trees.items) }
+    ensures taken { IfOk result (λ sets. AreTaken design.now (B.list blocks) sets.taken.nets.items) }
 {
     let places = NetPlaces::of(alloc, design.nets.list())?;
     let walls = LineCounts::of(alloc, &design.grid, Kind::Wall)?;
     let mut taken = TakenNets::none(alloc, design)?;
     let mut trees = empty_sets(alloc, design)?;
-    for number in 0..blocks.len() {
+    for number in 0..blocks.count() {
         let TestedBlock { place, runs } = test_block(
             alloc, design, &places, &walls, blocks, number, &mut taken,
         )?;

@@ -20,21 +20,21 @@ use crate::stop::Stop;
 use crate::summing::sums_of;
 use grid_base::NoMemory;
 use grid_graph::{Design, Ground};
-use route_text::Block;
+use route_text::Blocks;
 use std::alloc::Global;
 use tree_set::{Tree, measure_of_loads};
 
 /// Measures routes. Stops at the first reason against them.
-pub(crate) fn measure_routes(
+pub(crate) fn measure_routes<B: Blocks>(
     alloc: Global,
     design: &Design,
     grounds: &[Ground],
-    blocks: &[Block],
+    blocks: B,
 ) -> Result<Measured, Stop>
     requires grounds { AreGrounds design.now.grid design.now.nets grounds.now }
-    requires blocks { AreBlocks blocks.now }
-    ensures stops { StopsAt design.now (route_objections design.now blocks.now) result }
-    ensures measured { IfOk result (λ m. AreMeasured design.now grounds.now blocks.now None m.measure m.beyond) }
+    requires blocks { AreBlocks (B.list blocks) }
+    ensures stops { StopsAt design.now (route_objections design.now (B.list blocks)) result }
+    ensures measured { IfOk result (λ m. AreMeasured design.now grounds.now (B.list blocks) None m.measure m.beyond) }
 {
     let sums = sums_of(alloc, design, grounds, blocks)?;
     let loads = sums.loads.finish();
@@ -52,16 +52,16 @@ pub(crate) fn measure_routes(
 /// Takes about `n log n` steps for n nets, segments and terminals, however long the segments are and however often they
 /// overlap, and a few passes over the grid. Where a block leaves its net's terminals apart, its pieces are gone through one by
 /// one, and that ends the work.
-pub fn judge_routes(
+pub fn judge_routes<B: Blocks>(
     alloc: Global,
     design: &Design,
     grounds: &[Ground],
-    blocks: &[Block],
+    blocks: B,
 ) -> Result<Checked, NoMemory>
     requires grounds { AreGrounds design.now.grid design.now.nets grounds.now }
-    requires blocks { AreBlocks blocks.now }
-    ensures first { IfOk result (λ answer. Finds design.now (route_objections design.now blocks.now) (reason_against answer)) }
-    ensures measured { IfOk result (λ answer. IfAccepted answer (AreMeasured design.now grounds.now blocks.now None)) }
+    requires blocks { AreBlocks (B.list blocks) }
+    ensures first { IfOk result (λ answer. Finds design.now (route_objections design.now (B.list blocks)) (reason_against answer)) }
+    ensures measured { IfOk result (λ answer. IfAccepted answer (AreMeasured design.now grounds.now (B.list blocks) None)) }
 {
     match measure_routes(alloc, design, grounds, blocks) {
         Ok(Measured { measure, beyond }) => Ok(Checked::Yes { measure, beyond }),
@@ -71,17 +71,17 @@ pub fn judge_routes(
 }
 
 /// The loads of all edges, one per edge number, by the sets that blocks give the nets. They have to be routes of the design.
-pub fn loads_of(
+pub fn loads_of<B: Blocks>(
     alloc: Global,
     design: &Design,
     grounds: &[Ground],
-    blocks: &[Block],
+    blocks: B,
 ) -> Result<Vec<u64>, NoMemory>
     requires grounds { AreGrounds design.now.grid design.now.nets grounds.now }
-    requires blocks { AreBlocks blocks.now }
-    requires routes { AreRoutes design.now blocks.now }
+    requires blocks { AreBlocks (B.list blocks) }
+    requires routes { AreRoutes design.now (B.list blocks) }
     ensures long { IfOk result (λ loads. length loads.items ≡ 2 * vertices (size_of design.now.grid)) }
-    ensures loads { IfOk result (λ loads. AreLoadsOf design.now blocks.now loads.items) }
+    ensures loads { IfOk result (λ loads. AreLoadsOf design.now (B.list blocks) loads.items) }
 {
     match sums_of(alloc, design, grounds, blocks) {
         Ok(sums) => Ok(sums.loads.finish()),
@@ -92,10 +92,10 @@ pub fn loads_of(
 
 /// The set of each net, in file order, of blocks that are routes of the design: the pieces of its block, or none where it has
 /// no block. It takes memory and time for each piece, however few segments there are.
-pub fn trees_of(alloc: Global, design: &Design, blocks: &[Block]) -> Result<Vec<Tree>, NoMemory>
-    requires blocks { AreBlocks blocks.now }
-    requires routes { AreRoutes design.now blocks.now }
-    ensures sets { IfOk result (λ trees. AreSetsOf design.now blocks.now trees.items) }
+pub fn trees_of<B: Blocks>(alloc: Global, design: &Design, blocks: B) -> Result<Vec<Tree>, NoMemory>
+    requires blocks { AreBlocks (B.list blocks) }
+    requires routes { AreRoutes design.now (B.list blocks) }
+    ensures sets { IfOk result (λ trees. AreSetsOf design.now (B.list blocks) trees.items) }
     ensures joining { IfOk result (λ trees. AreJoining design.now trees.items) }
 {
     match sets_of(alloc, design, blocks) {

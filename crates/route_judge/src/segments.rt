@@ -8,6 +8,7 @@ ghost use Rattle.grid_graph.specs.declared.ground.Ground.TheVariants.{WithChoked
 ghost use Rattle.grid_graph.specs.declared.kind.Kind.TheVariants.{Wall};
 ghost use Rattle.grid_graph.specs.Grids.{Allows, size_of};
 ghost use Rattle.route_text.specs.BlockPieces.{LiesOn, IsPieceOf};
+ghost use Rattle.route_text.specs.LentBlocks.{lent_block};
 ghost use Rattle.route_text.specs.ReadLimits.{IsSegmentInRange, IsBlockInRange};
 ghost use Rattle.route_judge.specs.KindCounts.{AreCountsOf};
 ghost use Rattle.route_judge.specs.Limits.{number_limit};
@@ -21,7 +22,7 @@ use crate::reason::Reason;
 use crate::stop::Stop;
 use grid_base::Place;
 use grid_graph::Design;
-use route_text::{Block, Segment};
+use route_text::{BlockRef, Segment};
 use std::alloc::Global;
 use straight_runs::{LineCounts, Run};
 
@@ -79,17 +80,17 @@ pub(crate) fn runs_of(
     design: &Design,
     walls: &LineCounts<'_>,
     number: u32,
-    block: &Block,
+    block: &BlockRef<'_>,
 ) -> Result<Vec<Run>, Stop>
-    requires short { length block.now.segments < number_limit }
-    requires range { IsBlockInRange block.now }
+    requires short { length (lent_block block.now).segments < number_limit }
+    requires range { IsBlockInRange (lent_block block.now) }
     requires walls { AreCountsOf design.now.grid Wall walls.now }
-    ensures stops { StopsAt design.now (all_segment_objections number block.now.segments) result }
+    ensures stops { StopsAt design.now (all_segment_objections number (lent_block block.now).segments) result }
     ensures runs { IfOk result (λ runs. All (IsStraightRun (size_of design.now.grid)) runs.items) }
-    ensures named { IfOk result (λ runs. (p : Piece) → Contains (pieces_of (size_of design.now.grid) runs.items) p ↔ IsPieceOf design.now.grid block.now p) }
+    ensures named { IfOk result (λ runs. (p : Piece) → Contains (pieces_of (size_of design.now.grid) runs.items) p ↔ IsPieceOf design.now.grid (lent_block block.now) p) }
     ensures no_wall { IfOk result (λ runs. (p : Piece) → Contains (pieces_of (size_of design.now.grid) runs.items) p → Allows design.now.grid WithChoked p) }
 {
-    let segments = block.segments.list();
+    let segments = block.segments;
     let mut runs = Vec::new(alloc);
     for i in 0..segments.len() {
         add_segment(design, walls, number, i as u32, segments[i], &mut runs)?;

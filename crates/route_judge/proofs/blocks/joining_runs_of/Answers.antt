@@ -15,6 +15,7 @@ use Rattle.grid_graph.specs.Grids.{Allows, size_of}
 use Rattle.grid_graph.proofs.Grounds.{at_place}
 use Rattle.route_text.specs.declared.block.Block.{Block}
 use Rattle.route_text.specs.BlockPieces.{IsPieceOf}
+use Rattle.route_text.specs.LentBlocks.{lent_block}
 use Rattle.route_judge.specs.Objections as objections
 use Rattle.route_judge.specs.Orders.{all_segment_objections}
 use Rattle.route_judge.proofs.BlockTests.{not_apart, is_apart}
@@ -36,7 +37,7 @@ sized s t listed kept same merged = subst (λ u. AreMerged u listed kept) same m
 pub returns-in_err-listed-clause-stops : goal.returns-in_err-listed-clause-stops
 returns-in_err-listed-clause-stops c =
     let exit = err_from_is_err_and c.from_residual.result c.from_residual.ensures.1 in
-    rw (exit.1, exit.2) (stops_before c.args.design.now (all_segment_objections c.args.number c.args.block.now.segments) (objections.not_joined c.args.block.now ∷ []) c.in_err-listed.field-0.0 c.in_err-listed.ensures.stops)
+    rw (exit.1, exit.2) (stops_before c.args.design.now (all_segment_objections c.args.number (lent_block c.args.block.now).segments) (objections.not_joined (lent_block c.args.block.now) ∷ []) c.in_err-listed.field-0.0 c.in_err-listed.ensures.stops)
 
 pub merged-requires : goal.merged-requires
 merged-requires c = record { runs = subst (λ s. All (IsStraightRun s) c.in_ok-listed.listed.items) (sym c.size.ensures) c.in_ok-listed.ensures.runs }
@@ -56,9 +57,9 @@ returns-then-not-branch-clause-stops c =
     let kept = c.in_ok-runs.runs.items in
     let merged = sized _ s _ _ c.size.ensures c.in_ok-runs.ensures in
     let joins = by_list s _ kept found.0.terminals c.in_ok-joins_net.field-0 c.as_slice.ensures.value (c.in_ok-joins_net.ensures found.0 found.1) in
-    found_behind d (all_segment_objections c.args.number c.args.block.now.segments) (objections.not_joined c.args.block.now ∷ []) _ c.in_ok-listed.ensures.stops
+    found_behind d (all_segment_objections c.args.number (lent_block c.args.block.now).segments) (objections.not_joined (lent_block c.args.block.now) ∷ []) _ c.in_ok-listed.ensures.stops
     (inl (
-      is_apart d c.args.block.now c.args.place found.0 (pieces_of s kept) found.1 (c.requires.net found.0 found.1) (still_named d.grid c.args.block.now _ kept merged c.in_ok-listed.ensures.named)
+      is_apart d (lent_block c.args.block.now) c.args.place found.0 (pieces_of s kept) found.1 (c.requires.net found.0 found.1) (still_named d.grid (lent_block c.args.block.now) _ kept merged c.in_ok-listed.ensures.named)
           (λ joined. let told : c.in_ok-joins_net.field-0 ≡ true = joins.1 joined in cc (told, c.if-not-branch.true)),
       refl,
     ))
@@ -71,16 +72,16 @@ returns-clause-stops c =
     let kept = c.in_ok-runs.runs.items in
     let merged = sized _ s _ _ c.size.ensures c.in_ok-runs.ensures in
     let joins = by_list s _ kept found.0.terminals c.in_ok-joins_net.field-0 c.as_slice.ensures.value (c.in_ok-joins_net.ensures found.0 found.1) in
-    found_behind d (all_segment_objections c.args.number c.args.block.now.segments) (objections.not_joined c.args.block.now ∷ []) _ c.in_ok-listed.ensures.stops
+    found_behind d (all_segment_objections c.args.number (lent_block c.args.block.now).segments) (objections.not_joined (lent_block c.args.block.now) ∷ []) _ c.in_ok-listed.ensures.stops
     (inr (
-      not_apart d c.args.block.now c.args.place found.0 (pieces_of s kept) found.1 (c.requires.net found.0 found.1) (still_named d.grid c.args.block.now _ kept merged c.in_ok-listed.ensures.named)
+      not_apart d (lent_block c.args.block.now) c.args.place found.0 (pieces_of s kept) found.1 (c.requires.net found.0 found.1) (still_named d.grid (lent_block c.args.block.now) _ kept merged c.in_ok-listed.ensures.named)
           (joins.0 c.if-not-branch.false),
       refl,
     ))
 
 pub returns-clause-named : goal.returns-clause-named
 returns-clause-named c =
-    still_named c.args.design.now.grid c.args.block.now _ c.in_ok-runs.runs.items (sized _ (size_of c.args.design.now.grid) _ _ c.size.ensures c.in_ok-runs.ensures) c.in_ok-listed.ensures.named
+    still_named c.args.design.now.grid (lent_block c.args.block.now) _ c.in_ok-runs.runs.items (sized _ (size_of c.args.design.now.grid) _ _ c.size.ensures c.in_ok-runs.ensures) c.in_ok-listed.ensures.named
 
 pub returns-clause-joining : goal.returns-clause-joining
 returns-clause-joining c n at =

@@ -1,4 +1,4 @@
-use Rattle.std.proofs.Common.{◌≡◌, All, Contains, List, refl, sym, slice_set, subst, take}
+use Rattle.std.proofs.Common.{◌≡◌, ◌<◌, ◌≤◌, All, Contains, List, length, refl, sym, slice_set, subst, take, arith}
 use Rattle.std.proofs.lemmas.List.{take_all}
 use Rattle.std.proofs.lemmas.Option.{get_or_from_slice_get, slice_get-get_or}
 use Rattle.std.proofs.lemmas.Result.{err_from_is_err_and}
@@ -20,23 +20,25 @@ set_of_sized : (s t : Size) (given runs : List Run) (tree : List Piece) → s �
 set_of_sized s t given runs tree size list same = subst (λ rs. (p : Piece) → Contains tree p ↔ Contains (pieces_of t rs) p) list (subst (λ u. (p : Piece) → Contains tree p ↔ Contains (pieces_of u given) p) size same)
 
 pub set_of_runs-requires : goal.set_of_runs-requires
-set_of_runs-requires c =
+set_of_runs-requires g c =
     subst (λ s. All (IsStraightRun s) c.as_slice.result.now) (sym c.size.ensures) (subst (All (IsStraightRun (size_of c.args.design.now.grid))) (sym c.as_slice.ensures.value) c.in_ok-place.ensures.runs)
 
 pub returns-in_err-place-clause-stops : goal.returns-in_err-place-clause-stops
-returns-in_err-place-clause-stops c =
+returns-in_err-place-clause-stops g c =
+    let below : c.loop-number.number < length (g.B.Blocks.list c.args.blocks) = omega (arith, c.count-number-end.ensures, c.loop-number-test.true) in
     let exit = err_from_is_err_and c.from_residual-in_err-place.result c.from_residual-in_err-place.ensures.1 in
-    let blocks = c.args.blocks.now in
-    let found = at_place blocks c.loop-number.number c.loop-number-test.true in
-    rw (exit.1, exit.2) (stops_numbered c.args.design.now (block_objections blocks) blocks blocks c.loop-number.number found.0 c.in_err-place.field-0.0 refl c.loop-number-test.true c.loop-number.invariant.clear
-    (c.in_err-place.ensures.stops _ (slice_get-get_or blocks c.loop-number.number found.0 c.loop-number-test.true)))
+    let blocks = g.B.Blocks.list c.args.blocks in
+    let found = at_place blocks c.loop-number.number below in
+    rw (exit.1, exit.2) (stops_numbered c.args.design.now (block_objections blocks) blocks blocks c.loop-number.number found.0 c.in_err-place.field-0.0 refl below c.loop-number.invariant.clear
+    (c.in_err-place.ensures.stops _ (slice_get-get_or blocks c.loop-number.number found.0 below)))
 
 pub loop-number-preserved : goal.loop-number-preserved
-loop-number-preserved c =
+loop-number-preserved g c =
+    let below : c.loop-number.number < length (g.B.Blocks.list c.args.blocks) = omega (arith, c.count-number-end.ensures, c.loop-number-test.true) in
     let d = c.args.design.now in
-    let blocks = c.args.blocks.now in
+    let blocks = g.B.Blocks.list c.args.blocks in
     let k = c.loop-number.number in
-    let block = at_place blocks k c.loop-number-test.true in
+    let block = at_place blocks k below in
     let s = size_of d.grid in
     let tree = c.in_ok-tree.tree in
     let runs = c.in_ok-place.field-0.runs.items in
@@ -44,20 +46,24 @@ loop-number-preserved c =
     let trees = c.loop-number.trees.items in
     let same = set_of_sized _ s _ runs tree c.size.ensures c.as_slice.ensures.value c.in_ok-tree.ensures.same in
     record {
-      clear = none_numbered d (block_objections blocks) blocks blocks k block.0 refl c.loop-number-test.true c.loop-number.invariant.clear
-          (c.in_ok-place.ensures.stops _ (slice_get-get_or blocks k block.0 c.loop-number-test.true));
+      clear = none_numbered d (block_objections blocks) blocks blocks k block.0 refl below c.loop-number.invariant.clear
+          (c.in_ok-place.ensures.stops _ (slice_get-get_or blocks k block.0 below));
       taken = c.in_ok-place.ensures.taken;
-      sets = subst (λ earlier. AreSetsAfter d earlier (slice_set trees place tree)) (one_block_more blocks k block.0 c.loop-number-test.true (sym (get_or_from_slice_get blocks k block.0 block.0 block.1)))
+      sets = subst (λ earlier. AreSetsAfter d earlier (slice_set trees place tree)) (one_block_more blocks k block.0 below (sym (get_or_from_slice_get blocks k block.0 block.0 block.1)))
           (sets_more d (take k blocks) block.0 place (pieces_of s runs) tree trees (c.in_ok-place.ensures.tested block.0 block.1) c.in_ok-tree.ensures.rising same c.loop-number.invariant.sets);
     }
 
 pub returns-clause-stops : goal.returns-clause-stops
-returns-clause-stops c = none_in_all c.args.design.now (block_objections c.args.blocks.now) c.args.blocks.now c.loop-number.number c.loop-number-test.false c.loop-number.invariant.clear
+returns-clause-stops g c =
+    let all : length (g.B.Blocks.list c.args.blocks) ≤ c.loop-number.number = omega (arith, c.count-number-end.ensures, c.loop-number-test.false) in
+    none_in_all c.args.design.now (block_objections (g.B.Blocks.list c.args.blocks)) (g.B.Blocks.list c.args.blocks) c.loop-number.number all c.loop-number.invariant.clear
 
 pub returns-clause-sets : goal.returns-clause-sets
-returns-clause-sets c =
-    subst (λ earlier. AreSetsAfter c.args.design.now earlier c.loop-number.trees.items) (take_all c.loop-number.number c.args.blocks.now c.loop-number-test.false) c.loop-number.invariant.sets
+returns-clause-sets g c =
+    let all : length (g.B.Blocks.list c.args.blocks) ≤ c.loop-number.number = omega (arith, c.count-number-end.ensures, c.loop-number-test.false) in
+    subst (λ earlier. AreSetsAfter c.args.design.now earlier c.loop-number.trees.items) (take_all c.loop-number.number (g.B.Blocks.list c.args.blocks) all) c.loop-number.invariant.sets
 
 pub returns-clause-taken : goal.returns-clause-taken
-returns-clause-taken c =
-    subst (λ earlier. AreTaken c.args.design.now earlier c.loop-number.taken.nets.items) (take_all c.loop-number.number c.args.blocks.now c.loop-number-test.false) c.loop-number.invariant.taken
+returns-clause-taken g c =
+    let all : length (g.B.Blocks.list c.args.blocks) ≤ c.loop-number.number = omega (arith, c.count-number-end.ensures, c.loop-number-test.false) in
+    subst (λ earlier. AreTaken c.args.design.now earlier c.loop-number.taken.nets.items) (take_all c.loop-number.number (g.B.Blocks.list c.args.blocks) all) c.loop-number.invariant.taken

@@ -6,22 +6,22 @@ use Rattle.route_judge.proofs.RunningSums.{AreFinished, finished_loads, finished
 use Rattle.route_judge.proofs.routes.measure_routes.Goals as goal
 
 pub measure_of_loads-requires-clause-table : goal.measure_of_loads-requires-clause-table
-measure_of_loads-requires-clause-table c =
+measure_of_loads-requires-clause-table g c =
     ap (length {A = ℕ}) c.as_slice.ensures.value ∙ c.finish-loads.ensures.long ∙ ap (λ s. 2 * vertices s) c.in_ok-sums.ensures.sums.sums_of.sized
 
 pub measure_of_loads-requires-clause-room : goal.measure_of_loads-requires-clause-room
-measure_of_loads-requires-clause-room c =
+measure_of_loads-requires-clause-room g c =
     let finished : AreFinished c.in_ok-sums.sums c.finish-loads.result.items = record { long = c.finish-loads.ensures.long; each = c.finish-loads.ensures.loads } in
     subst (λ (xs : List ℕ). (e : ℕ) → slice_index xs e ≤ max_routing_load) (sym c.as_slice.ensures.value)
-    (finished_limit c.args.design.now c.args.grounds.now c.args.blocks.now c.in_ok-sums.sums c.in_ok-sums.ensures.sums c.finish-loads.result.items finished)
+    (finished_limit c.args.design.now c.args.grounds.now (g.B.Blocks.list c.args.blocks) c.in_ok-sums.sums c.in_ok-sums.ensures.sums c.finish-loads.result.items finished)
 
 pub returns-clause-measured : goal.returns-clause-measured
-returns-clause-measured c =
+returns-clause-measured g c =
     let d = c.args.design.now in
     let of = c.in_ok-sums.ensures.sums in
     let finished : AreFinished c.in_ok-sums.sums c.finish-loads.result.items = record { long = c.finish-loads.ensures.long; each = c.finish-loads.ensures.loads } in
     let loaded = subst (λ (xs : List ℕ). (e : ℕ) → slice_index xs e ≡ load d.grid d.nets of.trees e) (sym c.as_slice.ensures.value)
-    (finished_loads d c.args.grounds.now c.args.blocks.now c.in_ok-sums.sums of c.finish-loads.result.items finished) in
+    (finished_loads d c.args.grounds.now (g.B.Blocks.list c.args.blocks) c.in_ok-sums.sums of c.finish-loads.result.items finished) in
     record {
       trees = of.trees;
       sets = of.sets;

@@ -7,9 +7,9 @@ use Rattle.route_judge.proofs.Found.{found_once, none_before, none_behind}
 use Rattle.route_judge.proofs.routes.trees_of.Goals as goal
 
 pub unreachable-requires : goal.unreachable-requires
-unreachable-requires c =
+unreachable-requires g c =
     let d = c.args.design.now in
-    let blocks = c.args.blocks.now in
+    let blocks = g.B.Blocks.list c.args.blocks in
     let objections = all_block_objections blocks in
     let reason = c.in-Err-Refused.field-0-0 in
     let found : Finds d objections (Some reason) = subst (StopsFor d objections) c.in-Err-Refused.field-0-is c.in-Err-Refused.ensures.stops in
@@ -17,10 +17,10 @@ unreachable-requires c =
     cc same
 
 pub returns-in-Ok-clause-sets : goal.returns-in-Ok-clause-sets
-returns-in-Ok-clause-sets c = all_sets c.args.design.now c.args.blocks.now c.in-Ok.sets.trees.items c.in-Ok.ensures.sets
+returns-in-Ok-clause-sets g c = all_sets c.args.design.now (g.B.Blocks.list c.args.blocks) c.in-Ok.sets.trees.items c.in-Ok.ensures.sets
 
 pub returns-in-Ok-clause-joining : goal.returns-in-Ok-clause-joining
-returns-in-Ok-clause-joining c =
+returns-in-Ok-clause-joining g c =
     let d = c.args.design.now in
-    let blocks = c.args.blocks.now in
+    let blocks = g.B.Blocks.list c.args.blocks in
     all_joining d blocks c.in-Ok.sets.trees.items c.in-Ok.ensures.sets (none_behind d (all_block_objections blocks) (map (missing_net blocks) d.nets) c.requires.routes)

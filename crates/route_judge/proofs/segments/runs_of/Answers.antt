@@ -1,6 +1,5 @@
-use Rattle.std.proofs.Common.{◌<◌, ◌≤◌, length, [], ⊎_elim, refl, ap, subst, arith}
+use Rattle.std.proofs.Common.{◌<◌, ◌≤◌, length, [], ⊎_elim, refl, arith}
 use Rattle.std.proofs.lemmas.Result.{err_from_is_err_and}
-use Rattle.route_text.specs.declared.segment.Segment.{Segment}
 use Rattle.route_judge.specs.Orders.{segment_objections}
 use Rattle.route_judge.proofs.Found.{none_numbered, stops_numbered, none_in_all, read_again}
 use Rattle.route_judge.proofs.OnSegments.{IsOnSome, none_on, one_more_segment, all_put, held_where_put}
@@ -12,31 +11,31 @@ loop-i-init c = rw c.new-runs.ensures.items (record { clear = refl; put = none_o
 pub returns-in_err-add_segment-clause-stops : goal.returns-in_err-add_segment-clause-stops
 returns-in_err-add_segment-clause-stops c =
     let exit = err_from_is_err_and c.from_residual.result c.from_residual.ensures.1 in
-    let segments = c.args.block.now.segments in
-    let below : c.loop-i.i < length segments = subst (λ xs. c.loop-i.i < length xs) c.list-segments.ensures c.loop-i-test.true in
-    rw (exit.1, exit.2) (stops_numbered c.args.design.now (segment_objections c.args.number) segments _ c.loop-i.i _ c.in_err-add_segment.field-0.0 c.list-segments.ensures below c.loop-i.invariant.clear c.in_err-add_segment.ensures.stops)
+    let segments = c.args.block.now.segments.now in
+    let below : c.loop-i.i < length segments = c.loop-i-test.true in
+    rw (exit.1, exit.2) (stops_numbered c.args.design.now (segment_objections c.args.number) segments _ c.loop-i.i _ c.in_err-add_segment.field-0.0 refl below c.loop-i.invariant.clear c.in_err-add_segment.ensures.stops)
 
 pub loop-i-preserved : goal.loop-i-preserved
 loop-i-preserved c =
     let g = c.args.design.now.grid in
-    let segments = c.args.block.now.segments in
-    let below : c.loop-i.i < length segments = subst (λ xs. c.loop-i.i < length xs) c.list-segments.ensures c.loop-i-test.true in
+    let segments = c.args.block.now.segments.now in
+    let below : c.loop-i.i < length segments = c.loop-i-test.true in
     record {
-      clear = none_numbered c.args.design.now (segment_objections c.args.number) segments _ c.loop-i.i _ c.list-segments.ensures below c.loop-i.invariant.clear c.in_ok-add_segment.ensures.stops;
-      put = one_more_segment g segments c.loop-i.i _ [] c.loop-i.runs.items c.add_segment.new.runs.items below (read_again segments _ c.loop-i.i _ c.list-segments.ensures below) c.loop-i.invariant.put c.in_ok-add_segment.ensures.put;
+      clear = none_numbered c.args.design.now (segment_objections c.args.number) segments _ c.loop-i.i _ refl below c.loop-i.invariant.clear c.in_ok-add_segment.ensures.stops;
+      put = one_more_segment g segments c.loop-i.i _ [] c.loop-i.runs.items c.add_segment.new.runs.items below (read_again segments _ c.loop-i.i _ refl below) c.loop-i.invariant.put c.in_ok-add_segment.ensures.put;
     }
 
 pub returns-clause-stops : goal.returns-clause-stops
 returns-clause-stops c =
-    let segments = c.args.block.now.segments in
-    let all : length segments ≤ c.loop-i.i = omega (arith, ap (length {A = Segment}) c.list-segments.ensures) in
+    let segments = c.args.block.now.segments.now in
+    let all : length segments ≤ c.loop-i.i = omega arith in
     none_in_all c.args.design.now (segment_objections c.args.number) segments c.loop-i.i all c.loop-i.invariant.clear
 
 pub returns-clause-named : goal.returns-clause-named
 returns-clause-named c =
     let g = c.args.design.now.grid in
-    let segments = c.args.block.now.segments in
-    let all : length segments ≤ c.loop-i.i = omega (arith, ap (length {A = Segment}) c.list-segments.ensures) in
+    let segments = c.args.block.now.segments.now in
+    let all : length segments ≤ c.loop-i.i = omega arith in
     held_where_put g (IsOnSome g segments) c.loop-i.runs.items (all_put g segments c.loop-i.i c.loop-i.runs.items all c.loop-i.invariant.put)
 
 pub returns-clause-runs : goal.returns-clause-runs

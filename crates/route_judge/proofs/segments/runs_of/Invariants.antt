@@ -10,6 +10,6 @@ use Rattle.route_judge.proofs.segments.runs_of.Given as goal
 -- nothing is objected to the segments so far, and their pieces were put
 abbrev pub invariant-loop-i : goal.invariant-loop-i
 invariant-loop-i l = record {
-  clear : Finds l.design (flat_map (segment_objections l.number) (take l.i (enumerate_from 0 l.block.segments))) None;
-  put : ArePut l.design.grid (IsOnSome l.design.grid (take l.i l.block.segments)) [] l.runs.items;
+  clear : Finds l.design (flat_map (segment_objections l.number) (take l.i (enumerate_from 0 l.block.segments.now))) None;
+  put : ArePut l.design.grid (IsOnSome l.design.grid (take l.i l.block.segments.now)) [] l.runs.items;
 }
