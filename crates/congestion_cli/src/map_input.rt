@@ -38,8 +38,8 @@ pub(crate) fn read_map_input<D: Desk>(
     request: &MapRequest<'_>,
 ) -> Result<MapInput, Refusal>
     ensures are_read { IfOk result (λ r. AreReadRoutes request.now.input.now request.now.routes.now (D.told desk.old)
-        r.routed.grounded.design r.routed.grounded.grounds.items r.routed.blocks.items) }
-    ensures judged { IfOk result (λ r. AreBlocks r.routed.blocks.items) }
+        r.routed.grounded.design r.routed.grounded.grounds.items r.routed.blocks) }
+    ensures judged { IfOk result (λ r. AreBlocks r.routed.blocks) }
     ensures cert { IfOk result (λ r. IsCutRead (cut_of (map_task_of request.now).form) (D.told desk.old) r.cert) }
     ensures reads { ReadsSources (map_sources (map_task_of request.now)) (D.told desk.old) (D.told desk.new) result }
 {

@@ -83,15 +83,15 @@ pub(crate) fn outcome_of(
 ) -> Result<Outcome, NoMemory>
     requires layer { IfSome request.now.layer IsLayerNumber }
     requires grounds { AreGrounds input.routed.grounded.design.grid input.routed.grounded.design.nets input.routed.grounded.grounds.items }
-    requires blocks { AreBlocks input.routed.blocks.items }
+    requires blocks { AreBlocks input.routed.blocks }
     ensures drawable { IfOk result IsDrawableOutcome }
-    ensures outcome { IfOk result (IsOutcomeOf (map_task_of request.now) input.routed.grounded.design input.routed.grounded.grounds.items input.routed.blocks.items input.cert) }
+    ensures outcome { IfOk result (IsOutcomeOf (map_task_of request.now) input.routed.grounded.design input.routed.grounded.grounds.items input.routed.blocks input.cert) }
 {
     let MapInput { routed, cert } = input;
     let RoutedInput { grounded, blocks } = routed;
     let GroundedDesign { design, grounds } = grounded;
     let grounds = grounds.as_slice();
-    match judge_routes(alloc, &design, grounds, blocks.as_slice())? {
+    match judge_routes(alloc, &design, grounds, &blocks)? {
         Checked::No(reason) => Ok(Outcome::Objected(reason)),
         Checked::Yes { measure, beyond } => {
             match wrong_prices(&design, &cert) {
@@ -108,7 +108,7 @@ pub(crate) fn outcome_of(
                 Ok(shown) => shown,
                 Err(missing) => return Ok(Outcome::NoLayer(missing)),
             };
-            let loads = loads_of(alloc, &design, grounds, blocks.as_slice())?;
+            let loads = loads_of(alloc, &design, grounds, &blocks)?;
             let drawing = drawing_of(alloc, design, loads, shown, request.form, &cert, measure)?;
             Ok(Outcome::Drawn { drawing, report })
         }

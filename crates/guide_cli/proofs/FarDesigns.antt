@@ -121,7 +121,7 @@ input-read input routes a b c r near read =
     sources-then (design_source input) (record { port = RoutesIn; name = routes } ∷ []) (Ok tt) (in-apart input routes) near (sources-passed tt read)
 
 pub is-read : (input routes : List ℕ) (a b : Told) (r : RoutedInput) → HasNear input a r.grounded → ReadsNear input a b (Ok (Near r.grounded))
-    → HasBytes b.files routes (λ bytes. blocks_or_refusal bytes ≡ Ok r.blocks.items) → AreBlocks r.blocks.items → IsReadInput input routes a (inputs.Routes r)
+    → HasBytes b.files routes (λ bytes. blocks_or_refusal bytes ≡ Ok r.blocks) → AreBlocks r.blocks → IsReadInput input routes a (inputs.Routes r)
 is-read input routes a b r has near blocks judged = (
   record { named = named_of input a r.grounded has; grounds = has.is_so.1; blocks_are = has-since near.reads.files blocks },
   judged,

@@ -43,7 +43,7 @@ ReadsNear name before after (Err r) = ReadsSources {T = Unit {0}} (design_source
 -- a near design and routes, or a design that is not near: those that the bytes of the two files say
 abbrev pub IsReadInput : List ℕ → List ℕ → Told → GuidedInput → Type 0
 IsReadInput input routes told (inputs.Routes r) =
-    AreReadRoutes input routes told r.grounded.design r.grounded.grounds.items r.blocks.items × AreBlocks r.blocks.items × HasBordersInRange r.grounded.design.grid
+    AreReadRoutes input routes told r.grounded.design r.grounded.grounds.items r.blocks × AreBlocks r.blocks × HasBordersInRange r.grounded.design.grid
 IsReadInput input routes told inputs.Far = HasBytes told.files input NamesFarDesign
 
 -- both were read, or the step was refused; behind a design that is not near nothing is read, and that is no refusal

@@ -54,9 +54,9 @@ fn finish<D: Desk>(desk: &mut D, request: &GuideRequest<'_>, guided: &GuidedRout
 /// What comes of routes.
 fn answer_on(alloc: Global, read: &RoutedInput) -> Result<GuideAnswer, NoMemory>
     requires grounds { AreGrounds read.now.grounded.design.grid read.now.grounded.design.nets read.now.grounded.grounds.items }
-    requires blocks { AreBlocks read.now.blocks.items }
+    requires blocks { AreBlocks read.now.blocks }
     requires near { HasBordersInRange read.now.grounded.design.grid }
-    ensures { IfOk result (IsTrueOfGuides read.now.grounded.design read.now.grounded.grounds.items read.now.blocks.items) }
+    ensures { IfOk result (IsTrueOfGuides read.now.grounded.design read.now.grounded.grounds.items read.now.blocks) }
 {
     match answer_on_routes(alloc, read)? {
         Answer::Measured(report) => {
@@ -70,12 +70,12 @@ fn answer_on(alloc: Global, read: &RoutedInput) -> Result<GuideAnswer, NoMemory>
 
 /// The guides of routes.
 fn guides_on(alloc: Global, read: &RoutedInput) -> Result<Vec<Guide>, NoMemory>
-    requires blocks { AreBlocks read.now.blocks.items }
-    requires routes { AreRoutes read.now.grounded.design read.now.blocks.items }
+    requires blocks { AreBlocks read.now.blocks }
+    requires routes { AreRoutes read.now.grounded.design read.now.blocks }
     requires near { HasBordersInRange read.now.grounded.design.grid }
-    ensures { IfOk result (λ guides. AreGuidesOfBlocks read.now.grounded.design read.now.blocks.items guides.items) }
+    ensures { IfOk result (λ guides. AreGuidesOfBlocks read.now.grounded.design read.now.blocks guides.items) }
 {
     let design = &read.grounded.design;
-    let trees = trees_of(alloc, design, read.blocks.as_slice())?;
+    let trees = trees_of(alloc, design, &read.blocks)?;
     guides_of(alloc, design, trees.as_slice())
 }

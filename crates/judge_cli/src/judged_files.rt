@@ -15,17 +15,17 @@ use crate::routed_input::RoutedInput;
 use cert_text::{Cert, read_cert};
 use command_runs::{Refusal, read_grounded, read_source};
 use gr_desk::{Desk, Port};
-use route_text::{Block, read_routes};
+use route_text::{BlockList, read_block_list};
 use std::alloc::Global;
 
 /// The blocks of the route text under the name.
-pub fn read_blocks<D: Desk>(alloc: Global, desk: &mut D, name: &str) -> Result<Vec<Block>, Refusal>
-    ensures blocks { IfOk result (λ v. HasBytes (D.told desk.old).files name.now (λ bytes. blocks_or_refusal bytes ≡ Ok v.items)) }
-    ensures judged { IfOk result (λ v. AreBlocks v.items) }
+pub fn read_blocks<D: Desk>(alloc: Global, desk: &mut D, name: &str) -> Result<BlockList, Refusal>
+    ensures blocks { IfOk result (λ v. HasBytes (D.told desk.old).files name.now (λ bytes. blocks_or_refusal bytes ≡ Ok v)) }
+    ensures judged { IfOk result AreBlocks }
     ensures reads { ReadsSources (record { port = RoutesIn; name = name.now } ∷ []) (D.told desk.old) (D.told desk.new) result }
 {
     let bytes = read_source(alloc, desk, Port::RoutesIn, name)?;
-    Ok(read_routes(alloc, bytes.as_slice())?)
+    Ok(read_block_list(alloc, bytes.as_slice())?)
 }
 
 /// The certificate under the name.
@@ -45,8 +45,8 @@ pub fn read_routed<D: Desk>(
     input: &str,
     routes: &str,
 ) -> Result<RoutedInput, Refusal>
-    ensures are_read { IfOk result (λ r. AreReadRoutes input.now routes.now (D.told desk.old) r.grounded.design r.grounded.grounds.items r.blocks.items) }
-    ensures judged { IfOk result (λ r. AreBlocks r.blocks.items) }
+    ensures are_read { IfOk result (λ r. AreReadRoutes input.now routes.now (D.told desk.old) r.grounded.design r.grounded.grounds.items r.blocks) }
+    ensures judged { IfOk result (λ r. AreBlocks r.blocks) }
     ensures reads { ReadsSources (measure_sources (record { input = input.now; routes = routes.now })) (D.told desk.old) (D.told desk.new) result }
 {
     let grounded = read_grounded(alloc, desk, input)?;
@@ -63,8 +63,8 @@ pub fn read_certified<D: Desk>(
     certificate: &str,
 ) -> Result<CertifiedInput, Refusal>
     ensures are_read { IfOk result (λ r. AreReadRoutes input.now routes.now (D.told desk.old)
-        r.routed.grounded.design r.routed.grounded.grounds.items r.routed.blocks.items) }
-    ensures judged { IfOk result (λ r. AreBlocks r.routed.blocks.items) }
+        r.routed.grounded.design r.routed.grounded.grounds.items r.routed.blocks) }
+    ensures judged { IfOk result (λ r. AreBlocks r.routed.blocks) }
     ensures cert { IfOk result (λ r. IsReadCert certificate.now (D.told desk.old) r.cert) }
     ensures limits { IfOk result (λ r. IsCertWithin r.cert) }
     ensures reads { ReadsSources (judge_sources (record { input = input.now; routes = routes.now; cert = certificate.now })) (D.told desk.old) (D.told desk.new) result }

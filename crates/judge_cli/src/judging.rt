@@ -49,13 +49,13 @@ fn answer_on_cert<R: Threads + Sync>(
     read: &CertifiedInput,
 ) -> Result<Answer, NoMemory>
     requires grounds { AreGrounds read.now.routed.grounded.design.grid read.now.routed.grounded.design.nets read.now.routed.grounded.grounds.items }
-    requires blocks { AreBlocks read.now.routed.blocks.items }
+    requires blocks { AreBlocks read.now.routed.blocks }
     requires cert { IsCertWithin read.now.cert }
-    ensures { IfOk result (IsTrueOfCert read.now.routed.grounded.design read.now.routed.grounded.grounds.items read.now.routed.blocks.items read.now.cert) }
+    ensures { IfOk result (IsTrueOfCert read.now.routed.grounded.design read.now.routed.grounded.grounds.items read.now.routed.blocks read.now.cert) }
 {
     let grounded = &read.routed.grounded;
     let grounds = grounded.grounds.as_slice();
-    let blocks = read.routed.blocks.as_slice();
+    let blocks = &read.routed.blocks;
     match route_judge::judge(rt, alloc, &grounded.design, grounds, blocks, &read.cert)? {
         Verdict::Yes { measure, beyond } => Ok(Answer::Yes {
             report: report_of(grounded, measure, beyond),

@@ -34,16 +34,11 @@ pub fn measure<D: Desk>(alloc: Global, request: &MeasureRequest<'_>, desk: &mut 
 /// What is said of routes: what they measure, or the first reason against them.
 pub fn answer_on_routes(alloc: Global, read: &RoutedInput) -> Result<Answer, NoMemory>
     requires grounds { AreGrounds read.now.grounded.design.grid read.now.grounded.design.nets read.now.grounded.grounds.items }
-    requires blocks { AreBlocks read.now.blocks.items }
-    ensures { IfOk result (IsTrueOfRoutes read.now.grounded.design read.now.grounded.grounds.items read.now.blocks.items) }
+    requires blocks { AreBlocks read.now.blocks }
+    ensures { IfOk result (IsTrueOfRoutes read.now.grounded.design read.now.grounded.grounds.items read.now.blocks) }
 {
     let grounds = read.grounded.grounds.as_slice();
-    match judge_routes(
-        alloc,
-        &read.grounded.design,
-        grounds,
-        read.blocks.as_slice(),
-    )? {
+    match judge_routes(alloc, &read.grounded.design, grounds, &read.blocks)? {
         Checked::Yes { measure, beyond } => {
             Ok(Answer::Measured(report_of(&read.grounded, measure, beyond)))
         }

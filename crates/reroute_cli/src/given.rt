@@ -11,6 +11,7 @@ use command_runs::{Refusal, read_grounded};
 use command_words::RerouteRequest;
 use gr_desk::Desk;
 use judge_cli::{RoutedInput, read_routed};
+use route_text::BlockList;
 use std::alloc::Global;
 
 /// The design, and the given routes behind it, if there are any: no blocks where there are none.
@@ -20,8 +21,8 @@ pub(crate) fn read_given<D: Desk>(
     request: &RerouteRequest<'_>,
 ) -> Result<RoutedInput, Refusal>
     ensures are_read { IfOk result (λ r. AreRead request.now.input.now (reroute_task_of request.now).routes (D.told desk.old)
-        r.grounded.design r.grounded.grounds.items r.blocks.items) }
-    ensures judged { IfOk result (λ r. AreBlocks r.blocks.items) }
+        r.grounded.design r.grounded.grounds.items r.blocks) }
+    ensures judged { IfOk result (λ r. AreBlocks r.blocks) }
     ensures reads { ReadsSources (reroute_sources request.now.input.now (reroute_task_of request.now).routes) (D.told desk.old) (D.told desk.new) result }
 {
     match request.routes {
@@ -32,11 +33,11 @@ pub(crate) fn read_given<D: Desk>(
 
 /// The design, without routes.
 fn read_alone<D: Desk>(alloc: Global, desk: &mut D, input: &str) -> Result<RoutedInput, Refusal>
-    ensures are_read { IfOk result (λ r. AreRead input.now None (D.told desk.old) r.grounded.design r.grounded.grounds.items r.blocks.items) }
-    ensures judged { IfOk result (λ r. AreBlocks r.blocks.items) }
+    ensures are_read { IfOk result (λ r. AreRead input.now None (D.told desk.old) r.grounded.design r.grounded.grounds.items r.blocks) }
+    ensures judged { IfOk result (λ r. AreBlocks r.blocks) }
     ensures reads { ReadsSources (reroute_sources input.now None) (D.told desk.old) (D.told desk.new) result }
 {
     let grounded = read_grounded(alloc, desk, input)?;
-    let blocks = Vec::new(alloc);
+    let blocks = BlockList::none(alloc);
     Ok(RoutedInput { grounded, blocks })
 }

@@ -30,12 +30,12 @@ pub(crate) fn outcome_of<R: Threads + Sync>(
     settings: &RerouteSettings,
 ) -> Result<Outcome, NoMemory>
     requires grounds { AreGrounds input.grounded.design.grid input.grounded.design.nets input.grounded.grounds.items }
-    requires blocks { AreBlocks input.blocks.items }
+    requires blocks { AreBlocks input.blocks }
     requires settings { AreRerouteSettings settings.now }
-    ensures { IfOk result (IsReroutedOr input.grounded.design input.grounded.grounds.items input.blocks.items settings.now) }
+    ensures { IfOk result (IsReroutedOr input.grounded.design input.grounded.grounds.items input.blocks settings.now) }
 {
     let RoutedInput { grounded, blocks } = input;
-    match sets_of_blocks(alloc, &grounded.design, blocks.as_slice())? {
+    match sets_of_blocks(alloc, &grounded.design, &blocks)? {
         CheckedBlocks::Yes(given) => {
             let new = new_routes_of(rt, alloc, grounded, given, settings)?;
             Ok(Outcome::Rerouted(new))

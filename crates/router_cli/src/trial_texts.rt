@@ -24,7 +24,7 @@ use gr_desk::{MemDesk, Port};
 use gr_make::Shape;
 use grid_graph::Ground;
 use route_judge::{Verdict, judge};
-use route_text::{Block, read_routes};
+use route_text::{BlockList, read_block_list};
 use std::alloc::Global;
 use std::thread::Threads;
 
@@ -43,11 +43,11 @@ pub(crate) fn made_design(alloc: Global, seed: u64, shape: Shape) -> Result<Grou
 }
 
 /// The blocks that are read of the routes' text.
-fn read_back_routes(alloc: Global, routed: &RoutedDesign) -> Result<Vec<Block>, Refusal>
+fn read_back_routes(alloc: Global, routed: &RoutedDesign) -> Result<BlockList, Refusal>
     requires one_each { length routed.now.trees ≡ length routed.now.design.nets }
     requires pieces { All (ArePieces (size_of routed.now.design.grid)) routed.now.trees }
     requires read { (blocks : List Block) × (blocks_of (routes_text routed.now.design.grid routed.now.design.nets routed.now.trees) ≡ Ok blocks) }
-    ensures blocks { IfOk result (λ v. blocks_of (routes_text routed.now.design.grid routed.now.design.nets routed.now.trees) ≡ Ok v.items) }
+    ensures blocks { IfOk result (λ v. blocks_of (routes_text routed.now.design.grid routed.now.design.nets routed.now.trees) ≡ Ok v) }
     ensures refused { (r : Refusal) → IsErrOf result r → r ≡ Refusal.NoMemory }
 {
     let mut inner = MemDesk::new(alloc, Vec::new(alloc), Vec::new(alloc));
@@ -55,7 +55,7 @@ fn read_back_routes(alloc: Global, routed: &RoutedDesign) -> Result<Vec<Block>, 
     if make_routes(&mut inner, "routes", &routed.design, trees).is_err() {
         return Err(Refusal::NoMemory);
     }
-    Ok(read_routes(alloc, inner.written(Port::RoutesOut))?)
+    Ok(read_block_list(alloc, inner.written(Port::RoutesOut))?)
 }
 
 /// The certificate that is read of its text.
@@ -87,7 +87,7 @@ pub(crate) fn judge_texts<R: Threads + Sync>(
 {
     let blocks = read_back_routes(alloc, routed)?;
     let cert = read_back_cert(alloc, &routed.cert)?;
-    match judge(rt, alloc, &routed.design, grounds, blocks.as_slice(), &cert)? {
+    match judge(rt, alloc, &routed.design, grounds, &blocks, &cert)? {
         Verdict::Yes { .. } => Ok(()),
         Verdict::No(_) => unreachable!(),
     }

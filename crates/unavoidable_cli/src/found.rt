@@ -21,7 +21,7 @@ use grid_base::NoMemory;
 use grid_graph::{Design, Ground};
 use hot_cuts::{HotCuts, hot_cuts};
 use route_judge::loads_of;
-use route_text::Block;
+use route_text::BlockList;
 use std::alloc::Global;
 use std::thread::Threads;
 
@@ -33,7 +33,7 @@ fn cuts_of(
     alloc: Global,
     design: &Design,
     grounds: &[Ground],
-    blocks: &[Block],
+    blocks: &BlockList,
 ) -> Result<HotCuts, NoMemory>
     requires grounds { AreGrounds design.now.grid design.now.nets grounds.now }
     requires blocks { AreBlocks blocks.now }
@@ -62,7 +62,7 @@ pub(crate) fn finding_of<R: Threads + Sync>(
     rt: &R,
     alloc: Global,
     grounded: GroundedDesign,
-    blocks: &[Block],
+    blocks: &BlockList,
     cert: Cert,
     overflow: u64,
 ) -> Result<Finding, NoMemory>

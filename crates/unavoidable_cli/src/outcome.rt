@@ -28,17 +28,16 @@ pub(crate) fn outcome_of<R: Threads + Sync>(
     input: CertifiedInput,
 ) -> Result<Outcome, NoMemory>
     requires grounds { AreGrounds input.routed.grounded.design.grid input.routed.grounded.design.nets input.routed.grounded.grounds.items }
-    requires blocks { AreBlocks input.routed.blocks.items }
+    requires blocks { AreBlocks input.routed.blocks }
     requires cert { IsCertWithin input.cert }
-    ensures { IfOk result (IsOutcomeOf input.routed.grounded.design input.routed.grounded.grounds.items input.routed.blocks.items input.cert) }
+    ensures { IfOk result (IsOutcomeOf input.routed.grounded.design input.routed.grounded.grounds.items input.routed.blocks input.cert) }
 {
     let CertifiedInput { routed, cert } = input;
     let RoutedInput { grounded, blocks } = routed;
     let grounds = grounded.grounds.as_slice();
-    let text = blocks.as_slice();
-    match judge(rt, alloc, &grounded.design, grounds, text, &cert)? {
+    match judge(rt, alloc, &grounded.design, grounds, &blocks, &cert)? {
         Verdict::Yes { measure, .. } => {
-            let finding = finding_of(rt, alloc, grounded, text, cert, measure.overflow)?;
+            let finding = finding_of(rt, alloc, grounded, &blocks, cert, measure.overflow)?;
             Ok(Outcome::Found(finding))
         }
         Verdict::No(reason) => Ok(Outcome::Objected(reason)),

@@ -26,7 +26,7 @@ returns-in-Ok-Drawn g c =
     (record {
       design = r.routed.grounded.design;
       grounds = r.routed.grounded.grounds.items;
-      blocks = r.routed.blocks.items;
+      blocks = r.routed.blocks;
       cert = r.cert;
       are_read = read.are_read;
       cert_read = read.cert;
@@ -45,7 +45,7 @@ returns-in-Ok-Objected g c =
     (record {
       design = r.routed.grounded.design;
       grounds = r.routed.grounded.grounds.items;
-      blocks = r.routed.blocks.items;
+      blocks = r.routed.blocks;
       cert = r.cert;
       are_read = read.are_read;
       cert_read = read.cert;
@@ -64,7 +64,7 @@ returns-in-Ok-NoLayer g c =
     (record {
       design = r.routed.grounded.design;
       grounds = r.routed.grounded.grounds.items;
-      blocks = r.routed.blocks.items;
+      blocks = r.routed.blocks;
       cert = r.cert;
       are_read = read.are_read;
       cert_read = read.cert;

@@ -41,7 +41,7 @@ returns-in-Ok-Guided g c =
             record {
               design = d;
               grounds = r.grounded.grounds.items;
-              blocks = r.blocks.items;
+              blocks = r.blocks;
               are_read = read.0;
               near = read.2;
               is_true = rw c.in-Ok-Guided.field-0-is at c.in-Ok-Guided.ensures;
@@ -71,7 +71,7 @@ returns-in-Ok-No g c =
             record {
               design = d;
               grounds = r.grounded.grounds.items;
-              blocks = r.blocks.items;
+              blocks = r.blocks;
               are_read = read.0;
               near = read.2;
               is_true = rw c.in-Ok-No.field-0-is at c.in-Ok-No.ensures;

@@ -7,30 +7,23 @@ use Rattle.guide_cli.specs.GuideRun.{AreGuidesOfBlocks}
 use Rattle.guide_cli.proofs.Sets.{sets_are_pieces}
 use Rattle.guide_cli.proofs.guiding.guides_on.Goals as goal
 
-pub trees_of-requires-clause-blocks : goal.trees_of-requires-clause-blocks
-trees_of-requires-clause-blocks c = rw c.as_slice.ensures.value c.requires.blocks
-
-pub trees_of-requires-clause-routes : goal.trees_of-requires-clause-routes
-trees_of-requires-clause-routes c = rw c.as_slice.ensures.value c.requires.routes
-
 pub guides_of-requires-clause-one_each : goal.guides_of-requires-clause-one_each
 guides_of-requires-clause-one_each c =
     let d = c.args.read.now.grounded.design in
-    let blocks = c.args.read.now.blocks.items in
-    let sets = rw c.as_slice.ensures.value at c.in_ok-trees.ensures.sets in
-    rw c.as_slice-2.ensures.value (AllZip-long (IsSetOfNet d.grid blocks) d.nets c.in_ok-trees.trees.items sets)
+    let blocks = c.args.read.now.blocks in
+    rw c.as_slice.ensures.value (AllZip-long (IsSetOfNet d.grid blocks) d.nets c.in_ok-trees.trees.items c.in_ok-trees.ensures.sets)
 
 pub guides_of-requires-clause-pieces : goal.guides_of-requires-clause-pieces
 guides_of-requires-clause-pieces c =
     let d = c.args.read.now.grounded.design in
-    let blocks = c.args.read.now.blocks.items in
-    rw c.as_slice-2.ensures.value (sets_are_pieces d.grid blocks d.nets c.in_ok-trees.trees.items (rw c.as_slice.ensures.value at c.in_ok-trees.ensures.sets))
+    let blocks = c.args.read.now.blocks in
+    rw c.as_slice.ensures.value (sets_are_pieces d.grid blocks d.nets c.in_ok-trees.trees.items c.in_ok-trees.ensures.sets)
 
 pub returns : goal.returns
 returns c =
     let d = c.args.read.now.grounded.design in
-    let blocks = c.args.read.now.blocks.items in
+    let blocks = c.args.read.now.blocks in
     let trees = c.in_ok-trees.trees.items in
     IfOk-weaker c.guides_of.result (λ guides. AreGuidesOf d.grid d.nets trees guides.items) (λ guides. AreGuidesOfBlocks d blocks guides.items)
-    (λ guides are. record { trees = trees; sets = rw c.as_slice.ensures.value at c.in_ok-trees.ensures.sets; are_guides = are })
-    (rw c.as_slice-2.ensures.value at c.guides_of.ensures)
+    (λ guides are. record { trees = trees; sets = c.in_ok-trees.ensures.sets; are_guides = are })
+    (rw c.as_slice.ensures.value at c.guides_of.ensures)

@@ -1,5 +1,5 @@
 use Rattle.std.proofs.Common.{[], ◌∷◌}
-use Rattle.gr_desk.specs.declared.port.Port.TheVariants.{In, RoutesIn}
+use Rattle.gr_desk.specs.declared.port.Port.TheVariants.{RoutesIn}
 use Rattle.command_runs.specs.Sources.{design_source}
 use Rattle.command_runs.proofs.Bytes.{has-since}
 use Rattle.command_runs.proofs.ReadFiles.{sources-early, sources-failed, sources-passed, sources-then}

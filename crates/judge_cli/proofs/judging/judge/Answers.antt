@@ -23,7 +23,7 @@ returns-in-Ok-answer_on_cert g c =
       record {
         design = r.routed.grounded.design;
         grounds = r.routed.grounded.grounds.items;
-        blocks = r.routed.blocks.items;
+        blocks = r.routed.blocks;
         cert = r.cert;
         are_read = read.are_read;
         cert_read = read.cert;

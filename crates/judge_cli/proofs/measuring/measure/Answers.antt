@@ -23,7 +23,7 @@ returns-in-Ok-answer_on_routes g c =
       record {
         design = r.grounded.design;
         grounds = r.grounded.grounds.items;
-        blocks = r.blocks.items;
+        blocks = r.blocks;
         are_read = read.are_read;
         is_true = c.in-Ok-answer_on_routes.ensures;
       },

@@ -9,4 +9,4 @@ pub returns-clause-reads : goal.returns-clause-reads
 returns-clause-reads g c = sources-passed _ c.in_ok-grounded.ensures.reads
 
 pub returns-clause-are_read : goal.returns-clause-are_read
-returns-clause-are_read g c = (c.in_ok-grounded.ensures.named, c.in_ok-grounded.ensures.grounds, c.new-blocks.ensures.items)
+returns-clause-are_read g c = (c.in_ok-grounded.ensures.named, c.in_ok-grounded.ensures.grounds, c.none-blocks.ensures)

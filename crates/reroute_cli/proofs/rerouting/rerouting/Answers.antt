@@ -17,7 +17,7 @@ pub finish-requires : goal.finish-requires
 finish-requires g c =
     let r = c.in-Ok.read in
     let new = c.in-Ok-Rerouted.new in
-    let is : IsReroutedOr r.grounded.design r.grounded.grounds.items r.blocks.items (reroute_settings_of (reroute_task_of c.args.request.now)) (Rerouted new) =
+    let is : IsReroutedOr r.grounded.design r.grounded.grounds.items r.blocks (reroute_settings_of (reroute_task_of c.args.request.now)) (Rerouted new) =
     rw (c.in-Ok-Rerouted.field-0-is, c.settings_of-settings.ensures.value) at c.in-Ok-Rerouted.ensures in
     let all = is.2 in
     subst (λ (d : Design). AreJoining d new.rerouted.trees) (sym is.0)
@@ -33,7 +33,7 @@ returns-in-Ok-Rerouted g c =
     (record {
       design = r.grounded.design;
       grounds = r.grounded.grounds.items;
-      blocks = r.blocks.items;
+      blocks = r.blocks;
       are_read = read.are_read;
       comes = rw (c.in-Ok-Rerouted.field-0-is, c.settings_of-settings.ensures.value) at c.in-Ok-Rerouted.ensures;
     })
@@ -50,7 +50,7 @@ returns-in-Ok-Objected g c =
     (record {
       design = r.grounded.design;
       grounds = r.grounded.grounds.items;
-      blocks = r.blocks.items;
+      blocks = r.blocks;
       are_read = read.are_read;
       comes = rw c.in-Ok-Objected.field-0-is at c.in-Ok-Objected.ensures;
     })

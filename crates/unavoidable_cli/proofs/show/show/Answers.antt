@@ -15,9 +15,9 @@ pub finish-requires : goal.finish-requires
 finish-requires g c =
     let r = c.in-Ok.read in
     let f = c.in-Ok-Found.finding in
-    let is : IsOutcomeOf r.routed.grounded.design r.routed.grounded.grounds.items r.routed.blocks.items r.cert (Found f) =
+    let is : IsOutcomeOf r.routed.grounded.design r.routed.grounded.grounds.items r.routed.blocks r.cert (Found f) =
     rw c.in-Ok-Found.field-0-is at c.in-Ok-Found.ensures in
-    finding_edges r.routed.grounded.grounds.items r.routed.blocks.items r.cert f is.2
+    finding_edges r.routed.grounded.grounds.items r.routed.blocks r.cert f is.2
 
 pub returns-in-Ok-Found : goal.returns-in-Ok-Found
 returns-in-Ok-Found g c =
@@ -29,7 +29,7 @@ returns-in-Ok-Found g c =
     (record {
       design = r.routed.grounded.design;
       grounds = r.routed.grounded.grounds.items;
-      blocks = r.routed.blocks.items;
+      blocks = r.routed.blocks;
       cert = r.cert;
       are_read = read.are_read;
       cert_read = read.cert;
@@ -48,7 +48,7 @@ returns-in-Ok-Objected g c =
     (record {
       design = r.routed.grounded.design;
       grounds = r.routed.grounded.grounds.items;
-      blocks = r.routed.blocks.items;
+      blocks = r.routed.blocks;
       cert = r.cert;
       are_read = read.are_read;
       cert_read = read.cert;
