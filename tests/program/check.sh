@@ -685,6 +685,15 @@ printf '%s\n' 'refused 8' >"$room/wanted"
 got=$?
 judge 'want of memory' 8
 
+# two million blocks in 12,000,000 bytes, within six times that
+yes 'a 0 !' | head -c 12000000 >"$room/blocks.routes"
+printf '%s\n' 'no 47 0' >"$room/wanted"
+# shellcheck disable=SC3045
+(ulimit -v 70000 && exec "$program" measure one_net.gr "$room/blocks.routes") </dev/null >"$room/said" 2>"$room/complained"
+got=$?
+judge 'blocks without segments take little memory' 1
+rm "$room/blocks.routes"
+
 # ---- the launchers
 
 # They stand beside the built programs here, which are newer than all else, so that nothing is left to prove.
