@@ -11,6 +11,10 @@
 //! let verdict = judge(&rt, alloc, &design, grounds.as_slice(), &blocks, &cert)?;
 //! let loads = loads_of(alloc, &design, grounds.as_slice(), &blocks)?;    // the edges' loads, of routes
 //! let trees = trees_of(alloc, &design, &blocks)?;    // and the nets' sets
+//! match judge_sets(alloc, &design, &blocks)? {       // judged and kept at once
+//!     CheckedSets::Yes(trees) => ..
+//!     CheckedSets::No(reason) => ..
+//! }
 //! match sets_of_blocks(alloc, &design, &blocks)? {   // where nets may lack a block
 //!     CheckedBlocks::Yes(sets) => ..            // the sets, and which nets need a block and have none
 //!     CheckedBlocks::No(reason) => ..
@@ -34,10 +38,12 @@ mod blocks;
 mod bounds;
 mod checked;
 mod checked_blocks;
+mod checked_sets;
 mod claims;
 mod counted;
 mod joining;
 mod judging;
+mod kept_sets;
 mod laws;
 mod lines;
 mod listing;
@@ -59,9 +65,11 @@ mod verdict;
 pub use block_sets::{BlockSets, sets_of_blocks};
 pub use checked::Checked;
 pub use checked_blocks::CheckedBlocks;
+pub use checked_sets::CheckedSets;
 pub use claims::{forced_count, open_count};
 pub use counted::Counted;
 pub use judging::judge;
+pub use kept_sets::judge_sets;
 pub use laws::{one_reason_is_found, short_texts_can_be_judged};
 pub use listing::listed_prices;
 pub use reason::Reason;
