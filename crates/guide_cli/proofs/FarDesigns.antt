@@ -1,6 +1,6 @@
 -- Designs that are not near, and what was read of them.
-use Rattle.std.proofs.Common.{◌≡◌, ◌*◌, ℕ, List, [], ◌∷◌, true≢false, refl, sym, ◌∙◌, ap, subst, Ok, Err, Some, inl, inr, ℤ, pos, ◌+ℤ◌, ◌≤ℤ◌, nat_abs}
-use Rattle.std.specs.Prelude.{◌⊎◌, Result, Option, IfOk, IsErrAnd, is_ok}
+use Rattle.std.proofs.Common.{◌≡◌, ◌*◌, ℕ, List, [], ◌∷◌, true≢false, refl, sym, ◌∙◌, ap, subst, Ok, Err, Some, inl, inr, pos, ◌+ℤ◌, ◌≤ℤ◌, nat_abs}
+use Rattle.std.specs.Prelude.{◌⊎◌, Result, IfOk, IsErrAnd, is_ok}
 use Rattle.gr_desk.specs.declared.port.Port.TheVariants.{In, RoutesIn}
 use Rattle.gr_desk.specs.Told.{Told}
 use Rattle.grid_base.specs.Numbers.{cols, rows}
@@ -15,13 +15,11 @@ use Rattle.command_runs.specs.declared.refusal.Refusal.{Refusal}
 use Rattle.command_runs.specs.declared.refusal.Refusal.TheVariants.{Input, Unread, NoMemory}
 use Rattle.command_runs.specs.Refusals.{IsCauseAt, IsRefusedAt}
 use Rattle.command_runs.specs.Sources.{HasBytes, IfTold, design_source}
-use Rattle.command_runs.specs.Steps.{IsBeforeText, IsRefusedFor, OnlyReads, ReadsFile, ReadsSources}
+use Rattle.command_runs.specs.Steps.{IsBeforeText, ReadsFile, ReadsSources}
 use Rattle.command_runs.proofs.Bytes.{of_told, has-since}
 use Rattle.command_runs.proofs.Causes.{design-accepted, design-refused}
-use Rattle.command_runs.proofs.ReadFiles.{error_of, file-failed, file-refused, file-text, sources-early, sources-failed, sources-passed, sources-then}
-use Rattle.judge_cli.specs.MeasureRun.{AreReadRoutes}
+use Rattle.command_runs.proofs.ReadFiles.{file-failed, file-refused, file-text, sources-early, sources-failed, sources-passed, sources-then}
 use Rattle.judge_cli.proofs.JudgedRuns.{in-apart}
-use Rattle.route_text.specs.declared.block.Block.{Block}
 use Rattle.command_runs.specs.JudgedTexts.{blocks_or_refusal}
 use Rattle.route_judge.specs.Limits.{AreBlocks}
 use Rattle.command_runs.specs.declared.grounded_design.GroundedDesign.{GroundedDesign}
@@ -30,7 +28,7 @@ use Rattle.guide_cli.specs.declared.near_design.NearDesign.{NearDesign}
 use Rattle.guide_cli.specs.declared.near_design.NearDesign.TheVariants.{Near, Far}
 use Rattle.guide_cli.specs.declared.guided_input.GuidedInput.{GuidedInput}
 use Rattle.guide_cli.specs.declared.guided_input.GuidedInput.TheVariants as inputs
-use Rattle.guide_cli.specs.NearDesigns.{NamesFarDesign, IsNearDesignOf, IsNotForFar, ReadsFar, ReadsNear, IsReadInput, ReadsInput}
+use Rattle.guide_cli.specs.NearDesigns.{NamesFarDesign, IsNearDesignOf, IsNotForFar, ReadsNear, IsReadInput, ReadsInput}
 
 -- designs of one text are near alike
 near_alike : (text : List ℕ) (d e : Design) → IsDesignOfText text d → IsDesignOfText text e → HasBordersInRange d.grid → HasBordersInRange e.grid

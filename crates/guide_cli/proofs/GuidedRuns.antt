@@ -1,12 +1,9 @@
 -- How a run of `guide` ends.
-use Rattle.std.proofs.Common.{◌≡◌, ℕ, List, [], ◌∷◌, ◌++◌, take, Contains, refl, sym, ◌∙◌, ap, subst, inl, inr, Some}
-use Rattle.std.specs.Prelude.{◌⊎◌}
-use Rattle.gr_desk.specs.declared.port.Port.{Port}
-use Rattle.gr_desk.specs.declared.port.Port.TheVariants.{In, GuideOut, Report}
+use Rattle.std.proofs.Common.{◌≡◌, ℕ, take, refl, ◌∙◌}
+use Rattle.gr_desk.specs.declared.port.Port.TheVariants.{GuideOut}
 use Rattle.gr_desk.specs.Told.{Told}
-use Rattle.command_runs.specs.CommandRun.{ExpectsNames}
 use Rattle.command_runs.specs.Saying.{TriesToSay}
-use Rattle.command_runs.specs.Sources.{HasBytes, Source, design_source, AreOrderlyOpens}
+use Rattle.command_runs.specs.Sources.{HasBytes, design_source, AreOrderlyOpens}
 use Rattle.command_runs.proofs.EndedRuns.{expected_opens}
 use Rattle.command_runs.proofs.FilePorts.{AreInputs, AreOutputs, report_not_read}
 use Rattle.command_runs.proofs.Traces.{none_in, gains-after_reads, failed-after_reads, touches-read, in_order-after_reads}

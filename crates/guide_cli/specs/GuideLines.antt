@@ -1,17 +1,17 @@
 -- What `guide` says and writes.
-use Rattle.std.specs.Prelude.{ℕ, List, [], ◌∷◌, ◌++◌, codes, false}
+use Rattle.std.specs.Prelude.{ℕ, List, [], ◌∷◌, codes, false, length}
 use Rattle.guide_text.specs.GuideText.{guides_text}
 use Rattle.command_runs.specs.CommandRun.{RunOutcome}
 use Rattle.command_runs.specs.Lines.{line}
 use Rattle.judge_cli.specs.declared.answer.Answer.TheVariants as answers
-use Rattle.judge_cli.specs.AnswerLines.{answer_outcome, routes_report_text}
+use Rattle.judge_cli.specs.AnswerLines.{answer_outcome}
 use Rattle.guide_cli.specs.declared.guide_answer.GuideAnswer.{GuideAnswer}
 use Rattle.guide_cli.specs.declared.guide_answer.GuideAnswer.TheVariants.{Guided, No}
 use Rattle.guide_cli.specs.declared.guided_routes.GuidedRoutes.{GuidedRoutes}
 
--- the lines of `measure`, and how many guides were written
+-- how many guides were written
 abbrev pub guided_text : GuidedRoutes → List ℕ
-guided_text guided = routes_report_text guided.report ++ line (codes "guides") (guided.report.nets ∷ [])
+guided_text guided = line (codes "guides") (length guided.guides.items ∷ [])
 
 -- what a run has to leave: the text of the guides, and these lines; or the reason against the routes
 abbrev pub guide_outcome : GuideAnswer → RunOutcome

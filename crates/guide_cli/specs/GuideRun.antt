@@ -1,5 +1,5 @@
 -- The promise of the command `guide`.
-use Rattle.std.specs.Prelude.{◌≡◌, ◌⊎◌, ◌++◌, ℕ, List, [], ◌∷◌, Some, None, slice_index_or}
+use Rattle.std.specs.Prelude.{◌≡◌, ◌⊎◌, ◌++◌, ℕ, List, [], ◌∷◌, Some, slice_index_or}
 use Rattle.command_words.specs.CommandLine.{names_in, guide_form}
 use Rattle.command_words.specs.declared.guide_request.GuideRequest.{GuideRequest}
 use Rattle.gr_desk.specs.declared.port.Port.TheVariants.{In, GuideOut}
@@ -20,7 +20,7 @@ use Rattle.command_runs.specs.CommandRun.{ExpectsNames}
 use Rattle.command_runs.specs.Lines.{status_of}
 use Rattle.command_runs.specs.Sources.{Source, HasBytes}
 use Rattle.command_runs.specs.Traces.{ReportsSince, TouchesOnly}
-use Rattle.judge_cli.specs.MeasureRun.{AreReadRoutes, IsReportOf, measure_sources}
+use Rattle.judge_cli.specs.MeasureRun.{AreReadRoutes, measure_sources}
 use Rattle.guide_cli.specs.declared.guide_answer.GuideAnswer.{GuideAnswer}
 use Rattle.guide_cli.specs.declared.guide_answer.GuideAnswer.TheVariants.{Guided, No}
 use Rattle.guide_cli.specs.GuideLines.{guide_outcome, far_status, far_line}
@@ -62,11 +62,11 @@ pub record AreGuidesOfBlocks (d : Design) (blocks : List Block) (guides : List G
   pub sets : AreSetsOf d blocks trees
   pub are_guides : AreGuidesOf d.grid d.nets trees guides
 
--- the answer is true of a design and of blocks: guides and a report of routes, where nothing can be objected to them, and else
--- the reason of the first objection that applies
-abbrev pub IsTrueOfGuides : Design → List Ground → List Block → GuideAnswer → Type 0
-IsTrueOfGuides d over blocks (Guided guided) = AreRoutes d blocks × IsReportOf d over blocks None guided.report × AreGuidesOfBlocks d blocks guided.guides.items
-IsTrueOfGuides d over blocks (No reason) = Finds d (route_objections d blocks) (Some reason)
+-- the answer is true of a design and of blocks: the guides of routes, where nothing can be objected to them, and else the reason
+-- of the first objection that applies
+abbrev pub IsTrueOfGuides : Design → List Block → GuideAnswer → Type 0
+IsTrueOfGuides d blocks (Guided guided) = AreRoutes d blocks × AreGuidesOfBlocks d blocks guided.guides.items
+IsTrueOfGuides d blocks (No reason) = Finds d (route_objections d blocks) (Some reason)
 
 -- the answer is true of what was read, and the design is near
 pub record IsGuideAnswer (q : GuideTask) (told : Told) (answer : GuideAnswer) : Type 0 where
@@ -75,7 +75,7 @@ pub record IsGuideAnswer (q : GuideTask) (told : Told) (answer : GuideAnswer) : 
   pub blocks : List Block
   pub are_read : AreReadRoutes q.input q.routes told design grounds blocks
   pub near : HasBordersInRange design.grid
-  pub is_true : IsTrueOfGuides design grounds blocks answer
+  pub is_true : IsTrueOfGuides design blocks answer
 
 -- ---- the promise
 

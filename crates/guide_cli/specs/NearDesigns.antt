@@ -1,6 +1,6 @@
 -- Designs by whether they are near: whether all borders of the grid are in the range of a design's numbers, so that a guide can
 -- hold them.
-use Rattle.std.specs.Prelude.{◌≡◌, ◌⊎◌, List, ℕ, Option, Some, Result, Ok, Err}
+use Rattle.std.specs.Prelude.{◌≡◌, ◌⊎◌, List, ℕ, Some, Result, Ok, Err}
 use Rattle.gr_desk.specs.Told.{Told}
 use Rattle.grid_graph.specs.declared.design.Design.{Design}
 use Rattle.grid_graph.specs.Borders.{HasBordersInRange}

@@ -1,14 +1,12 @@
 //! The command `guide`.
 
-ghost use Rattle.std.specs.Prelude.{◌≡◌, IfOk, length};
+ghost use Rattle.std.specs.Prelude.{IfOk};
 ghost use Rattle.grid_graph.specs.Borders.{HasBordersInRange};
-ghost use Rattle.grid_graph.specs.Grounds.{AreGrounds};
 ghost use Rattle.route_judge.specs.Limits.{AreBlocks};
-ghost use Rattle.route_judge.specs.Orders.{AreRoutes};
 ghost use Rattle.command_runs.specs.Saying.{Leaves};
 ghost use Rattle.guide_cli.specs.declared.guide_answer.GuideAnswer.TheVariants.{Guided};
 ghost use Rattle.guide_cli.specs.GuideLines.{guide_outcome};
-ghost use Rattle.guide_cli.specs.GuideRun.{AreGuidesOfBlocks, IsTrueOfGuides, IsGuideRun, guide_files, guide_task_of};
+ghost use Rattle.guide_cli.specs.GuideRun.{IsTrueOfGuides, IsGuideRun, guide_files, guide_task_of};
 
 use crate::far::refuse_far;
 use crate::guide_answer::GuideAnswer;
@@ -20,13 +18,13 @@ use command_runs::{Refusal, refuse, say, say_unwritten};
 use command_words::GuideRequest;
 use gr_desk::{Desk, Failed};
 use grid_base::NoMemory;
-use guide_text::{Guide, guides_of};
-use judge_cli::{Answer, RoutedInput, answer_on_routes};
-use route_judge::trees_of;
+use guide_text::guides_of;
+use judge_cli::{Answer, RoutedInput};
+use route_judge::{CheckedSets, judge_sets};
 use std::alloc::Global;
 
-/// Judges routes, writes their guides if they are accepted, says on the report what they measure, or why they are none, and
-/// answers the status.
+/// Judges routes, writes their guides if they are accepted, says on the report how many, or why they are no routes, and answers the
+/// status.
 pub fn guide<D: Desk>(alloc: Global, request: &GuideRequest<'_>, desk: &mut D) -> u8
     ensures { IsGuideRun (guide_task_of request.now) (D.told desk.old) (D.told desk.new) result }
 {
@@ -51,31 +49,18 @@ fn finish<D: Desk>(desk: &mut D, request: &GuideRequest<'_>, guided: &GuidedRout
     }
 }
 
-/// What comes of routes.
+/// What comes of routes: their guides, or the first reason against them.
 fn answer_on(alloc: Global, read: &RoutedInput) -> Result<GuideAnswer, NoMemory>
-    requires grounds { AreGrounds read.now.grounded.design.grid read.now.grounded.design.nets read.now.grounded.grounds.items }
     requires blocks { AreBlocks read.now.blocks }
     requires near { HasBordersInRange read.now.grounded.design.grid }
-    ensures { IfOk result (IsTrueOfGuides read.now.grounded.design read.now.grounded.grounds.items read.now.blocks) }
-{
-    match answer_on_routes(alloc, read)? {
-        Answer::Measured(report) => {
-            let guides = guides_on(alloc, read)?;
-            Ok(GuideAnswer::Guided(GuidedRoutes { report, guides }))
-        }
-        Answer::Yes { .. } => unreachable!(),
-        Answer::No(reason) => Ok(GuideAnswer::No(reason)),
-    }
-}
-
-/// The guides of routes.
-fn guides_on(alloc: Global, read: &RoutedInput) -> Result<Vec<Guide>, NoMemory>
-    requires blocks { AreBlocks read.now.blocks }
-    requires routes { AreRoutes read.now.grounded.design read.now.blocks }
-    requires near { HasBordersInRange read.now.grounded.design.grid }
-    ensures { IfOk result (λ guides. AreGuidesOfBlocks read.now.grounded.design read.now.blocks guides.items) }
+    ensures { IfOk result (IsTrueOfGuides read.now.grounded.design read.now.blocks) }
 {
     let design = &read.grounded.design;
-    let trees = trees_of(alloc, design, &read.blocks)?;
-    guides_of(alloc, design, trees.as_slice())
+    match judge_sets(alloc, design, &read.blocks)? {
+        CheckedSets::Yes(trees) => {
+            let guides = guides_of(alloc, design, trees.as_slice())?;
+            Ok(GuideAnswer::Guided(GuidedRoutes { guides }))
+        }
+        CheckedSets::No(reason) => Ok(GuideAnswer::No(reason)),
+    }
 }

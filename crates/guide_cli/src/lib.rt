@@ -2,12 +2,6 @@
 //!
 //! ```text
 //! let status = guide(alloc, &request, desk);    // guide one_net.gr one_net.routes one_net.guide
-//! // nets 1
-//! // forced 0
-//! // beyond 0
-//! // overflow 0
-//! // wirelength 2
-//! // peak 1/2
 //! // guides 1
 //! ```
 //!
@@ -17,7 +11,7 @@
 //!
 //! Promised, in the words of `specs/GuideRun.antt`: where the status is 0, nothing can be objected to the routes, and the file
 //! that was made holds the guides of these very routes; a design that is not near is refused with status 3, and no other one; and
-//! else a run ends as that of any command does.
+//! else a run ends as that of any command does. The text of the guides of a near design reads back, by the law of `laws.rt`.
 
 #![tactic(auto)]
 
@@ -27,7 +21,9 @@ mod guided_files;
 mod guided_input;
 mod guided_routes;
 mod guiding;
+mod laws;
 mod near_design;
 mod outputs;
 
 pub use guiding::guide;
+pub use laws::guides_of_designs_read_back;

@@ -19,11 +19,7 @@ use std::alloc::Global;
 use tree_set::Tree;
 
 /// The sets of routes. Stops at the first reason against them.
-fn sets_of_routes<B: Blocks>(
-    alloc: Global,
-    design: &Design,
-    blocks: B,
-) -> Result<Vec<Tree>, Stop>
+fn sets_of_routes<B: Blocks>(alloc: Global, design: &Design, blocks: B) -> Result<Vec<Tree>, Stop>
     requires { AreBlocks (B.list blocks) }
     ensures stops { StopsAt design.now (route_objections design.now (B.list blocks)) result }
     ensures sets { IfOk result (λ trees. AreSetsOf design.now (B.list blocks) trees.items) }

@@ -1,4 +1,4 @@
-use Rattle.std.proofs.Common.{◌≡◌, [], false, refl}
+use Rattle.std.proofs.Common.{[], false, refl}
 use Rattle.gr_desk.specs.declared.port.Port.TheVariants.{GuideOut}
 use Rattle.guide_text.specs.GuideText.{guides_text}
 use Rattle.command_runs.proofs.LeftOutcomes.{leaves-file, leaves-text, leaves-unmade}

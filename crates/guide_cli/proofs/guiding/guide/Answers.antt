@@ -1,5 +1,5 @@
-use Rattle.std.proofs.Common.{refl, sym, ◌∙◌, ap, true, inl, inr}
-use Rattle.command_runs.specs.declared.refusal.Refusal.TheVariants.{Unread, NoMemory}
+use Rattle.std.proofs.Common.{refl, ◌∙◌, ap, true, inl, inr}
+use Rattle.command_runs.specs.declared.refusal.Refusal.TheVariants.{NoMemory}
 use Rattle.command_runs.specs.AnsweredRun.{AnswersRightly}
 use Rattle.command_runs.specs.Lines.{status_of}
 use Rattle.command_runs.proofs.EndedRuns.{run-left, run-refused}
