@@ -247,8 +247,7 @@ expect 'a route that lacks a via' 1 'no 47 0' judge detour.gr cut_off.routes det
 expect 'a route that lacks a via, measured' 1 'no 47 0' measure detour.gr cut_off.routes
 expect 'a bound that the prices do not show' 1 'no 52 1/2 41633/378056' judge detour.gr detour.routes overstated.cert
 
-expect 'guides are written' 0 "$measured
-guides 3" guide detour.gr detour.routes a.guide
+expect 'guides are written' 0 'guides 3' guide detour.gr detour.routes a.guide
 made 'the guides' a.guide "$examples/detour.guide"
 expect 'no guides of a route that lacks a via' 1 'no 47 0' guide detour.gr cut_off.routes a.guide
 expect 'no file of guides for an objection' 6 'refused 6' measure a.guide detour.routes

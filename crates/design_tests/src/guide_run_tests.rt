@@ -8,7 +8,7 @@ use std::test::Fail;
 const GUIDED: &str = "guide a.gr a.routes a.guide
 ROW|a 0;(5,5,1)-(25,5,1);!;
 0
-nets 1;forced 0;beyond 0;overflow 0;wirelength 2;peak 1/2;guides 1;
+guides 1;
 -
 -
 -
@@ -17,7 +17,7 @@ a 0;(;0 0 30 10 1;);
 guide a.gr a.routes a.guide
 WIDE_WIRES|a 0;(5,5,2)-(35,5,2);(5,5,1)-(5,5,2);(35,5,1)-(35,5,2);!;
 0
-nets 1;forced 0;beyond 0;overflow 0;wirelength 5;peak 1/4;guides 1;
+guides 1;
 -
 -
 -
@@ -26,7 +26,7 @@ a 0;(;0 0 10 10 1;30 0 40 10 1;0 0 40 10 2;);
 guide a.gr a.routes a.guide
 ROW 135 141 7 3 1|a 0;!;
 0
-nets 1;forced 0;beyond 0;overflow 0;wirelength 0;peak 0/1;guides 1;
+guides 1;
 -
 -
 -
@@ -35,7 +35,7 @@ a 0;(;0 0 10 10 1;);
 guide a.gr a.routes a.guide
 ROW 135 141 7 3 1|
 0
-nets 1;forced 0;beyond 0;overflow 0;wirelength 0;peak 0/1;guides 1;
+guides 1;
 -
 -
 -
@@ -44,7 +44,7 @@ a 0;(;0 0 10 10 1;);
 guide a.gr a.routes a.guide
 CROWDED_ROW|b 1 (5,5,1)-(25,5,1)! a 0 (5,5,1)-(25,5,1)! c 2 (25,5,1)-(5,5,1)!
 0
-nets 3;forced 0;beyond 0;overflow 4;wirelength 6;peak 3/2;guides 3;
+guides 3;
 -
 -
 -
@@ -53,7 +53,7 @@ a 0;(;0 0 30 10 1;);b 1;(;0 0 30 10 1;);c 2;(;0 0 30 10 1;);
 guide a.gr a.routes a.guide
 ROW 110 142 ;num net 0;|
 0
-nets 0;forced 0;beyond 0;overflow 0;wirelength 0;peak 0/1;guides 0;";
+guides 0;";
 
 #[test]
 fn guides_are_those_of_the_routes(rt: HostRuntime) -> Result<(), Fail> {
@@ -80,7 +80,7 @@ refused 3 23;
 guide a.gr a.routes a.guide
 ROW 101 142 1099511627746 1099511627766 10 10;num net 0;|
 0
-nets 0;forced 0;beyond 0;overflow 0;wirelength 0;peak 0/1;guides 0;
+guides 0;
 
 guide a.gr a.routes a.guide
 ROW 0 4 grit|a 0;(5,5,1)-(25,5,1);!;
