@@ -1,9 +1,8 @@
 -- The guide of a net covers its route, and its rectangles share no tile.
-use Rattle.std.proofs.Common.{◌≡◌, ℕ, ◌+◌, ◌*◌, ◌/◌, ◌<◌, ◌≤◌, List, length, get_or, map, All, Contains, refl, sym, ap, subst, ◌∙◌, arith, ⊎_elim, ℤ, pos, ◌≤ℤ◌, nat_abs, Option, Some, None}
+use Rattle.std.proofs.Common.{◌≡◌, ℕ, ◌+◌, ◌<◌, ◌≤◌, List, length, get_or, map, All, Contains, refl, sym, ap, subst, ◌∙◌, arith, ⊎_elim, pos, Option, Some, None}
 use Rattle.std.specs.Option.{option_map}
 use Rattle.std.specs.Prelude.{slice_get}
 use Rattle.std.specs.List.{AllAdjacentBelow}
-use Rattle.std.proofs.Math.Nat.{mul-div_cancel}
 use Rattle.std.proofs.lemmas.Bool.{cases_lt}
 use Rattle.std.proofs.lemmas.Int.{ints}
 use Rattle.std.proofs.lemmas.List.Elements.{All-weaker, All-map, All-contains}
@@ -25,23 +24,15 @@ use Rattle.tree_set.specs.Routings.{ArePieces}
 use Rattle.guide_text.specs.declared.guide.Guide.{Guide}
 use Rattle.guide_text.specs.declared.rect.Rect.{Rect}
 use Rattle.guide_text.specs.declared.tile_rect.TileRect.{TileRect}
-use Rattle.guide_text.specs.Borderlines.{border}
-use Rattle.guide_text.specs.Covering.{ConsistsOf, IsAmong, IsInsideRect, Covers, ShareNoTile}
+use Rattle.guide_text.specs.Covering.{IsAmong, IsInsideRect, IsTiled, Covers, ShareNoTile}
 use Rattle.guide_text.specs.Guides.{rect_of, tiles_on, IsGuideOf}
 use Rattle.guide_text.specs.RouteTiles.{HasTile}
 use Rattle.guide_text.specs.TileRects.{IsTileRect, corner}
+use Rattle.guide_text.proofs.BorderTiles.{same_index}
 use Rattle.guide_text.proofs.RectAround.{Encloses, rect_around, same_corner}
 use Rattle.guide_text.proofs.Runs.{tile_at_place}
 use Rattle.guide_text.proofs.Vertices.{tiles_are_vertices, terminals_are_vertices}
 use Rattle.guide_text.proofs.WholeRects.{rect_is_whole}
-
--- two borders are one only where they are that of one tile
-same_index : (origin tile : ℤ) (i j : ℕ) → pos 1 ≤ℤ tile → border origin tile i ≡ border origin tile j → i ≡ j
-same_index origin tile i j some same =
-    let w = nat_abs tile in
-    let wide : 0 < w = omega (arith, ints, some) in
-    let product : i * w ≡ j * w = omega (arith, ints, same) in
-    sym (mul-div_cancel i wide) ∙ ap (λ n. n / w) product ∙ mul-div_cancel j wide
 
 same_layer : (i j : ℕ) → pos (i + 1) ≡ pos (j + 1) → i ≡ j
 same_layer i j same = omega (arith, ints, same)
@@ -88,7 +79,7 @@ enclosed_among s rect v enclosed = record {
 }
 
 -- a tile inside a rectangle that is made of tiles is one of these
-inside_among : (g : Grid) (t : TileRect) (rect : Rect) (v : ℕ) → rect_of g t ≡ rect → IsInsideRect g rect v → IsAmong (size_of g) t v
+pub inside_among : (g : Grid) (t : TileRect) (rect : Rect) (v : ℕ) → rect_of g t ≡ rect → IsInsideRect g rect v → IsAmong (size_of g) t v
 inside_among g t rect v made inside = subst (λ u. IsAmong (size_of g) u v) (sym (same_tiles g t inside.0 (made ∙ inside.1.1))) inside.2
 
 pub guide_covers : (g : Grid) (n : NetSpec) (tree : List Piece) (guide : Guide) → IsNet g n → ArePieces (size_of g) tree → IsGuideOf g n tree guide → Covers g n tree guide
@@ -96,9 +87,8 @@ guide_covers g n tree guide net pieces is =
     let s = size_of g in
     let tiles = tiles_on g n tree in
     let rects = is.tile_rects in
-    let Whole : Rect → Type 0 = λ rect. (t : TileRect) × ConsistsOf g rect t in
     record {
-      whole = subst (All Whole) (sym is.rects) (All-map Whole (rect_of g) rects (All-weaker (IsTileRect s tiles) (λ t. Whole (rect_of g t)) (λ t one. (t, (rect_is_whole s tiles t one, refl))) rects is.longest.only));
+      whole = subst (All (IsTiled g)) (sym is.rects) (All-map (IsTiled g) (rect_of g) rects (All-weaker (IsTileRect s tiles) (λ t. IsTiled g (rect_of g t)) (λ t one. (t, (rect_is_whole s tiles t one, refl))) rects is.longest.only));
       exactly = λ v. (
         λ covered.
             let made = made_by_map (rect_of g) rects covered.0 (subst (λ (xs : List Rect). Contains xs covered.0) is.rects covered.1) in

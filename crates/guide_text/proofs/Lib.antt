@@ -1,4 +1,5 @@
 pub mod BorderOrder
+pub mod BorderTiles
 pub mod EndLists
 pub mod Following
 pub mod Found
@@ -13,4 +14,6 @@ pub mod ReadBack
 pub mod Extending
 pub mod RectAround
 pub mod Coverings
+pub mod Marks
+pub mod MarkedRects
 pub mod InRange

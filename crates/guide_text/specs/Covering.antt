@@ -24,6 +24,10 @@ pub record AreWholeTiles (s : Size) (tiles : TileRect) : Type 0 where
 abbrev pub ConsistsOf : Grid → Rect → TileRect → Type 0
 ConsistsOf g rect tiles = AreWholeTiles (size_of g) tiles × (rect ≡ rect_of g tiles)
 
+-- the rectangle consists of whole tiles
+abbrev pub IsTiled : Grid → Rect → Type 0
+IsTiled g rect = (tiles : TileRect) × ConsistsOf g rect tiles
+
 -- the tile of this number is one of them
 pub record IsAmong (s : Size) (tiles : TileRect) (v : ℕ) : Type 0 where
   pub row : ℕ
@@ -44,7 +48,7 @@ IsCovered g rects v = (rect : Rect) × Contains rects rect × IsInsideRect g rec
 
 -- each rectangle of a guide consists of whole tiles of the grid, and the tiles inside them are those of the net's route
 pub record Covers (g : Grid) (n : NetSpec) (tree : List Piece) (guide : Guide) : Type 0 where
-  pub whole : All (λ rect. (tiles : TileRect) × ConsistsOf g rect tiles) guide.rects
+  pub whole : All (IsTiled g) guide.rects
   pub exactly : (v : ℕ) → IsCovered g guide.rects v ↔ Contains (tiles_on g n tree) v
 
 -- no tile lies inside two of the rectangles

@@ -12,6 +12,7 @@ pub mod TileRects
 pub mod Borderlines
 pub mod Guides
 pub mod Covering
+pub mod Marking
 pub mod GuideText
 pub mod GuideFaults
 pub mod GuideReads

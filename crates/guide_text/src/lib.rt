@@ -9,19 +9,22 @@
 //! // 0 0 30 10 1
 //! // )
 //! let guides = read_guides(alloc, bytes)?;
+//! covers(alloc, &design, 0, &trees[0], &guides[0])?; // true
 //! ```
 //!
 //! It stands on `tree_set`, `grid_graph` and `grid_base` for the routes, on `lists`, on `gr_desk` to write to, and on
 //! `text_scan` to read.
 //!
 //! Promised: a net's rectangles are the longest ones of the tiles of its route, in order. They share no tile and cover these
-//! tiles and no others; `covers` says of any guide whether it does. `write_guides` writes exactly the text of the guides, or
-//! some part from its front where a write failed, and takes no memory. `read_guides` answers the guides that a text names,
-//! or the first place at which it names none. By the laws of `laws.rt` a written text reads back.
+//! tiles and no others; `covers` says of any guide whether its rectangles consist of whole tiles and cover just a route's.
+//! `write_guides` writes exactly the text of the guides, or some part from its front where a write failed, and takes no
+//! memory. `read_guides` answers the guides that a text names, or the first place at which it names none. By the laws of
+//! `laws.rt` a written text reads back.
 
 #![tactic(auto)]
 
 mod borders;
+mod covering;
 mod guide;
 mod guide_error;
 mod guides;
@@ -33,9 +36,11 @@ mod tile_rect;
 mod tile_rects;
 mod tiles;
 mod tokens;
+mod whole_tiles;
 mod writing;
 
 pub use borders::is_near;
+pub use covering::covers;
 pub use guide::Guide;
 pub use guide_error::GuideError;
 pub use guides::guides_of;

@@ -54,7 +54,7 @@ impl Tiles {
     }
 
     /// Where this number stands in the list, if it is there. It is looked for at `near` first.
-    fn place_of_number(&self, number: u32, near: usize) -> Option<usize>
+    pub fn place_of_number(&self, number: u32, near: usize) -> Option<usize>
         ensures { MatchOption result (¬ Contains self.now.numbers.items number) (λ at. (at < length self.now.numbers.items) × (slice_index self.now.numbers.items at ≡ number)) }
     {
         if near < self.numbers.len() && self.numbers[near] == number {
