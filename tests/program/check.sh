@@ -460,6 +460,20 @@ peak 1/2
 given 0 7' detour.gr few.routes new.routes
 made 'routes of all nets' new.routes "$examples/detour.routes"
 rm few.routes
+# Batches are large enough for several workers from some 20,000 nets on.
+awk 'BEGIN {
+    print "grid 200 200 2\nvertical capacity 0 6\nhorizontal capacity 6 0\nminimum width 1 1\nminimum spacing 1 1"
+    print "via spacing 1 1\n0 0 10 10\nnum net 20000"
+    for (i = 0; i < 20000; i++) {
+        x = i * 7919 % 190; y = i * 104729 % 193
+        printf "n%d %d 2 1\n%d %d 1\n%d %d 1\n", i, i, 10 * x + 5, 10 * y + 5, 10 * (x + 1 + i % 9) + 5, 10 * (y + i % 7) + 5
+    }
+    print 0
+}' >many.gr
+"$program" many.gr one.routes --rounds 4 --passes 1 >one.report
+expect 'routes of 20,000 nets by four workers' 0 "$(cat one.report)" many.gr new.routes --rounds 4 --passes 1 --workers 4
+made 'the routes that one worker finds' new.routes one.routes
+rm -f many.gr one.routes one.report
 expect 'an objection to given routes' 1 'no 47 0' detour.gr cut_off.routes new.routes
 usage='refused 2
 usage: reroute IN [ROUTES] NEW'
