@@ -4,6 +4,8 @@ pub mod Crossing
 mod ManyBounds
 pub mod Costed
 mod AtRoot
+mod GoalRests
+mod NearestLed
 mod HalvesOf
 mod Mapped
 mod LedWeights

@@ -10,8 +10,8 @@ ghost use Rattle.steiner_tables.specs.Masks.{few_terminals};
 ghost use Rattle.lower_bound.specs.NetBounds.{IsBoundOfMany, IsNetBound};
 
 use crate::class_costs::ClassCosts;
-use crate::halves::sum_of_halves;
 use crate::led::Led;
+use crate::led_halves::sum_of_led_halves;
 use crate::spread::choose;
 use edge_prices::Costing;
 use grid_base::{NoMemory, Vertex};
@@ -37,7 +37,7 @@ fn bound_of_many<W: FlooredWeights>(
 {
     let chosen = choose(labels.grid.size(), terminals);
     let (_, of_chosen) = least_tree(alloc, weights, &chosen, labels)?;
-    let halves = sum_of_halves(weights, terminals, &mut labels.grid);
+    let halves = sum_of_led_halves(alloc, weights, terminals, labels)?;
     Ok(of_chosen.max(halves))
 }
 

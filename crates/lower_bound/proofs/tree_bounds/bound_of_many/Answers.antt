@@ -16,6 +16,6 @@ returns-clause-bound g c =
     let pieces = g.W.Weights.pieces w in
     let spread = spread_of_five c.size.result s c.args.terminals.now c.choose-chosen.result (c.size.ensures ∙ c.requires.labels.grid) c.requires.many c.choose-chosen.ensures.long c.choose-chosen.ensures.spread in
     let some = c.requires.vertices 0 (record { 0 = 0 }) (omega (arith, c.requires.many)) in
-    bound_of_many s pieces c.args.terminals.now c.choose-chosen.result c.in_ok-of_chosen.of_chosen c.sum_of_halves-halves.result c.max.result
+    bound_of_many s pieces c.args.terminals.now c.choose-chosen.result c.in_ok-of_chosen.of_chosen c.in_ok-halves.halves c.max.result
     (g.met.W.Weights.once w) (g.met.W.Weights.inside w) (g.met.W.Weights.small w) (omega (arith, c.requires.many)) c.requires.joined (omega (arith, some))
-    spread c.in_ok-of_chosen.ensures.tree.weighs c.sum_of_halves-halves.ensures.sum c.max.ensures
+    spread c.in_ok-of_chosen.ensures.tree.weighs c.in_ok-halves.ensures.sum c.max.ensures

@@ -1,0 +1,84 @@
+-- What is still to go to a goal, by a search of the flat grid, rises slowly on the grid.
+use Rattle.std.proofs.Common.{ℕ, ◌≡◌, ◌+◌, ◌-◌, ◌*◌, ◌^◌, ◌<◌, ◌≤◌, List, min, refl, sym, ap, ⊎_elim, arith}
+use Rattle.std.proofs.lemmas.Bool.{cases_lt, lt-ltb, le-ltb}
+use Rattle.std.proofs.lemmas.Nat.{mul-le}
+use Rattle.grid_base.specs.declared.piece.Piece.{Piece}
+use Rattle.grid_base.specs.declared.piece.Piece.TheVariants.{Edge, Via}
+use Rattle.grid_base.specs.declared.size.Size.{Size}
+use Rattle.grid_base.specs.declared.vertex.Vertex.{Vertex}
+use Rattle.grid_base.specs.Numbers.{layer_of, IsPiece, Connects}
+use Rattle.grid_graph.specs.declared.floors.Floors.{Floors}
+use Rattle.grid_graph.specs.Flat.{tile_of, tile_edge_of, IsFlatOf, AreLeastOver}
+use Rattle.grid_graph.specs.Floors.{AreFloors}
+use Rattle.grid_graph.specs.Weighed.{Weighs}
+use Rattle.grid_graph.proofs.TileSteps.{edge_connects, via_goes, flat_tiles}
+use Rattle.label_search.specs.Sets.{RisesSlowly}
+use Rattle.label_search.specs.Stamped.{most, far}
+use Rattle.shortest_paths.specs.declared.labels.Labels.{Labels}
+use Rattle.shortest_paths.specs.LabelWords.{label_of}
+use Rattle.steiner_tables.specs.Tables.{IsPrunedTable}
+use Rattle.steiner_exact.specs.FlatPieces.{edges_with}
+use Rattle.steiner_exact.proofs.EdgeLists.{edges_with-lists}
+use Rattle.lower_bound.specs.GoalRests.{across_at, rest_to}
+
+-- a step that stays on its layer
+stays : (a b w v via k over : ℕ) → b ≤ a + over → over ≤ k → w ≡ v → min (b + w * via) (2 ^ 61) ≤ min (a + v * via) (2 ^ 61) + k
+stays a b w v via k over less light same = let layers : w * via ≡ v * via = ap (λ n. n * via) same in omega (arith, less, light, layers)
+
+-- a step that stays over its tile
+climbs : (a b w v via k : ℕ) → b ≡ a → w ≤ v + 1 → via ≤ k → min (b + w * via) (2 ^ 61) ≤ min (a + v * via) (2 ^ 61) + k
+climbs a b w v via k same near light =
+    let layers : w * via ≤ v * via + via = omega (arith, mul-le w via (v + 1) via near (omega arith)) in omega (arith, same, layers, light)
+
+pub goal_slow : (flat s : Size) (pieces : List (Piece × ℕ)) (floors : Floors) (over across : ℕ → ℕ) (layer : ℕ)
+    → IsFlatOf flat s → AreLeastOver s pieces over → AreFloors floors pieces → RisesSlowly flat (edges_with flat over) across
+    → RisesSlowly s pieces (rest_to s layer floors.via across)
+goal_slow flat s pieces floors over across layer is least floored slow (Edge e) k a b weighs connects =
+    let found = edge_connects flat s e.0 a b (flat_tiles flat s is) connects in
+    let tile_edge = tile_edge_of s e.0 in
+    let piece : IsPiece flat (Edge (record { 0 = tile_edge })) = ⊎_elim (λ goes. goes.0) (λ goes. goes.0) found.0 in
+    let less = slow (Edge (record { 0 = tile_edge })) (over tile_edge) (tile_of s a) (tile_of s b)
+    (edges_with-lists flat over tile_edge piece) found.0 in
+    stays (across (tile_of s a)) (across (tile_of s b)) (layer_of s b - layer + (layer - layer_of s b))
+    (layer_of s a - layer + (layer - layer_of s a)) floors.via k (over tile_edge) less (least.below e k weighs)
+    (ap (λ l. l - layer + (layer - l)) found.1)
+goal_slow flat s pieces floors over across layer is least floored slow (Via v) k a b weighs connects = ⊎_elim
+    (λ goes. let found = via_goes s (Via v) v.0 a b refl goes in
+    climbs (across (tile_of s a)) (across (tile_of s b)) (layer_of s b - layer + (layer - layer_of s b))
+    (layer_of s a - layer + (layer - layer_of s a)) floors.via k (ap across found.0) (omega (arith, found.1))
+    (floored (Via v) k weighs))
+    (λ goes. let found = via_goes s (Via v) v.0 b a refl goes in
+    climbs (across (tile_of s a)) (across (tile_of s b)) (layer_of s b - layer + (layer - layer_of s b))
+    (layer_of s a - layer + (layer - layer_of s a)) floors.via k (ap across (sym found.0)) (omega (arith, found.1))
+    (floored (Via v) k weighs))
+    connects
+
+-- ---- numbers of a search that was pruned at a limit
+
+across_kept : (labels : Labels) (limit tile : ℕ) → label_of labels 1 tile < far → across_at labels limit tile ≡ label_of labels 1 tile
+across_kept labels limit tile kept = rw (lt-ltb (label_of labels 1 tile) far kept) refl
+
+across_none : (labels : Labels) (limit tile : ℕ) → far ≤ label_of labels 1 tile → across_at labels limit tile ≡ limit + 1
+across_none labels limit tile none = rw (le-ltb (label_of labels 1 tile) far none) refl
+
+across_most : (flat : Size) (pieces : List (Piece × ℕ)) (tiles : List Vertex) (labels : Labels) (limit tile : ℕ)
+    → IsPrunedTable flat pieces tiles 1 (λ _ _. 0) limit far (label_of labels) → across_at labels limit tile ≤ limit + 1
+across_most flat pieces tiles labels limit tile table = ⊎_elim
+    (λ kept. omega (arith, across_kept labels limit tile kept, table.within 1 tile (omega arith) (omega arith) kept))
+    (λ none. omega (arith, across_none labels limit tile none))
+    (cases_lt (label_of labels 1 tile) far)
+
+pub across_slow : (flat : Size) (pieces : List (Piece × ℕ)) (tiles : List Vertex) (labels : Labels) (limit : ℕ) → limit ≤ most
+    → IsPrunedTable flat pieces tiles 1 (λ _ _. 0) limit far (label_of labels) → RisesSlowly flat pieces (across_at labels limit)
+across_slow flat pieces tiles labels limit small table p k a b weighs connects =
+    let top = across_most flat pieces tiles labels limit b table in
+    ⊎_elim
+    (λ kept. ⊎_elim
+    (λ less. ⊎_elim
+    (λ then. omega (arith, less, across_kept labels limit a kept, across_kept labels limit b then))
+    (λ none. omega (arith, less, across_kept labels limit a kept, top, small, none))
+    (cases_lt (label_of labels 1 b) far))
+    (λ past. omega (arith, past, across_kept labels limit a kept, top))
+    (table.steps 1 p k a b (omega arith) (omega arith) weighs connects kept))
+    (λ none. omega (arith, across_none labels limit a none, top))
+    (cases_lt (label_of labels 1 a) far)
