@@ -6,6 +6,7 @@ pub mod Costed
 mod AtRoot
 mod GoalRests
 mod NearestLed
+mod AlikeWidths
 mod HalvesOf
 mod Mapped
 mod LedWeights

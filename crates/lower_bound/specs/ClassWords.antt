@@ -1,11 +1,11 @@
 -- What the nets of one width and one ground pay between tiles.
-use Rattle.std.specs.Prelude.{ℕ, ◌≡◌, List}
+use Rattle.std.specs.Prelude.{ℕ, ◌≡◌, ◌<◌, List}
 use Rattle.grid_base.specs.declared.piece.Piece.{Piece}
 use Rattle.grid_base.specs.declared.size.Size.{Size}
 use Rattle.grid_graph.specs.declared.grid.Grid.{Grid}
 use Rattle.grid_graph.specs.declared.ground.Ground.{Ground}
 use Rattle.grid_graph.specs.Flat.{IsFlatOf}
-use Rattle.grid_graph.specs.Grids.{size_of, IsNetWidth}
+use Rattle.grid_graph.specs.Grids.{size_of, demand_on, edge_numbers, IsNetWidth}
 use Rattle.grid_graph.specs.TilePieces.{AreLeastBetweenTiles}
 use Rattle.edge_prices.specs.PieceLists.{IsWeightList}
 use Rattle.edge_prices.specs.Weights.{AreEdgePrices}
@@ -34,6 +34,10 @@ pub record IsCurrentClass (c : ClassCosts) : Type 0 where
   pub costs : AreClassCosts c.grid.now c.width c.ground c.prices.now (tiles_size c) (costs_between c.costs.costs.items)
   pub representatives : AreRepresentatives (tiles_size c) (costs_between c.costs.costs.items) c.representatives.of.parents.items
   pub kept : AreKeptCosts (tiles_size c) (costs_between c.costs.costs.items) c.kept.entries.items
+
+-- nets of two widths use as much of each edge
+abbrev pub UseAsMuch : Grid → ℕ → ℕ → Type 0
+UseAsMuch g one other = (e : ℕ) → e < edge_numbers g → demand_on g one e ≡ demand_on g other e
 
 -- nothing but what is kept changed
 pub record KeepsClass (old new : ClassCosts) : Type 0 where

@@ -1,10 +1,14 @@
 //! What nets of one class pay between tiles.
 
+ghost use Rattle.std.specs.Prelude.{IsTrue};
+ghost use Rattle.grid_graph.specs.Grids.{IsNetWidth};
+ghost use Rattle.lower_bound.specs.ClassWords.{UseAsMuch};
+
 use crate::kept_costs::KeptCosts;
 use crate::representatives::Representatives;
 use crate::tile_costs::TileCosts;
 use edge_prices::Costing;
-use grid_base::{NoMemory, Size};
+use grid_base::{Axis, Edge, NoMemory, Size, Vertex};
 use grid_graph::{Grid, Ground};
 use std::alloc::Global;
 
@@ -70,7 +74,8 @@ impl<'a> ClassCosts<'a> {
         self.costs.size()
     }
 
-    /// Turns to nets of another width or ground.
+    /// Turns to nets of another width or ground. Widths that use as much of each layer's edges are one class: so are all that
+    /// are below the layers' least widths.
     pub fn renew(&mut self, width: u32, ground: Ground)
         requires width { IsNetWidth self.old.grid.now width }
         requires current { IsCurrentClass self.old }
@@ -81,7 +86,8 @@ impl<'a> ClassCosts<'a> {
         ensures size { tiles_size self.new ≡ tiles_size self.old }
         ensures current { IsCurrentClass self.new }
     {
-        if self.width == width && self.ground == ground {
+        if self.ground == ground && use_as_much(self.grid, self.width, width) {
+            self.width = width;
             return;
         }
         let costing = Costing::new(self.grid, width, ground, self.prices);
@@ -91,4 +97,24 @@ impl<'a> ClassCosts<'a> {
         self.width = width;
         self.ground = ground;
     }
+}
+
+/// Whether nets of two widths use as much of each edge.
+fn use_as_much(grid: &Grid, one: u32, other: u32) -> bool
+    requires one { IsNetWidth grid.now one }
+    requires other { IsNetWidth grid.now other }
+    ensures { IsTrue result → UseAsMuch grid.now one other }
+{
+    if one == other {
+        return true;
+    }
+    let size = grid.size();
+    let per_layer = size.cols() * size.rows();
+    for layer in 0..size.layers() {
+        let edge = Edge::along(Vertex(layer * per_layer), Axis::X);
+        if grid.demand(one, edge) != grid.demand(other, edge) {
+            return false;
+        }
+    }
+    true
 }

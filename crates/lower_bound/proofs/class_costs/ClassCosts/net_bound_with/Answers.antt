@@ -52,10 +52,6 @@ bound_at-requires-clause-joined c =
     (subst (λ (ts : List Vertex). Joins (size_of g) (IsAllowed priced) (InVertices ts)) (sym c.list.ensures.items)
     (joined_by_costs g x.width x.ground x.prices.now c.args.piece c.args.net.now.terminals c.requires.ground)))
 
-pub bound_at-requires-clause-positive : goal.bound_at-requires-clause-positive
-bound_at-requires-clause-positive c =
-    subst NoneWeighsNothing (sym c.new-weights.ensures.pieces) (raised_weigh (costed_pieces c.new-costing.result) c.args.piece c.requires.some)
-
 pub returns-clause-bound : goal.returns-clause-bound
 returns-clause-bound c =
     let x = c.args.self.now in

@@ -4,11 +4,22 @@ use Rattle.grid_graph.specs.Flat.{IsFlatOf}
 use Rattle.edge_prices.specs.Costings.{costed_size, costed_pieces}
 use Rattle.lower_bound.specs.Representatives.{AreRepresentatives}
 use Rattle.lower_bound.specs.TileCosts.{costs_between}
+use Rattle.lower_bound.proofs.AlikeWidths.{class_alike}
 use Rattle.lower_bound.proofs.ClassBounds.{class_costs}
 use Rattle.lower_bound.proofs.class_costs.ClassCosts.renew.Goals as goal
 
 pub renew-requires-clause-flat : goal.renew-requires-clause-flat
 renew-requires-clause-flat c = subst (IsFlatOf c.args.self.now.costs.size) (sym c.size.ensures) c.requires.current.costs.flat_of
+
+pub returns-then-use_as_much-clause-current : goal.returns-then-use_as_much-clause-current
+returns-then-use_as_much-clause-current c =
+    let old = c.args.self.now in
+    record {
+      costs = class_alike old.grid.now old.width c.args.width old.ground old.prices.now old.costs.size (costs_between old.costs.costs.items)
+          c.requires.width (c.use_as_much.ensures c.if-use_as_much.true) c.requires.current.costs;
+      representatives = c.requires.current.representatives;
+      kept = c.requires.current.kept;
+    }
 
 pub returns-clause-current : goal.returns-clause-current
 returns-clause-current c =
