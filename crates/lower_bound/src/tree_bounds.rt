@@ -1,10 +1,9 @@
-//! Net bounds by least trees, where a piece alone costs something.
+//! Net bounds by searches that are led, where a piece alone costs something.
 
 ghost use Rattle.std.specs.Prelude.{◌<◌, IfOk, All, length};
 ghost use Rattle.grid_base.specs.Numbers.{IsVertex};
 ghost use Rattle.grid_base.specs.Walks.{Joins, InVertices};
 ghost use Rattle.grid_graph.specs.Weighed.{IsAllowed};
-ghost use Rattle.label_search.specs.Paths.{NoneWeighsNothing};
 ghost use Rattle.steiner_exact.specs.TreeLabelWords.{AreTreeLabels};
 ghost use Rattle.steiner_tables.specs.Masks.{few_terminals};
 ghost use Rattle.lower_bound.specs.NetBounds.{IsBoundOfMany, IsNetBound};
@@ -12,12 +11,13 @@ ghost use Rattle.lower_bound.specs.NetBounds.{IsBoundOfMany, IsNetBound};
 use crate::class_costs::ClassCosts;
 use crate::led::Led;
 use crate::led_halves::sum_of_led_halves;
+use crate::led_least::led_least;
 use crate::spread::choose;
 use edge_prices::Costing;
 use grid_base::{NoMemory, Vertex};
 use grid_graph::{FlooredWeights, NetSpec};
 use std::alloc::Global;
-use steiner_exact::{TreeLabels, least_tree};
+use steiner_exact::TreeLabels;
 use steiner_tables::FEW_TERMINALS;
 
 /// The bound of more than five terminals.
@@ -31,12 +31,11 @@ fn bound_of_many<W: FlooredWeights>(
     requires many { few_terminals < length terminals.now }
     requires vertices { All (λ v. IsVertex (W.size weights.now) v.0) terminals.now }
     requires joined { Joins (W.size weights.now) (IsAllowed (W.pieces weights.now)) (InVertices terminals.now) }
-    requires positive { NoneWeighsNothing (W.pieces weights.now) }
     ensures bound { IfOk result (IsBoundOfMany (W.size weights.now) (W.pieces weights.now) terminals.now) }
     ensures labels { AreTreeLabels (W.size weights.now) labels.new }
 {
     let chosen = choose(labels.grid.size(), terminals);
-    let (_, of_chosen) = least_tree(alloc, weights, &chosen, labels)?;
+    let of_chosen = led_least(alloc, weights, &chosen, labels)?;
     let halves = sum_of_led_halves(alloc, weights, terminals, labels)?;
     Ok(of_chosen.max(halves))
 }
@@ -51,15 +50,13 @@ fn bound_at<W: FlooredWeights>(
     requires labels { AreTreeLabels (W.size weights.now) labels.old }
     requires vertices { All (λ v. IsVertex (W.size weights.now) v.0) terminals.now }
     requires joined { Joins (W.size weights.now) (IsAllowed (W.pieces weights.now)) (InVertices terminals.now) }
-    requires positive { NoneWeighsNothing (W.pieces weights.now) }
     ensures bound { IfOk result (IsNetBound (W.size weights.now) (W.pieces weights.now) terminals.now) }
     ensures labels { AreTreeLabels (W.size weights.now) labels.new }
 {
     if terminals.len() > FEW_TERMINALS {
         return bound_of_many(alloc, weights, terminals, labels);
     }
-    let (_, least) = least_tree(alloc, weights, terminals, labels)?;
-    Ok(least)
+    led_least(alloc, weights, terminals, labels)
 }
 
 impl ClassCosts<'_> {
@@ -74,7 +71,7 @@ impl ClassCosts<'_> {
     ghost use Rattle.lower_bound.specs.NetBounds.{IsNetBound};
 
     /// The net bound of a net of the class, where each piece costs this much beside what its edge does. The searches are
-    /// those of least trees, led by the costs between tiles.
+    /// led by the costs between tiles.
     pub fn net_bound_with(
         &self,
         alloc: Global,
