@@ -10,7 +10,7 @@ use grid_graph::{Design, Grid, Ground};
 use std::alloc::{AllocError, Global};
 use std::test::Fail;
 use std::thread::Threads;
-use test_rows::{agree, four_fields, fraction_text, number_of, rows_of, two_fields};
+use test_rows::{agree, four_fields, fraction_text, number_of, rows_of, three_fields, two_fields};
 use tree_set::Budget;
 use worked_designs::design_of;
 
@@ -113,6 +113,15 @@ const PIN_IN_EACH_TILE: &str =
 const BOUNDS_OF_MANY_PINS: &str = "1|5/32
 0 0 0 0 0 0 0 0 0 0 0 0 0 0 1 0 0 0 0 0 1 0 1 1 0|1/8";
 
+/// The same pins on two layers like the fields of a chessboard.
+const PIN_IN_EACH_FIELD: &str =
+    "ROW 0 144 grid 5 5 2;vertical capacity 4 4;horizontal capacity 4 4;minimum width 1 1;minimum spacing 1 1;via spacing 1 1;0 0 10 10;num net 1;a 0 25 1;5 5 1;15 5 2;25 5 1;35 5 2;45 5 1;5 15 2;15 15 1;25 15 2;35 15 1;45 15 2;5 25 1;15 25 2;25 25 1;35 25 2;45 25 1;5 35 2;15 35 1;25 35 2;35 35 1;45 35 2;5 45 1;15 45 2;25 45 1;35 45 2;45 45 1;0;";
+
+/// The prices of its open edges, the price of the wirelength, and the bound. Each pin is a via and an edge away from another
+/// one, and half of that from 25 pins is more than what five of them cost, which are joined by 14 edges and four vias.
+const BOUNDS_OF_FIELDS: &str = "0|2|25/1
+1|2|75/322";
+
 #[test]
 fn designs_have_the_bounds_that_were_worked_out(rt: HostRuntime) -> Result<(), Fail> {
     let alloc = rt.alloc();
@@ -137,19 +146,35 @@ fn a_net_of_many_pins_has_the_greater_of_two_bounds(rt: HostRuntime) -> Result<(
     Ok(())
 }
 
-/// The ends of a piece as sets of vertices, each a bit by its number, and what it costs a net of width 1.
+#[test]
+fn a_net_of_many_pins_has_the_greater_of_two_bounds_with_a_budget(
+    rt: HostRuntime,
+) -> Result<(), Fail> {
+    let alloc = rt.alloc();
+    let design = design_of(alloc, PIN_IN_EACH_FIELD)?;
+    for row in rows_of(alloc, BOUNDS_OF_FIELDS)? {
+        let (of_open, budget, wanted) = three_fields(row)?;
+        let found = bound_at(&rt, alloc, &design, of_open, budget_of(budget)?)?;
+        agree(row, found.as_str(), wanted)?;
+    }
+    Ok(())
+}
+
+/// The ends of a piece as sets of vertices, each a bit by its number, and what it costs a net.
 type Link = (u32, u32, u64);
 
 fn bit(v: u32) -> u32 {
     1u32.wrapping_shl(v)
 }
 
-/// The pieces that a net may use.
+/// The pieces that a net may use, where it takes so much of each edge and pays so much for each piece.
 fn links_of(
     alloc: Global,
     grid: &Grid,
     over: Ground,
     prices: &[u32],
+    demand: u32,
+    per_piece: u32,
 ) -> Result<Vec<Link>, AllocError> {
     let mut links = Vec::new(alloc);
     let size = grid.size();
@@ -157,19 +182,16 @@ fn links_of(
         let p = Piece::Edge(Edge(e));
         if size.is_piece(p) && grid.allows(over, p) {
             let (a, b) = size.ends_of(p);
-            let paid = if grid.capacity(Edge(e)) > 0 {
-                u64::from(prices.get(e as usize).copied().unwrap_or(0)) * 2
-            } else {
-                0
-            };
-            links.push((bit(a.0), bit(b.0), paid))?;
+            let price = prices.get(e as usize).copied().unwrap_or(0);
+            let paid = u64::from(price).wrapping_mul(u64::from(demand));
+            links.push((bit(a.0), bit(b.0), paid.wrapping_add(u64::from(per_piece))))?;
         }
     }
     for v in 0..size.vertices() {
         let p = Piece::Via(Via(v));
         if size.is_piece(p) {
             let (a, b) = size.ends_of(p);
-            links.push((bit(a.0), bit(b.0), 0))?;
+            links.push((bit(a.0), bit(b.0), u64::from(per_piece)))?;
         }
     }
     Ok(links)
@@ -231,52 +253,83 @@ fn drawn_prices(alloc: Global, grid: &Grid, seed: u32) -> Result<(Vec<u32>, u128
     Ok((prices, capacities))
 }
 
-/// Whether the bound of a design with one net is that over all sets, at prices that are drawn by a number.
+/// What the nets of a design cost at least over all sets, where no layer has a smaller width than this.
+fn least_of_design(
+    alloc: Global,
+    design: &Design,
+    prices: &[u32],
+    least_width: u32,
+    per_piece: u32,
+) -> Result<u128, Fail> {
+    let grounds = design.grounds().map_err(|_| Fail::new("grounds"))?;
+    let mut sum: u128 = 0;
+    for (net, over) in design.nets.list().iter().zip(grounds.iter()) {
+        let demand = net.width.max(least_width).wrapping_add(1);
+        let links = links_of(alloc, &design.grid, *over, prices, demand, per_piece)?;
+        let least = least_of_all(links.as_slice(), net.terminals.list());
+        sum = sum.wrapping_add(u128::from(least));
+    }
+    Ok(sum)
+}
+
+/// Whether the bound of a design is that over all sets, at prices that are drawn by a number and with a wirelength of 1 at a
+/// price.
 fn all_sets_agree<R: Threads + Sync>(
     rt: &R,
     alloc: Global,
     design: &Design,
+    least_width: u32,
     seed: u32,
+    per_piece: u32,
 ) -> Result<bool, Fail> {
     let grounds = design.grounds().map_err(|_| Fail::new("grounds"))?;
-    let over = *grounds.first().ok_or("no net")?;
-    let net = design.nets.list().first().ok_or("no net")?;
     let (prices, capacities) = drawn_prices(alloc, &design.grid, seed)?;
-    if !are_edge_prices(&design.grid, prices.as_slice()) {
+    let budget = Some(Budget {
+        most: 1,
+        price: per_piece,
+    });
+    if !are_edge_prices(&design.grid, prices.as_slice()) || !is_within_limits(budget) {
         return Err(Fail::new("no such prices"));
     }
-    let links = links_of(alloc, &design.grid, over, prices.as_slice())?;
-    let least = u128::from(least_of_all(links.as_slice(), net.terminals.list()));
+    let least = least_of_design(alloc, design, prices.as_slice(), least_width, per_piece)?;
+    let all = capacities.wrapping_add(u128::from(per_piece));
     let found = bound(
         rt,
         alloc,
         design,
         grounds.as_slice(),
         prices.as_slice(),
-        None,
+        budget,
     )?;
     Ok(match found {
-        Some(f) => f.num.wrapping_mul(capacities) == least.wrapping_mul(f.den),
-        None => capacities == 0,
+        Some(f) => f.num.wrapping_mul(all) == least.wrapping_mul(f.den),
+        None => all == 0,
     })
 }
 
-/// Four tiles on two layers and a net: of two pins; of four, with an edge of each layer choked; and of three, of which the
-/// first is reached over choked edges alone.
+/// Four tiles on two layers and the least width of a layer, with a net: of two pins; of four, with an edge of each layer choked;
+/// and of three, of which the first is reached over choked edges alone. Then nets of three widths, of which one is forced;
+/// and of widths below and above the least one.
 const CUBES: &str =
-    "ROW 0 144 grid 2 2 2;vertical capacity 4 4;horizontal capacity 4 4;minimum width 1 1;minimum spacing 1 1;via spacing 1 1;0 0 10 10;num net 1;a 0 2 1;5 5 1;15 15 2;0;
-ROW 0 144 grid 2 2 2;vertical capacity 4 4;horizontal capacity 4 4;minimum width 1 1;minimum spacing 1 1;via spacing 1 1;0 0 10 10;num net 1;a 0 4 1;5 5 1;15 5 1;5 15 2;15 15 1;2;0 0 1 1 0 1 0;0 0 2 0 1 2 0;
-ROW 0 144 grid 2 2 2;vertical capacity 4 4;horizontal capacity 4 4;minimum width 1 1;minimum spacing 1 1;via spacing 1 1;0 0 10 10;num net 1;a 0 3 1;5 5 2;15 5 1;15 15 1;4;0 0 1 1 0 1 0;0 0 1 0 1 1 0;0 0 2 1 0 2 0;0 0 2 0 1 2 0;";
+    "ROW 0 144 grid 2 2 2;vertical capacity 4 4;horizontal capacity 4 4;minimum width 1 1;minimum spacing 1 1;via spacing 1 1;0 0 10 10;num net 1;a 0 2 1;5 5 1;15 15 2;0;|1
+ROW 0 144 grid 2 2 2;vertical capacity 4 4;horizontal capacity 4 4;minimum width 1 1;minimum spacing 1 1;via spacing 1 1;0 0 10 10;num net 1;a 0 4 1;5 5 1;15 5 1;5 15 2;15 15 1;2;0 0 1 1 0 1 0;0 0 2 0 1 2 0;|1
+ROW 0 144 grid 2 2 2;vertical capacity 4 4;horizontal capacity 4 4;minimum width 1 1;minimum spacing 1 1;via spacing 1 1;0 0 10 10;num net 1;a 0 3 1;5 5 2;15 5 1;15 15 1;4;0 0 1 1 0 1 0;0 0 1 0 1 1 0;0 0 2 1 0 2 0;0 0 2 0 1 2 0;|1
+ROW 0 144 grid 2 2 2;vertical capacity 4 4;horizontal capacity 4 4;minimum width 1 1;minimum spacing 1 1;via spacing 1 1;0 0 10 10;num net 4;a 0 2 3;15 5 1;5 15 2;b 1 2 1;5 5 1;15 15 2;c 2 3 2;15 5 2;15 15 1;5 15 1;d 3 2 3;15 15 1;15 5 1;4;0 0 1 1 0 1 0;0 0 1 0 1 1 0;0 0 2 1 0 2 0;0 0 2 0 1 2 0;|1
+ROW 0 144 grid 2 2 2;vertical capacity 4 4;horizontal capacity 4 4;minimum width 4 4;minimum spacing 1 1;via spacing 1 1;0 0 10 10;num net 3;a 0 2 1;5 5 1;15 15 2;b 1 5 6;15 5 1;5 15 2;5 5 2;15 15 1;15 5 2;c 2 3 3;15 5 2;15 15 1;5 5 1;0;|4";
 
 #[test]
 fn bounds_are_those_over_all_sets_of_pieces(rt: HostRuntime) -> Result<(), Fail> {
-    for given in rows_of(rt.alloc(), CUBES)? {
+    for row in rows_of(rt.alloc(), CUBES)? {
+        let (given, least_width) = two_fields(row)?;
         let design = design_of(rt.alloc(), given)?;
+        let least_width = number_of(least_width)?;
         for seed in 0..3 {
-            assert!(rt;
-                all_sets_agree(&rt, rt.alloc(), &design, seed)?,
-                "seed {seed} with {given}"
-            );
+            for per_piece in 0..3 {
+                assert!(rt;
+                    all_sets_agree(&rt, rt.alloc(), &design, least_width, seed, per_piece)?,
+                    "seed {seed} and price {per_piece} with {given}"
+                );
+            }
         }
     }
     Ok(())
