@@ -16,7 +16,7 @@ use grid_graph::{Design, Ground};
 use routing_state::{RoutingState, Totals};
 use std::alloc::Global;
 use std::thread::Threads;
-use tree_growth::Stage;
+use net_search::Stage;
 use tree_set::Tree;
 
 /// At most so many passes over the nets on overfull edges alone.

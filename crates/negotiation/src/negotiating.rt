@@ -18,7 +18,7 @@ use grid_graph::{Design, Ground};
 use routing_state::{Rerouting, RoutingState};
 use std::alloc::Global;
 use std::thread::Threads;
-use tree_growth::Stage;
+use net_search::Stage;
 use tree_set::Tree;
 
 /// After so many rounds without a better best no more follow.

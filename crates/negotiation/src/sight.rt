@@ -2,7 +2,8 @@
 
 use grid_base::NoMemory;
 use grid_graph::{Design, Ground};
-use tree_growth::{Field, Growth};
+use net_search::Field;
+use tree_growth::Growth;
 use tree_set::Tree;
 
 /// What all searches of a batch see: the nets with their grounds, the sets that they have, the rooms and prices of the edges, how

@@ -18,7 +18,7 @@ use grid_graph::{Design, Ground};
 use routing_state::RoutingState;
 use std::alloc::Global;
 use std::thread::Threads;
-use tree_growth::Stage;
+use net_search::Stage;
 use tree_set::Tree;
 
 /// The nets at the missing places get routes, short nets first, batch after batch.

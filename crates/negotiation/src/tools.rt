@@ -13,7 +13,8 @@ use grid_graph::{Design, Ground};
 use routing_state::RoutingState;
 use std::alloc::Global;
 use std::thread::Threads;
-use tree_growth::{Field, Growth, Stage};
+use net_search::{Field, Stage};
+use tree_growth::Growth;
 use tree_set::Tree;
 
 /// So many tiles a net may look beyond its box at first.

@@ -6,6 +6,7 @@ pub mod Fresh
 pub mod Full
 pub mod Giving
 pub mod Lacking
+pub mod Narrow
 pub mod Overflows
 pub mod RoomLists
 pub mod Better

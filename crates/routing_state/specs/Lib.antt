@@ -4,6 +4,7 @@ pub use Rattle.tree_set.specs.Loads
 pub use Rattle.tree_set.specs.Measures
 pub use Rattle.tree_set.specs.Routings
 pub mod Best
+pub mod Clipped
 pub mod Lacks
 pub mod NetSets
 pub mod Overfull

@@ -1,7 +1,8 @@
 //! The room on each edge.
 
-ghost use Rattle.std.specs.Prelude.{◌≡◌, ◌≤◌, ◌^◌, nat_abs};
+ghost use Rattle.std.specs.Prelude.{◌≡◌, ◌≤◌, ◌^◌, IfOk, map, nat_abs};
 ghost use Rattle.std.specs.List.{sum_by};
+ghost use Rattle.routing_state.specs.Clipped.{clipped};
 ghost use Rattle.routing_state.specs.Lacks.{lack, IsRoom};
 
 use grid_base::{Edge, NoMemory, Piece};
@@ -9,21 +10,24 @@ use grid_graph::Grid;
 use std::alloc::Global;
 use tree_set::Tree;
 
-/// The room on each edge number: capacity less load, below 0 where the load is more; and how much room is lacking on all
-/// edges together.
+/// The room on each edge number: capacity less load, below 0 where the load is more; the same as 16 bits tell it; and how much
+/// room is lacking on all edges together.
 #[derive(Drop)]
 pub struct Rooms {
     rooms: Vec<i64>,
+    narrow: Vec<i16>,
     lacking: u64,
     pub ghost sum: { lacking ≡ sum_by lack rooms.items },
+    pub ghost same: { narrow.items ≡ map clipped rooms.items },
 }
 
 impl Rooms {
-    ghost use Rattle.std.specs.Prelude.{◌≡◌, ◌<◌, ◌≤◌, ◌*◌, ◌^◌, ℕ, All, IfOk, length, nat_abs, pos, ◌+ℤ◌, ◌-ℤ◌, slice_index_or, slice_set};
+    ghost use Rattle.std.specs.Prelude.{◌≡◌, ◌<◌, ◌≤◌, ◌*◌, ◌^◌, ℕ, All, IfOk, length, map, nat_abs, pos, ◌+ℤ◌, ◌-ℤ◌, slice_index_or, slice_set};
     ghost use Rattle.grid_graph.specs.Grids.{edge_numbers, size_of, IsNetWidth};
     ghost use Rattle.grid_graph.specs.Limits.{max_demand};
     ghost use Rattle.tree_set.specs.Loads.{net_load};
     ghost use Rattle.tree_set.specs.Routings.{ArePieces};
+    ghost use Rattle.routing_state.specs.Clipped.{clipped};
     ghost use Rattle.routing_state.specs.Lacks.{HasRoomToMove};
     ghost use Rattle.routing_state.specs.Rooms.{AreRooms, Gives};
 
@@ -36,7 +40,12 @@ impl Rooms {
         for e in 0..numbers {
             rooms.push(i64::from(grid.capacity(Edge(e))))?;
         }
-        Ok(Rooms { rooms, lacking: 0 })
+        let narrow = clip_all(alloc, rooms.as_slice())?;
+        Ok(Rooms {
+            rooms,
+            narrow,
+            lacking: 0,
+        })
     }
 
     /// The room on each edge number.
@@ -44,6 +53,13 @@ impl Rooms {
         ensures { result.now ≡ self.now.rooms.items }
     {
         self.rooms.as_slice()
+    }
+
+    /// The same as 16 bits tell it.
+    pub(crate) fn narrow_list(&self) -> &[i16]
+        ensures { result.now ≡ map clipped self.now.rooms.items }
+    {
+        self.narrow.as_slice()
     }
 
     /// How much room is lacking on all edges together.
@@ -117,8 +133,33 @@ impl Rooms {
     {
         let others = self.lacking - lack(self.rooms[e.0 as usize]);
         self.rooms[e.0 as usize] = room;
+        self.narrow[e.0 as usize] = clip(room);
         self.lacking = others + lack(room);
     }
+}
+
+/// The rooms as 16 bits tell them.
+fn clip_all(alloc: Global, rooms: &[i64]) -> Result<Vec<i16>, NoMemory>
+    ensures { IfOk result (λ narrow. narrow.items ≡ map clipped rooms.now) }
+{
+    let mut narrow = Vec::with_capacity(alloc, rooms.len())?;
+    for room in rooms {
+        narrow.push(clip(*room))?;
+    }
+    Ok(narrow)
+}
+
+/// The room as 16 bits tell it.
+fn clip(room: i64) -> i16
+    ensures { result ≡ clipped room }
+{
+    if room > i64::from(i16::MAX) {
+        return i16::MAX;
+    }
+    if room < i64::from(i16::MIN) {
+        return i16::MIN;
+    }
+    room as i16
 }
 
 /// How much room is lacking where so much is left.

@@ -19,12 +19,13 @@ pub struct RoutingState {
 }
 
 impl RoutingState {
-    ghost use Rattle.std.specs.Prelude.{◌≡◌, ◌↔◌, ◌<◌, ℕ, List, IfOk, IsTrue, length, slice_index_or, slice_set};
+    ghost use Rattle.std.specs.Prelude.{◌≡◌, ◌↔◌, ◌<◌, ℕ, List, IfOk, IsTrue, length, map, slice_index_or, slice_set};
     ghost use Rattle.grid_base.specs.declared.piece.Piece.{Piece};
     ghost use Rattle.grid_graph.specs.declared.design.Design.{Design as DesignOf};
     ghost use Rattle.grid_graph.specs.declared.ground.Ground.{Ground};
     ghost use Rattle.tree_set.specs.Loads.{load};
     ghost use Rattle.tree_set.specs.Routings.{KeepsTo};
+    ghost use Rattle.routing_state.specs.Clipped.{clipped};
     ghost use Rattle.routing_state.specs.Rooms.{AreRooms};
     ghost use Rattle.routing_state.specs.NetSets.{AreNetSets};
     ghost use Rattle.routing_state.specs.Overfull.{HoldsOverfull};
@@ -59,6 +60,13 @@ impl RoutingState {
         ensures rooms { (d : DesignOf) → IsStateOf d self.now → AreRooms d.grid (load d.grid d.nets (trees_of self.now)) result.now }
     {
         self.rooms.list()
+    }
+
+    /// The same as 16 bits tell it, in a quarter of the bytes, for those who read much of it.
+    pub fn narrow_rooms(&self) -> &[i16]
+        ensures { result.now ≡ map clipped (rooms_of self.now) }
+    {
+        self.rooms.narrow_list()
     }
 
     /// The overflow and the wirelength of the sets.

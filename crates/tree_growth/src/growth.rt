@@ -1,25 +1,13 @@
 //! The growth of a set for one net.
 
-ghost use Rattle.std.specs.Prelude.{◌≡◌, IfOk, IfSome, IfNone, All, length};
+ghost use Rattle.std.specs.Prelude.{◌≡◌, IfOk, IfSome, IfNone, length};
 ghost use Rattle.std.specs.List.{Contains};
-ghost use Rattle.grid_base.specs.Numbers.{IsVertex};
 
-use crate::bound::Bound;
-use crate::directions::Directions;
-use crate::fewest_vias::FewestVias;
-use crate::field::Field;
-use crate::frame::Frame;
 use crate::growing::Growing;
 use crate::grown::Grown;
-use crate::labels::{Labels, road_of};
-use crate::layers::{layers_for, least_demand};
-use crate::plan::Plan;
-use crate::road::Road;
-use crate::site::Site;
-use crate::stage::Stage;
-use crate::weights::Weights;
-use grid_base::{NoMemory, Piece, Size, Vertex};
+use grid_base::{NoMemory, Vertex};
 use grid_graph::{Grid, Ground, NetSpec};
+use net_search::{Field, LayerTables, Plan};
 use std::alloc::Global;
 use tree_set::Tree;
 
@@ -28,8 +16,7 @@ use tree_set::Tree;
 pub struct Growth {
     growing: Growing,
     grown: Grown,
-    directions: Directions,
-    vias: FewestVias,
+    tables: LayerTables,
 }
 
 impl Growth {
@@ -42,12 +29,10 @@ impl Growth {
     pub fn new(alloc: Global, grid: &Grid) -> Result<Growth, NoMemory>
         ensures size { IfOk result (λ growth. growth.grown.size ≡ size_of grid.now) }
     {
-        let directions = Directions::of(alloc, grid)?;
         Ok(Growth {
             growing: Growing::new(alloc, grid)?,
             grown: Grown::new(alloc, grid.size())?,
-            vias: FewestVias::of(alloc, &directions)?,
-            directions,
+            tables: LayerTables::of(alloc, grid)?,
         })
     }
 
@@ -78,27 +63,12 @@ impl Growth {
             None => return Ok(Some(Tree::empty(self.grown.allocator()))),
         };
         self.grown.begin(root);
-        let layers = layers_for(grid, &self.directions, net.width);
-        let plan = Plan {
-            grid,
-            size: grid.size(),
-            weights: Weights {
-                field,
-                layers,
-                over,
-            },
-            bound: Bound {
-                vias: &self.vias,
-                landmark: landmark_of(field),
-                demand: u64::from(least_demand(&layers)),
-                cols: grid.size().cols(),
-            },
-            frame: frame_of(grid.size(), terminals),
-            margin,
-        };
-        lay_own(&mut self.growing.search.labels, grid, over, own, true);
-        let is_done = self.growing.grow(&plan, &mut self.grown, root, terminals);
-        lay_own(&mut self.growing.search.labels, grid, over, own, false);
+        let plan = Plan::of(grid, &self.tables, field, over, net, margin);
+        self.growing.search.lay_own(own, true);
+        let is_done = self
+            .growing
+            .grow(grid, over, &plan, &mut self.grown, root, terminals);
+        self.growing.search.lay_own(own, false);
         if !is_done? {
             return Ok(None);
         }
@@ -125,39 +95,4 @@ fn root_of(terminals: &[Vertex], turn: usize) -> Option<Vertex>
         return None;
     }
     Some(terminals[turn % terminals.len()])
-}
-
-/// The distances from the landmark where prices weigh, and none elsewhere.
-fn landmark_of(field: Field<'_>) -> &[u32] {
-    match field.stage {
-        Stage::Negotiation => field.landmark,
-        Stage::Start | Stage::Descent => &[],
-    }
-}
-
-/// The box of terminals.
-fn frame_of(size: Size, terminals: &[Vertex]) -> Frame
-    requires { All (λ t. IsVertex size t.0) terminals.now }
-{
-    let mut frame = Frame::NONE;
-    for terminal in terminals {
-        frame = frame.with(Site::of(size, *terminal), 0);
-    }
-    frame
-}
-
-/// Says of the edges of the net's own set that they are its own, or that they are no longer.
-fn lay_own(labels: &mut Labels, grid: &Grid, over: Ground, own: &Tree, is_own: bool) {
-    for piece in own.pieces() {
-        if let Piece::Edge(edge) = *piece {
-            if grid.allows(over, *piece) {
-                let road = if is_own {
-                    Road::Own
-                } else {
-                    road_of(grid, edge)
-                };
-                labels.lay(grid.size(), edge, road);
-            }
-        }
-    }
 }

@@ -6,35 +6,17 @@
 //! let found = growth.tree(&grid, field, &net, over, &own, turn, margin)?;
 //! ```
 //!
-//! It stands on `grid_graph` for grids and nets, on `tree_set` for sets, and on `grid_base` for vertices and pieces.
+//! It stands on `net_search` for the way to the next terminal, on `grid_graph` for grids and nets, on `tree_set` for sets, and on
+//! `grid_base` for vertices and pieces.
 //!
 //! Promised: what is found keeps to the ground and joins the net's terminals. That it is cheap is measured, not promised.
 #![tactic(auto)]
 
-mod bound;
-mod bucket_queue;
-mod directions;
-mod entry;
-mod fewest_vias;
-mod field;
-mod frame;
 mod growing;
 mod grown;
 mod growth;
-mod label;
-mod labels;
 mod landmark;
-mod layers;
-mod plan;
-mod road;
-mod search;
-mod side;
-mod site;
-mod stage;
-mod target;
-mod weights;
+mod targets;
 
-pub use field::Field;
 pub use growth::Growth;
 pub use landmark::landmark_distances;
-pub use stage::Stage;

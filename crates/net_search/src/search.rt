@@ -1,61 +1,86 @@
 //! One search: from all that is joined to the nearest target.
 
-use crate::bucket_queue::BucketQueue;
-use crate::frame::Frame;
+use crate::entry::entry_weight;
 use crate::labels::Labels;
 use crate::plan::Plan;
 use crate::road::Road;
 use crate::side::Side;
 use crate::site::Site;
 use crate::target::Target;
+use crate::view::View;
 use crate::weights::UNIT;
-use grid_base::{Edge, NoMemory};
+use bucket_queue::BucketQueue;
+use grid_base::{Edge, NoMemory, Piece};
 use grid_graph::Grid;
 use std::alloc::Global;
+use tree_set::Tree;
 
-/// What one search goes by.
+/// The tables of searches, made once for a grid.
 #[derive(Drop)]
-pub(crate) struct View<'t, 'p, 'a> {
-    pub(crate) plan: &'p Plan<'a>,
-    /// Where it may end.
-    pub(crate) targets: &'t [Target],
-    /// It stays in here.
-    pub(crate) frame: Frame,
+pub struct NetSearch {
+    labels: Labels,
+    queue: BucketQueue<Site>,
 }
 
-impl View<'_, '_, '_> {
-    /// What is still to go from here at least.
-    fn rest(&self, site: &Site) -> u64 {
-        self.plan.bound.rest(self.targets, site)
-    }
-
-    /// Whether a site is that of a target.
-    fn is_target(&self, site: &Site) -> bool {
-        self.targets
-            .iter()
-            .any(|target| target.site.vertex == site.vertex)
-    }
-}
-
-/// The tables of a search.
-#[derive(Drop)]
-pub(crate) struct Search {
-    pub(crate) labels: Labels,
-    queue: BucketQueue,
-}
-
-impl Search {
+impl NetSearch {
     /// The tables for searches on this grid.
-    pub(crate) fn new(alloc: Global, grid: &Grid) -> Result<Search, NoMemory> {
-        Ok(Search {
+    pub fn new(alloc: Global, grid: &Grid) -> Result<NetSearch, NoMemory> {
+        Ok(NetSearch {
             labels: Labels::new(alloc, grid)?,
             queue: BucketQueue::new(alloc)?,
         })
     }
 
-    /// A target to which a way of least cost leads from the sources, as far as the bound is one. `None` is a view in which
-    /// no way leads to one.
-    pub(crate) fn nearest(
+    /// Says of the edges of a set that they are those which the net of the next searches has got, or that they are no longer.
+    /// Loads are weighed as if its own set were taken away.
+    pub fn lay_own(&mut self, own: &Tree, is_own: bool) {
+        for piece in own.pieces() {
+            if let Piece::Edge(edge) = *piece {
+                self.labels.lay(edge, is_own);
+            }
+        }
+    }
+
+    /// A terminal as a target, where so far one site is joined.
+    pub fn target(&self, plan: &Plan<'_>, site: Site, joined: Site) -> Target {
+        Target {
+            site,
+            distance: site.tiles_to(joined),
+            entry: entry_weight(plan.size, &self.labels, &plan.weights, site),
+            from_landmark: plan.bound.from_landmark(&site),
+        }
+    }
+
+    /// The site of a target that is reached at least cost from the sources, as far as the bound is one. Where nothing is found
+    /// the margin doubles, up to the whole grid. `None` is a grid in which no way leads to a target.
+    pub fn nearest(
+        &mut self,
+        plan: &Plan<'_>,
+        targets: &[Target],
+        sources: &[Site],
+    ) -> Result<Option<Site>, NoMemory> {
+        let mut margin = plan.margin;
+        for _ in 0..u32::BITS {
+            let view = View::of(plan, targets, margin);
+            if let Some(site) = self.nearest_in(&view, sources)? {
+                return Ok(Some(site));
+            }
+            if margin >= plan.size.cols() && margin >= plan.size.rows() {
+                return Ok(None);
+            }
+            margin = margin.saturating_mul(2).saturating_add(1);
+        }
+        Ok(None)
+    }
+
+    /// The piece by which the last search reached a site, and where from.
+    pub fn step_back(&self, plan: &Plan<'_>, site: Site) -> (Piece, Site) {
+        let side = self.labels.at(site.label).back;
+        (site.piece(plan.size, side), site.beside(plan.size, side))
+    }
+
+    /// The site of a target that is reached at least cost in a view.
+    fn nearest_in(
         &mut self,
         view: &View<'_, '_, '_>,
         sources: &[Site],
@@ -82,7 +107,7 @@ impl Search {
     }
 
     /// Offers each neighbour of a site the way over this one.
-    fn spread(&mut self, view: &View<'_, '_, '_>, from: &Site, cost: u64) -> Result<(), NoMemory> {
+    fn spread(&mut self, view: &View<'_, '_, '_>, from: &Site, cost: u32) -> Result<(), NoMemory> {
         if from.layer > 0 {
             self.offer_via(view, from, Side::Down, Side::Up, cost)?;
         }
@@ -106,7 +131,7 @@ impl Search {
         &mut self,
         view: &View<'_, '_, '_>,
         from: &Site,
-        cost: u64,
+        cost: u32,
         demand: u32,
     ) -> Result<(), NoMemory> {
         if from.col > view.frame.west {
@@ -127,7 +152,7 @@ impl Search {
         &mut self,
         view: &View<'_, '_, '_>,
         from: &Site,
-        cost: u64,
+        cost: u32,
         demand: u32,
     ) -> Result<(), NoMemory> {
         if from.row > view.frame.south {
@@ -150,7 +175,7 @@ impl Search {
         from: &Site,
         side: Side,
         back: Side,
-        cost: u64,
+        cost: u32,
     ) -> Result<(), NoMemory> {
         let to = from.beside(view.plan.size, side);
         let cost = cost.saturating_add(UNIT);
@@ -166,7 +191,7 @@ impl Search {
         view: &View<'_, '_, '_>,
         to: &Site,
         back: Side,
-        cost: u64,
+        cost: u32,
         edge: Edge,
         road: Road,
         demand: u32,
@@ -183,16 +208,19 @@ impl Search {
         Ok(())
     }
 
-    /// Gives a site this cost, with which it waits.
+    /// Gives a site this cost, with which it waits. The bound is asked where it begins to wait.
     fn lower(
         &mut self,
         view: &View<'_, '_, '_>,
         to: &Site,
-        cost: u64,
+        cost: u32,
         back: Side,
     ) -> Result<(), NoMemory> {
-        self.labels.lower(to.label, cost, back);
-        let key = cost.saturating_add(view.rest(to));
-        self.queue.push(key, *to)
+        let rest = match self.labels.rest(to.label) {
+            Some(rest) => rest,
+            None => view.rest(to),
+        };
+        self.labels.lower(to.label, cost, rest, back);
+        self.queue.push(u64::from(cost) + u64::from(rest), *to)
     }
 }

@@ -6,7 +6,7 @@ use grid_base::{Edge, Piece, Place, Size, Vertex, Via};
 /// A vertex, its place, and where its label stands. The labels of one tile stand side by side, from layer to layer, so
 /// that a search stays close in memory.
 #[derive(Clone, Copy)]
-pub(crate) struct Site {
+pub struct Site {
     pub(crate) vertex: u32,
     pub(crate) col: u32,
     pub(crate) row: u32,
@@ -18,7 +18,7 @@ impl Site {
     ghost use Rattle.grid_base.specs.Numbers.{IsVertex};
 
     /// The site of a vertex.
-    pub(crate) fn of(size: Size, v: Vertex) -> Site
+    pub fn of(size: Size, v: Vertex) -> Site
         requires { IsVertex size v.0 }
     {
         let Place { col, row, layer } = size.place_of(v);
@@ -29,6 +29,11 @@ impl Site {
             layer,
             label: label_at(size, col, row, layer),
         }
+    }
+
+    /// Its vertex.
+    pub fn vertex(self) -> Vertex {
+        Vertex(self.vertex)
     }
 
     /// The site on the lowest layer of its tile.
@@ -118,7 +123,7 @@ impl Site {
     }
 
     /// How many tile steps lead from its tile to that of another one.
-    pub(crate) fn tiles_to(self, other: Site) -> u32 {
+    pub fn tiles_to(self, other: Site) -> u32 {
         self.col
             .abs_diff(other.col)
             .saturating_add(self.row.abs_diff(other.row))
@@ -126,7 +131,15 @@ impl Site {
 }
 
 /// Where the label of a vertex stands.
-fn label_at(size: Size, col: u32, row: u32, layer: u32) -> u32 {
+pub(crate) fn label_of(size: Size, v: Vertex) -> u32 {
+    let tiles = size.cols() * size.rows();
+    (v.0 % tiles)
+        .wrapping_mul(size.layers())
+        .wrapping_add(v.0 / tiles)
+}
+
+/// Where the label at a place stands.
+pub(crate) fn label_at(size: Size, col: u32, row: u32, layer: u32) -> u32 {
     row.wrapping_mul(size.cols())
         .wrapping_add(col)
         .wrapping_mul(size.layers())

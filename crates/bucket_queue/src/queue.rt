@@ -1,6 +1,5 @@
 //! A queue of buckets.
 
-use crate::site::Site;
 use grid_base::NoMemory;
 use std::alloc::Global;
 
@@ -10,61 +9,61 @@ const BUCKETS: usize = 1 << 15;
 /// Below this each key has a bucket of its own.
 const FINE: u64 = 1 << 14;
 
-/// As many greater keys share a bucket.
+/// As many greater keys share a bucket. All keys that are too great for any other bucket share the last one.
 const COARSE: u64 = 32;
 
-/// Stands for no item.
-const NO_ITEM: u32 = u32::MAX;
+/// Stands for no entry.
+const NO_ENTRY: u32 = u32::MAX;
 
-/// An item, and the one below it in its bucket.
+/// An item, and the entry below it in its bucket.
 #[derive(Clone, Copy)]
-struct Entry {
-    site: Site,
+struct Entry<T> {
+    item: T,
     below: u32,
 }
 
-/// Sites by their keys: what was put in last comes out first of those of one bucket.
+/// Items by their keys: what was put in last comes out first of those of one bucket.
 #[derive(Drop)]
-pub(crate) struct BucketQueue {
-    /// The last item of each bucket.
+pub struct BucketQueue<T> {
+    /// The last entry of each bucket.
     tops: Vec<u32>,
-    /// The items that were put in since the queue was cleared.
-    entries: Vec<Entry>,
-    /// No bucket below this has an item.
+    /// What was put in since the queue was cleared.
+    entries: Vec<Entry<T>>,
+    /// No bucket below this has an entry.
     low: usize,
     /// Nor has one from here on.
     end: usize,
 }
 
-impl BucketQueue {
+impl<T: Copy> BucketQueue<T> {
     /// An empty queue.
-    pub(crate) fn new(alloc: Global) -> Result<BucketQueue, NoMemory> {
+    pub fn new(alloc: Global) -> Result<BucketQueue<T>, NoMemory> {
         Ok(BucketQueue {
-            tops: vec![in alloc; NO_ITEM; BUCKETS]?,
+            tops: vec![in alloc; NO_ENTRY; BUCKETS]?,
             entries: Vec::new(alloc),
             low: BUCKETS,
             end: 0,
         })
     }
 
-    /// Takes all out.
-    pub(crate) fn clear(&mut self) {
+    /// Takes all items out. What it costs grows with the span of the keys, not with the buckets.
+    pub fn clear(&mut self) {
         let end = self.end.min(self.tops.len());
         if self.low < end {
-            self.tops.as_mut_slice()[self.low..end].fill(NO_ITEM);
+            self.tops.as_mut_slice()[self.low..end].fill(NO_ENTRY);
         }
         self.entries.clear();
         self.low = BUCKETS;
         self.end = 0;
     }
 
-    /// Puts a site in.
-    pub(crate) fn push(&mut self, key: u64, site: Site) -> Result<(), NoMemory> {
+    /// Puts an item in.
+    pub fn push(&mut self, key: u64, item: T) -> Result<(), NoMemory> {
         let bucket = bucket_of(key);
-        if bucket < self.tops.len() && self.entries.len() < NO_ITEM as usize {
+        if bucket < self.tops.len() && self.entries.len() < NO_ENTRY as usize {
             let top = self.entries.len() as u32;
             self.entries.push(Entry {
-                site,
+                item,
                 below: self.tops[bucket],
             })?;
             self.tops[bucket] = top;
@@ -74,16 +73,16 @@ impl BucketQueue {
         Ok(())
     }
 
-    /// Takes a site of the first bucket that has one out.
-    pub(crate) fn pop(&mut self) -> Option<Site> {
+    /// Takes out the last item of the first bucket that has one.
+    pub fn pop(&mut self) -> Option<T> {
         let end = self.end.min(self.tops.len());
         for bucket in self.low..end {
             let top = self.tops[bucket] as usize;
             if top < self.entries.len() {
-                let Entry { site, below } = self.entries[top];
+                let Entry { item, below } = self.entries[top];
                 self.tops[bucket] = below;
                 self.low = bucket;
-                return Some(site);
+                return Some(item);
             }
         }
         None

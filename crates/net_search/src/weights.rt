@@ -8,16 +8,16 @@ use grid_base::Edge;
 use grid_graph::Ground;
 
 /// What a wire over one edge weighs, and a via.
-pub(crate) const UNIT: u64 = 4;
+pub(crate) const UNIT: u32 = 4;
 
 /// What one more overflow weighs where nets get their first set.
-const OVERFLOW_AT_START: u64 = 16;
+const OVERFLOW_AT_START: u32 = 16;
 
 /// The same in negotiation: it stays far below what prices rise to, so that nets push one another away.
-const OVERFLOW_IN_NEGOTIATION: u64 = 20;
+const OVERFLOW_IN_NEGOTIATION: u32 = 20;
 
 /// The same in descent: more than any way round.
-const OVERFLOW_IN_DESCENT: u64 = 400;
+const OVERFLOW_IN_DESCENT: u32 = 400;
 
 /// What edges weigh for one net.
 #[derive(Drop)]
@@ -31,32 +31,32 @@ pub(crate) struct Weights<'a> {
 
 impl Weights<'_> {
     /// What an edge on this layer weighs. `None` is an edge that the net may not use.
-    pub(crate) fn weight(&self, edge: Edge, road: Road, demand: u32) -> Option<u64> {
+    pub(crate) fn weight(&self, edge: Edge, road: Road, demand: u32) -> Option<u32> {
         let is_own = match road {
             Road::Wall => return None,
-            Road::Choked if self.over == Ground::Open => return None,
+            Road::Choked | Road::OwnChoked if self.over == Ground::Open => return None,
             Road::Choked | Road::Open => false,
-            Road::Own => true,
+            Road::OwnChoked | Road::OwnOpen => true,
         };
         let at = edge.0 as usize;
         if at >= self.field.rooms.len() {
             return None;
         }
-        let overflow = u64::from(added_overflow(self.field.rooms[at], demand, is_own));
+        let overflow = added_overflow(self.field.rooms[at], demand, is_own);
         let weight = match self.field.stage {
-            Stage::Start => overflow * OVERFLOW_AT_START,
-            Stage::Negotiation => (overflow * OVERFLOW_IN_NEGOTIATION).saturating_add(self.priced(
-                edge, demand,
-            )),
-            Stage::Descent => overflow * OVERFLOW_IN_DESCENT,
+            Stage::Start => overflow.saturating_mul(OVERFLOW_AT_START),
+            Stage::Negotiation => overflow
+                .saturating_mul(OVERFLOW_IN_NEGOTIATION)
+                .saturating_add(self.priced(edge, demand)),
+            Stage::Descent => overflow.saturating_mul(OVERFLOW_IN_DESCENT),
         };
         Some(weight.saturating_add(UNIT))
     }
 
     /// What the demand costs at the price of an edge.
-    fn priced(&self, edge: Edge, demand: u32) -> u64 {
+    fn priced(&self, edge: Edge, demand: u32) -> u32 {
         match self.field.prices.get(edge.0 as usize) {
-            Some(price) => u64::from(*price).saturating_mul(u64::from(demand)),
+            Some(price) => price.saturating_mul(demand),
             None => 0,
         }
     }

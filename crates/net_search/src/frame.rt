@@ -1,7 +1,10 @@
 //! Boxes of tiles.
 
+ghost use Rattle.std.specs.Prelude.{All};
+ghost use Rattle.grid_base.specs.Numbers.{IsVertex};
+
 use crate::site::Site;
-use grid_base::Size;
+use grid_base::{Size, Vertex};
 
 /// The tiles between two columns and two rows.
 #[derive(Clone, Copy)]
@@ -61,4 +64,15 @@ impl Frame {
             && self.south <= site.row
             && site.row <= self.north
     }
+}
+
+/// The box of terminals.
+pub(crate) fn frame_of(size: Size, terminals: &[Vertex]) -> Frame
+    requires { All (λ t. IsVertex size t.0) terminals.now }
+{
+    let mut frame = Frame::NONE;
+    for terminal in terminals {
+        frame = frame.with(Site::of(size, *terminal), 0);
+    }
+    frame
 }

@@ -3,14 +3,15 @@
 use crate::label::Label;
 use crate::road::Road;
 use crate::side::Side;
-use crate::site::Site;
-use grid_base::{Axis, Edge, NoMemory, Size, Vertex};
-use grid_graph::{Grid, Kind};
+use crate::site::{label_at, label_of};
+use grid_base::{Axis, Edge, NoMemory, Place, Size, Vertex};
+use grid_graph::Grid;
 use std::alloc::Global;
 
 /// A label for each vertex. A label counts only under the number of the present search, so that a search clears nothing.
 #[derive(Drop)]
 pub(crate) struct Labels {
+    size: Size,
     labels: Vec<Label>,
     search: u32,
 }
@@ -20,20 +21,17 @@ impl Labels {
     pub(crate) fn new(alloc: Global, grid: &Grid) -> Result<Labels, NoMemory> {
         let size = grid.size();
         let mut labels = Labels {
+            size,
             labels: vec![in alloc; Label::BLANK; size.vertices() as usize]?,
             search: 0,
         };
         for v in 0..size.vertices() {
-            labels.lay(
-                size,
-                Edge::along(Vertex(v), Axis::X),
-                road_of(grid, Edge::along(Vertex(v), Axis::X)),
-            );
-            labels.lay(
-                size,
-                Edge::along(Vertex(v), Axis::Y),
-                road_of(grid, Edge::along(Vertex(v), Axis::Y)),
-            );
+            let Place { col, row, layer } = size.place_of(Vertex(v));
+            let at = label_at(size, col, row, layer) as usize;
+            if at < labels.labels.len() {
+                labels.labels[at].east = Road::of(grid.kind(Edge::along(Vertex(v), Axis::X)));
+                labels.labels[at].north = Road::of(grid.kind(Edge::along(Vertex(v), Axis::Y)));
+            }
         }
         Ok(labels)
     }
@@ -49,19 +47,15 @@ impl Labels {
         self.search += 1;
     }
 
-    /// Says what an edge is to the searches that follow.
-    pub(crate) fn lay(&mut self, size: Size, edge: Edge, road: Road) {
-        let start = edge.start();
-        if start.0 >= size.vertices() {
-            return;
-        }
-        let at = Site::of(size, start).label as usize;
+    /// Says whether the net of the searches that follow has got an edge.
+    pub(crate) fn lay(&mut self, edge: Edge, is_own: bool) {
+        let at = label_of(self.size, edge.start()) as usize;
         if at >= self.labels.len() {
             return;
         }
         match edge.axis() {
-            Axis::X => self.labels[at].east = road,
-            Axis::Y => self.labels[at].north = road,
+            Axis::X => self.labels[at].east = self.labels[at].east.owned(is_own),
+            Axis::Y => self.labels[at].north = self.labels[at].north.owned(is_own),
         }
     }
 
@@ -76,7 +70,7 @@ impl Labels {
     }
 
     /// Whether a way at this cost would lower the cost of a label.
-    pub(crate) fn may_lower(&self, place: u32, cost: u64) -> bool {
+    pub(crate) fn may_lower(&self, place: u32, cost: u32) -> bool {
         let at = place as usize;
         at < self.labels.len()
             && {
@@ -85,13 +79,24 @@ impl Labels {
             }
     }
 
-    /// Gives a label this cost and this way back.
-    pub(crate) fn lower(&mut self, place: u32, cost: u64, back: Side) {
+    /// What is still to go from here at least. `None` where this search hasn't been.
+    pub(crate) fn rest(&self, place: u32) -> Option<u32> {
+        let label = self.at(place);
+        if label.search == self.search {
+            Some(label.rest)
+        } else {
+            None
+        }
+    }
+
+    /// Gives a label this cost, this rest and this way back.
+    pub(crate) fn lower(&mut self, place: u32, cost: u32, rest: u32, back: Side) {
         let at = place as usize;
         if at < self.labels.len() {
             let label = self.labels[at];
             self.labels[at] = Label {
                 cost,
+                rest,
                 search: self.search,
                 back,
                 is_taken: false,
@@ -101,24 +106,12 @@ impl Labels {
     }
 
     /// Takes a label, and answers its cost. `None` where it was taken before.
-    pub(crate) fn take(&mut self, place: u32) -> Option<u64> {
+    pub(crate) fn take(&mut self, place: u32) -> Option<u32> {
         let at = place as usize;
         if at >= self.labels.len() || self.labels[at].is_taken {
             return None;
         }
         self.labels[at].is_taken = true;
         Some(self.labels[at].cost)
-    }
-}
-
-/// What an edge of the grid is to a net that hasn't got it.
-pub(crate) fn road_of(grid: &Grid, edge: Edge) -> Road {
-    if edge.start().0 >= grid.size().vertices() {
-        return Road::Wall;
-    }
-    match grid.kind(edge) {
-        Kind::Open => Road::Open,
-        Kind::Choked => Road::Choked,
-        Kind::Wall => Road::Wall,
     }
 }

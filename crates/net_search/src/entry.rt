@@ -8,8 +8,8 @@ use crate::weights::{UNIT, Weights};
 use grid_base::{Edge, Size};
 
 /// What an edge into the tile of a site weighs at least beyond the unit, on whatever layer; 0 where there is none.
-pub(crate) fn entry_weight(size: Size, labels: &Labels, weights: &Weights<'_>, site: Site) -> u64 {
-    let mut least = u64::MAX;
+pub(crate) fn entry_weight(size: Size, labels: &Labels, weights: &Weights<'_>, site: Site) -> u32 {
+    let mut least = u32::MAX;
     let mut at = site.at_bottom(size);
     for _ in 0..size.layers() {
         least = least.min(entry_on_layer(size, labels, weights, at));
@@ -18,15 +18,15 @@ pub(crate) fn entry_weight(size: Size, labels: &Labels, weights: &Weights<'_>, s
         }
         at = at.beside(size, Side::Up);
     }
-    if least == u64::MAX { 0 } else { least }
+    if least == u32::MAX { 0 } else { least }
 }
 
 /// The same of the edges of one layer. The road beside the first column or row is that of another one's end: a wall.
-fn entry_on_layer(size: Size, labels: &Labels, weights: &Weights<'_>, site: Site) -> u64 {
+fn entry_on_layer(size: Size, labels: &Labels, weights: &Weights<'_>, site: Site) -> u32 {
     let Some(layer) = weights.layers.get(site.layer as usize) else {
-        return u64::MAX;
+        return u32::MAX;
     };
-    let mut least = u64::MAX;
+    let mut least = u32::MAX;
     if layer.along_x {
         let west = site.beside(size, Side::West);
         least = least
@@ -63,9 +63,9 @@ fn entry_on_layer(size: Size, labels: &Labels, weights: &Weights<'_>, site: Site
 }
 
 /// What an edge weighs beyond the unit.
-fn beyond_unit(weights: &Weights<'_>, edge: Edge, road: Road, demand: u32) -> u64 {
+fn beyond_unit(weights: &Weights<'_>, edge: Edge, road: Road, demand: u32) -> u32 {
     match weights.weight(edge, road, demand) {
         Some(weight) => weight.saturating_sub(UNIT),
-        None => u64::MAX,
+        None => u32::MAX,
     }
 }

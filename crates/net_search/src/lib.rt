@@ -1,0 +1,48 @@
+//! One search for a net: a cheap way from all that is joined to the nearest of some terminals, at the loads of all others.
+//!
+//! ```text
+//! let tables = LayerTables::of(alloc, &grid)?;
+//! let mut search = NetSearch::new(alloc, &grid)?;
+//! let plan = Plan::of(&grid, &tables, field, over, &net, margin);
+//! search.lay_own(&own, true);
+//! let target = search.target(&plan, Site::of(plan.size(), terminal), &root);
+//! let found = search.nearest(&plan, &[target], &[root])?;
+//! ```
+//!
+//! A* after Hart, Nilsson and Raphael (1968): what is still to go is bounded by the pieces that a way has at least, by what
+//! entering the target's tile costs, and by distances from a landmark (Goldberg and Harrelson, 2005). A search keeps to a box,
+//! which grows where nothing is found.
+//!
+//! It stands on `bucket_queue` for what waits, on `grid_graph` for grids and nets, on `tree_set` for sets, and on `grid_base`
+//! for vertices and pieces.
+//!
+//! Nothing is promised but that each call ends. What rests on a search tests the ways that it finds.
+#![tactic(auto)]
+
+mod bound;
+mod directions;
+mod entry;
+mod fewest_vias;
+mod field;
+mod frame;
+mod label;
+mod labels;
+mod layer_tables;
+mod layers;
+mod plan;
+mod road;
+mod search;
+mod side;
+mod site;
+mod stage;
+mod target;
+mod view;
+mod weights;
+
+pub use field::Field;
+pub use layer_tables::LayerTables;
+pub use plan::Plan;
+pub use search::NetSearch;
+pub use site::Site;
+pub use stage::Stage;
+pub use target::Target;

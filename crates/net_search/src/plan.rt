@@ -1,0 +1,76 @@
+//! What the searches for one net go by.
+
+use crate::bound::Bound;
+use crate::field::Field;
+use crate::frame::{Frame, frame_of};
+use crate::layer_tables::LayerTables;
+use crate::layers::{layers_for, least_demand};
+use crate::stage::Stage;
+use crate::weights::Weights;
+use grid_base::Size;
+use grid_graph::{Grid, Ground, NetSpec};
+
+/// What the searches for one net go by.
+#[derive(Drop)]
+pub struct Plan<'a> {
+    pub(crate) size: Size,
+    pub(crate) weights: Weights<'a>,
+    pub(crate) bound: Bound<'a>,
+    /// The box of the net's terminals.
+    pub(crate) frame: Frame,
+    /// How far a search looks beyond it at first.
+    pub(crate) margin: u32,
+}
+
+impl<'a> Plan<'a> {
+    ghost use Rattle.std.specs.Prelude.{◌≡◌};
+    ghost use Rattle.grid_graph.specs.Grids.{size_of};
+    ghost use Rattle.grid_graph.specs.Nets.{IsNet};
+
+    /// What the searches for a net go by at the loads of this field, in its ground. They look no further than the margin
+    /// beyond the box of the net's terminals, unless nothing is found there.
+    pub fn of(
+        grid: &Grid,
+        tables: &'a LayerTables,
+        field: Field<'a>,
+        over: Ground,
+        net: &NetSpec,
+        margin: u32,
+    ) -> Plan<'a>
+        requires net { IsNet grid.now net.now }
+        ensures size { result.size ≡ size_of grid.now }
+    {
+        let layers = layers_for(grid, &tables.directions, net.width);
+        Plan {
+            size: grid.size(),
+            weights: Weights {
+                field,
+                layers,
+                over,
+            },
+            bound: Bound {
+                vias: &tables.vias,
+                landmark: landmark_of(field),
+                demand: least_demand(&layers),
+                cols: grid.size().cols(),
+            },
+            frame: frame_of(grid.size(), net.terminals.list()),
+            margin,
+        }
+    }
+
+    /// The size of the grid.
+    pub fn size(&self) -> Size
+        ensures { result ≡ self.now.size }
+    {
+        self.size
+    }
+}
+
+/// The distances from the landmark where prices weigh, and none elsewhere.
+fn landmark_of(field: Field<'_>) -> &[u32] {
+    match field.stage {
+        Stage::Negotiation => field.landmark,
+        Stage::Start | Stage::Descent => &[],
+    }
+}
