@@ -13,10 +13,10 @@ use crate::order::long_first;
 use crate::tools::Tools;
 use grid_base::NoMemory;
 use grid_graph::{Design, Ground};
+use net_search::Stage;
 use routing_state::{RoutingState, Totals};
 use std::alloc::Global;
 use std::thread::Threads;
-use net_search::Stage;
 use tree_set::Tree;
 
 /// At most so many passes over the nets on overfull edges alone.

@@ -15,10 +15,10 @@ use crate::due::Due;
 use crate::tools::Tools;
 use grid_base::NoMemory;
 use grid_graph::{Design, Ground};
+use net_search::Stage;
 use routing_state::{Rerouting, RoutingState};
 use std::alloc::Global;
 use std::thread::Threads;
-use net_search::Stage;
 use tree_set::Tree;
 
 /// After so many rounds without a better best no more follow.

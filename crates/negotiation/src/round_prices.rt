@@ -8,16 +8,16 @@ use std::alloc::Global;
 use tree_growth::landmark_distances;
 
 /// So much the price of an overfull edge rises in a round.
-const STEP: u32 = 10;
+const STEP: u16 = 10;
 /// No price is greater.
-const MOST: u32 = 4000;
+const MOST: u16 = 4000;
 /// A price falls by one part of so many where there is room, and at least by 1.
-const PARTS: u32 = 50;
+const PARTS: u16 = 50;
 
 /// The price of each edge number for each unit of demand, and how far each tile is from the first one at these prices.
 #[derive(Drop)]
 pub(crate) struct RoundPrices {
-    prices: Vec<u32>,
+    prices: Vec<u16>,
     landmark: Vec<u32>,
 }
 
@@ -37,7 +37,7 @@ impl RoundPrices {
     }
 
     /// The prices.
-    pub fn prices(&self) -> &[u32]
+    pub fn prices(&self) -> &[u16]
         ensures { result.now ≡ self.now.prices.items }
     {
         self.prices.as_slice()
@@ -60,7 +60,7 @@ impl RoundPrices {
 }
 
 /// Each price follows the room on its edge.
-fn move_prices(prices: &mut [u32], rooms: &[i64])
+fn move_prices(prices: &mut [u16], rooms: &[i64])
     requires { length rooms.now ≡ length prices.old }
 {
     for e in 0..prices.len() {
@@ -69,7 +69,7 @@ fn move_prices(prices: &mut [u32], rooms: &[i64])
 }
 
 /// The price that follows where so much room is left. With a room of 0 or 1 it stays.
-fn next_price(price: u32, room: i64) -> u32 {
+fn next_price(price: u16, room: i64) -> u16 {
     if room < 0 {
         return price.saturating_add(STEP).min(MOST);
     }

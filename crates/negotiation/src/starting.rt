@@ -15,10 +15,10 @@ use crate::spanning::spanning_set;
 use crate::tools::Tools;
 use grid_base::NoMemory;
 use grid_graph::{Design, Ground};
+use net_search::Stage;
 use routing_state::RoutingState;
 use std::alloc::Global;
 use std::thread::Threads;
-use net_search::Stage;
 use tree_set::Tree;
 
 /// The nets at the missing places get routes, short nets first, batch after batch.

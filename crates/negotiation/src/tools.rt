@@ -10,10 +10,10 @@ use crate::searching::search_batch;
 use crate::sight::Sight;
 use grid_base::NoMemory;
 use grid_graph::{Design, Ground};
+use net_search::{Field, Stage};
 use routing_state::RoutingState;
 use std::alloc::Global;
 use std::thread::Threads;
-use net_search::{Field, Stage};
 use tree_growth::Growth;
 use tree_set::Tree;
 
@@ -103,6 +103,7 @@ impl Tools {
             trees: state.trees(),
             field: Field {
                 rooms: state.rooms(),
+                narrow_rooms: state.narrow_rooms(),
                 prices: self.prices.prices(),
                 landmark: self.prices.landmark(),
                 stage,

@@ -33,13 +33,13 @@ fn entry_on_layer(size: Size, labels: &Labels, weights: &Weights<'_>, site: Site
             .min(beyond_unit(
                 weights,
                 site.east(),
-                labels.at(site.label).east,
+                labels.at(site.vertex).east,
                 layer.demand,
             ))
             .min(beyond_unit(
                 weights,
                 west.east(),
-                labels.at(west.label).east,
+                labels.at(west.vertex).east,
                 layer.demand,
             ));
     }
@@ -49,13 +49,13 @@ fn entry_on_layer(size: Size, labels: &Labels, weights: &Weights<'_>, site: Site
             .min(beyond_unit(
                 weights,
                 site.north(),
-                labels.at(site.label).north,
+                labels.at(site.vertex).north,
                 layer.demand,
             ))
             .min(beyond_unit(
                 weights,
                 south.north(),
-                labels.at(south.label).north,
+                labels.at(south.vertex).north,
                 layer.demand,
             ));
     }

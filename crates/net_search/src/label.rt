@@ -3,14 +3,12 @@
 use crate::road::Road;
 use crate::side::Side;
 
-/// What the searches know of a vertex, in 16 bytes. All but the edges counts only under the number of the present search.
-/// Costs and bounds that 32 bits can't hold stand as the greatest number: such ways are found, in whatever order.
+/// What the searches know of a vertex, in 12 bytes. All but the edges counts only under the number of the present search.
+/// A cost that 32 bits can't hold stands as the greatest number: such ways are found, in whatever order.
 #[derive(Clone, Copy)]
 pub(crate) struct Label {
     /// What the way to it costs.
     pub(crate) cost: u32,
-    /// What is still to go from it at least.
-    pub(crate) rest: u32,
     /// The search that reached it last.
     pub(crate) search: u32,
     /// The neighbour that it was reached from.
@@ -27,7 +25,6 @@ impl Label {
     /// That of a vertex which no search has reached, between walls.
     pub(crate) const BLANK: Label = Label {
         cost: 0,
-        rest: 0,
         search: 0,
         back: Side::West,
         is_taken: false,

@@ -3,15 +3,13 @@
 use crate::label::Label;
 use crate::road::Road;
 use crate::side::Side;
-use crate::site::{label_at, label_of};
-use grid_base::{Axis, Edge, NoMemory, Place, Size, Vertex};
+use grid_base::{Axis, Edge, NoMemory, Vertex};
 use grid_graph::Grid;
 use std::alloc::Global;
 
 /// A label for each vertex. A label counts only under the number of the present search, so that a search clears nothing.
 #[derive(Drop)]
 pub(crate) struct Labels {
-    size: Size,
     labels: Vec<Label>,
     search: u32,
 }
@@ -19,21 +17,14 @@ pub(crate) struct Labels {
 impl Labels {
     /// No vertex is reached. The roads are those of the grid.
     pub(crate) fn new(alloc: Global, grid: &Grid) -> Result<Labels, NoMemory> {
-        let size = grid.size();
-        let mut labels = Labels {
-            size,
-            labels: vec![in alloc; Label::BLANK; size.vertices() as usize]?,
-            search: 0,
-        };
-        for v in 0..size.vertices() {
-            let Place { col, row, layer } = size.place_of(Vertex(v));
-            let at = label_at(size, col, row, layer) as usize;
-            if at < labels.labels.len() {
-                labels.labels[at].east = Road::of(grid.kind(Edge::along(Vertex(v), Axis::X)));
-                labels.labels[at].north = Road::of(grid.kind(Edge::along(Vertex(v), Axis::Y)));
-            }
+        let count = grid.size().vertices() as usize;
+        let mut labels = vec![in alloc; Label::BLANK; count]?;
+        for v in 0..labels.len() {
+            let start = Vertex(v as u32);
+            labels[v].east = Road::of(grid.kind(Edge::along(start, Axis::X)));
+            labels[v].north = Road::of(grid.kind(Edge::along(start, Axis::Y)));
         }
-        Ok(labels)
+        Ok(Labels { labels, search: 0 })
     }
 
     /// Begins a search: no vertex is reached.
@@ -49,7 +40,7 @@ impl Labels {
 
     /// Says whether the net of the searches that follow has got an edge.
     pub(crate) fn lay(&mut self, edge: Edge, is_own: bool) {
-        let at = label_of(self.size, edge.start()) as usize;
+        let at = edge.start().0 as usize;
         if at >= self.labels.len() {
             return;
         }
@@ -59,9 +50,9 @@ impl Labels {
         }
     }
 
-    /// The label at a place. One that is outside the grid is blank.
-    pub(crate) fn at(&self, place: u32) -> Label {
-        let at = place as usize;
+    /// The label of a vertex. One that is outside the grid is blank.
+    pub(crate) fn at(&self, vertex: u32) -> Label {
+        let at = vertex as usize;
         if at < self.labels.len() {
             self.labels[at]
         } else {
@@ -70,8 +61,8 @@ impl Labels {
     }
 
     /// Whether a way at this cost would lower the cost of a label.
-    pub(crate) fn may_lower(&self, place: u32, cost: u32) -> bool {
-        let at = place as usize;
+    pub(crate) fn may_lower(&self, vertex: u32, cost: u32) -> bool {
+        let at = vertex as usize;
         at < self.labels.len()
             && {
                 let label = self.labels[at];
@@ -79,24 +70,13 @@ impl Labels {
             }
     }
 
-    /// What is still to go from here at least. `None` where this search hasn't been.
-    pub(crate) fn rest(&self, place: u32) -> Option<u32> {
-        let label = self.at(place);
-        if label.search == self.search {
-            Some(label.rest)
-        } else {
-            None
-        }
-    }
-
-    /// Gives a label this cost, this rest and this way back.
-    pub(crate) fn lower(&mut self, place: u32, cost: u32, rest: u32, back: Side) {
-        let at = place as usize;
+    /// Gives a label this cost and this way back.
+    pub(crate) fn lower(&mut self, vertex: u32, cost: u32, back: Side) {
+        let at = vertex as usize;
         if at < self.labels.len() {
             let label = self.labels[at];
             self.labels[at] = Label {
                 cost,
-                rest,
                 search: self.search,
                 back,
                 is_taken: false,
@@ -106,8 +86,8 @@ impl Labels {
     }
 
     /// Takes a label, and answers its cost. `None` where it was taken before.
-    pub(crate) fn take(&mut self, place: u32) -> Option<u32> {
-        let at = place as usize;
+    pub(crate) fn take(&mut self, vertex: u32) -> Option<u32> {
+        let at = vertex as usize;
         if at >= self.labels.len() || self.labels[at].is_taken {
             return None;
         }

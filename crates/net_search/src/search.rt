@@ -75,7 +75,7 @@ impl NetSearch {
 
     /// The piece by which the last search reached a site, and where from.
     pub fn step_back(&self, plan: &Plan<'_>, site: Site) -> (Piece, Site) {
-        let side = self.labels.at(site.label).back;
+        let side = self.labels.at(site.vertex).back;
         (site.piece(plan.size, side), site.beside(plan.size, side))
     }
 
@@ -96,7 +96,7 @@ impl NetSearch {
             let Some(site) = self.queue.pop() else {
                 return Ok(None);
             };
-            if let Some(cost) = self.labels.take(site.label) {
+            if let Some(cost) = self.labels.take(site.vertex) {
                 if view.is_target(&site) {
                     return Ok(Some(site));
                 }
@@ -136,12 +136,12 @@ impl NetSearch {
     ) -> Result<(), NoMemory> {
         if from.col > view.frame.west {
             let to = from.beside(view.plan.size, Side::West);
-            let road = self.labels.at(to.label).east;
+            let road = self.labels.at(to.vertex).east;
             self.offer(view, &to, Side::East, cost, to.east(), road, demand)?;
         }
         if from.col < view.frame.east {
             let to = from.beside(view.plan.size, Side::East);
-            let road = self.labels.at(from.label).east;
+            let road = self.labels.at(from.vertex).east;
             self.offer(view, &to, Side::West, cost, from.east(), road, demand)?;
         }
         Ok(())
@@ -157,12 +157,12 @@ impl NetSearch {
     ) -> Result<(), NoMemory> {
         if from.row > view.frame.south {
             let to = from.beside(view.plan.size, Side::South);
-            let road = self.labels.at(to.label).north;
+            let road = self.labels.at(to.vertex).north;
             self.offer(view, &to, Side::North, cost, to.north(), road, demand)?;
         }
         if from.row < view.frame.north {
             let to = from.beside(view.plan.size, Side::North);
-            let road = self.labels.at(from.label).north;
+            let road = self.labels.at(from.vertex).north;
             self.offer(view, &to, Side::South, cost, from.north(), road, demand)?;
         }
         Ok(())
@@ -179,7 +179,7 @@ impl NetSearch {
     ) -> Result<(), NoMemory> {
         let to = from.beside(view.plan.size, side);
         let cost = cost.saturating_add(UNIT);
-        if self.labels.may_lower(to.label, cost) {
+        if self.labels.may_lower(to.vertex, cost) {
             self.lower(view, &to, cost, back)?;
         }
         Ok(())
@@ -196,19 +196,19 @@ impl NetSearch {
         road: Road,
         demand: u32,
     ) -> Result<(), NoMemory> {
-        if !self.labels.may_lower(to.label, cost.saturating_add(UNIT)) {
+        if !self.labels.may_lower(to.vertex, cost.saturating_add(UNIT)) {
             return Ok(());
         }
         if let Some(weight) = view.plan.weights.weight(edge, road, demand) {
             let cost = cost.saturating_add(weight);
-            if weight == UNIT || self.labels.may_lower(to.label, cost) {
+            if weight == UNIT || self.labels.may_lower(to.vertex, cost) {
                 self.lower(view, to, cost, back)?;
             }
         }
         Ok(())
     }
 
-    /// Gives a site this cost, with which it waits. The bound is asked where it begins to wait.
+    /// Gives a site this cost, with which it waits.
     fn lower(
         &mut self,
         view: &View<'_, '_, '_>,
@@ -216,11 +216,8 @@ impl NetSearch {
         cost: u32,
         back: Side,
     ) -> Result<(), NoMemory> {
-        let rest = match self.labels.rest(to.label) {
-            Some(rest) => rest,
-            None => view.rest(to),
-        };
-        self.labels.lower(to.label, cost, rest, back);
-        self.queue.push(u64::from(cost) + u64::from(rest), *to)
+        self.labels.lower(to.vertex, cost, back);
+        let key = u64::from(cost) + u64::from(view.rest(to));
+        self.queue.push(key, *to)
     }
 }

@@ -1,17 +1,15 @@
-//! A vertex with its place and that of its label.
+//! A vertex with its place.
 
 use crate::side::Side;
 use grid_base::{Edge, Piece, Place, Size, Vertex, Via};
 
-/// A vertex, its place, and where its label stands. The labels of one tile stand side by side, from layer to layer, so
-/// that a search stays close in memory.
+/// A vertex and its place.
 #[derive(Clone, Copy)]
 pub struct Site {
     pub(crate) vertex: u32,
     pub(crate) col: u32,
     pub(crate) row: u32,
     pub(crate) layer: u32,
-    pub(crate) label: u32,
 }
 
 impl Site {
@@ -27,7 +25,6 @@ impl Site {
             col,
             row,
             layer,
-            label: label_at(size, col, row, layer),
         }
     }
 
@@ -44,7 +41,6 @@ impl Site {
         Site {
             vertex: self.vertex.wrapping_sub(below),
             layer: 0,
-            label: self.label.wrapping_sub(self.layer),
             ..self
         }
     }
@@ -56,45 +52,37 @@ impl Site {
             col,
             row,
             layer,
-            label,
         } = self;
-        let by_row = size.cols().wrapping_mul(size.layers());
         let by_layer = size.cols().wrapping_mul(size.rows());
         match side {
             Side::West => Site {
                 vertex: vertex.wrapping_sub(1),
                 col: col.wrapping_sub(1),
-                label: label.wrapping_sub(size.layers()),
                 ..self
             },
             Side::East => Site {
                 vertex: vertex.wrapping_add(1),
                 col: col.wrapping_add(1),
-                label: label.wrapping_add(size.layers()),
                 ..self
             },
             Side::South => Site {
                 vertex: vertex.wrapping_sub(size.cols()),
                 row: row.wrapping_sub(1),
-                label: label.wrapping_sub(by_row),
                 ..self
             },
             Side::North => Site {
                 vertex: vertex.wrapping_add(size.cols()),
                 row: row.wrapping_add(1),
-                label: label.wrapping_add(by_row),
                 ..self
             },
             Side::Down => Site {
                 vertex: vertex.wrapping_sub(by_layer),
                 layer: layer.wrapping_sub(1),
-                label: label.wrapping_sub(1),
                 ..self
             },
             Side::Up => Site {
                 vertex: vertex.wrapping_add(by_layer),
                 layer: layer.wrapping_add(1),
-                label: label.wrapping_add(1),
                 ..self
             },
         }
@@ -128,20 +116,4 @@ impl Site {
             .abs_diff(other.col)
             .saturating_add(self.row.abs_diff(other.row))
     }
-}
-
-/// Where the label of a vertex stands.
-pub(crate) fn label_of(size: Size, v: Vertex) -> u32 {
-    let tiles = size.cols() * size.rows();
-    (v.0 % tiles)
-        .wrapping_mul(size.layers())
-        .wrapping_add(v.0 / tiles)
-}
-
-/// Where the label at a place stands.
-pub(crate) fn label_at(size: Size, col: u32, row: u32, layer: u32) -> u32 {
-    row.wrapping_mul(size.cols())
-        .wrapping_add(col)
-        .wrapping_mul(size.layers())
-        .wrapping_add(layer)
 }

@@ -38,11 +38,7 @@ impl Weights<'_> {
             Road::Choked | Road::Open => false,
             Road::OwnChoked | Road::OwnOpen => true,
         };
-        let at = edge.0 as usize;
-        if at >= self.field.rooms.len() {
-            return None;
-        }
-        let overflow = added_overflow(self.field.rooms[at], demand, is_own);
+        let overflow = added_overflow(self.room(edge)?, demand, is_own);
         let weight = match self.field.stage {
             Stage::Start => overflow.saturating_mul(OVERFLOW_AT_START),
             Stage::Negotiation => overflow
@@ -53,10 +49,20 @@ impl Weights<'_> {
         Some(weight.saturating_add(UNIT))
     }
 
+    /// The room of an edge.
+    fn room(&self, edge: Edge) -> Option<i64> {
+        let at = edge.0 as usize;
+        match self.field.narrow_rooms.get(at) {
+            None => None,
+            Some(&i16::MIN | &i16::MAX) => self.field.rooms.get(at).copied(),
+            Some(room) => Some(i64::from(*room)),
+        }
+    }
+
     /// What the demand costs at the price of an edge.
     fn priced(&self, edge: Edge, demand: u32) -> u32 {
         match self.field.prices.get(edge.0 as usize) {
-            Some(price) => price.saturating_mul(demand),
+            Some(price) => u32::from(*price).saturating_mul(demand),
             None => 0,
         }
     }

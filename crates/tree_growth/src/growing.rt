@@ -143,12 +143,7 @@ impl Growing {
     }
 
     /// Takes the pieces of the way into the set, from what is joined on. Answers whether each could be.
-    fn take_way(
-        &mut self,
-        grid: &Grid,
-        over: Ground,
-        grown: &mut Grown,
-    ) -> Result<bool, NoMemory>
+    fn take_way(&mut self, grid: &Grid, over: Ground, grown: &mut Grown) -> Result<bool, NoMemory>
         requires size { grown.old.size ≡ size_of grid.now }
         ensures size { grown.new.size ≡ grown.old.size }
         ensures grown { IfOk result (λ _. IsGrown grid.now over grown.old → IsGrown grid.now over grown.new) }

@@ -20,7 +20,7 @@ type Waiting = BinaryHeap<Reverse<(u32, u32)>>;
 /// that lead there. They take the place of the distances before.
 pub fn landmark_distances(
     grid: &Grid,
-    prices: &[u32],
+    prices: &[u16],
     from: Vertex,
     distances: &mut Vec<u32>,
 ) -> Result<(), NoMemory>
@@ -45,7 +45,7 @@ pub fn landmark_distances(
 }
 
 /// Lowers the number of each tile edge to the least price of the open edges over it.
-fn lower_to_prices(grid: &Grid, prices: &[u32], least: &mut [u32])
+fn lower_to_prices(grid: &Grid, prices: &[u16], least: &mut [u32])
     requires prices { length prices.now ≡ edge_numbers grid.now }
 {
     let mut at = 0;
@@ -54,7 +54,7 @@ fn lower_to_prices(grid: &Grid, prices: &[u32], least: &mut [u32])
             at = 0;
         }
         if at < least.len() && grid.capacity(Edge(e)) > 0 {
-            least[at] = least[at].min(prices[e as usize]);
+            least[at] = least[at].min(u32::from(prices[e as usize]));
         }
         at += 1;
     }

@@ -5,5 +5,5 @@ use Rattle.tree_growth.proofs.growing.Growing.join_all.Given as goal
 abbrev pub invariant-loop : goal.invariant-loop
 invariant-loop l = record {
   size : l.grown.size ≡ l.initial.grown.size;
-  grown : IsGrown l.plan.grid.now l.plan.weights.over l.initial.grown → IsGrown l.plan.grid.now l.plan.weights.over l.grown;
+  grown : IsGrown l.grid l.over l.initial.grown → IsGrown l.grid l.over l.grown;
 }

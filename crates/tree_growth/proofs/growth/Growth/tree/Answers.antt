@@ -19,16 +19,13 @@ begin-requires c =
           (net_vertices c.args.grid.now c.args.net.now s c.list-terminals.result.now c.requires.net c.in_ok-fit.ensures c.list-terminals.ensures.items) c.in-Some.ensures.root;
     }
 
-pub frame_of-requires : goal.frame_of-requires
-frame_of-requires c = net_vertices c.args.grid.now c.args.net.now c.size-3.result c.list-terminals.result.now c.requires.net c.size-3.ensures c.list-terminals.ensures.items
-
 pub grow-is_done-requires-clause-root : goal.grow-is_done-requires-clause-root
 grow-is_done-requires-clause-root c =
-    All-contains (λ (v : Vertex). IsVertex c.size.result v.0) c.list-terminals.result.now c.in-Some.root
-    (net_vertices c.args.grid.now c.args.net.now c.size.result c.list-terminals.result.now c.requires.net c.size.ensures c.list-terminals.ensures.items) c.in-Some.ensures.root
+    All-contains (λ (v : Vertex). IsVertex c.of-plan.result.size v.0) c.list-terminals.result.now c.in-Some.root
+    (net_vertices c.args.grid.now c.args.net.now c.of-plan.result.size c.list-terminals.result.now c.requires.net c.of-plan.ensures.size c.list-terminals.ensures.items) c.in-Some.ensures.root
 
 pub grow-is_done-requires-clause-terminals : goal.grow-is_done-requires-clause-terminals
-grow-is_done-requires-clause-terminals c = net_vertices c.args.grid.now c.args.net.now c.size.result c.list-terminals.result.now c.requires.net c.size.ensures c.list-terminals.ensures.items
+grow-is_done-requires-clause-terminals c = net_vertices c.args.grid.now c.args.net.now c.of-plan.result.size c.list-terminals.result.now c.requires.net c.of-plan.ensures.size c.list-terminals.ensures.items
 
 pub returns-clause-keeps : goal.returns-clause-keeps
 returns-clause-keeps c =
