@@ -73,6 +73,16 @@ ROW 101 142 1099511627747 0 10 10;num net 0;|nothing
 refused 3 23;
 
 guide a.gr a.routes a.guide
+ROW 51 142 0;minimum width 1;minimum spacing 1;via spacing 1;1099511627747 0 10 10;num net 1;a 0 2 1;1099511627752 5 1;1099511627772 5 1;0;|
+3
+refused 3 23;
+
+guide a.gr a.routes a.guide
+ROW 51 142 0;minimum width 1;minimum spacing 1;via spacing 1;1099511627746 0 10 10;num net 1;a 0 2 1;1099511627751 5 1;1099511627771 5 1;0;|
+5
+refused 5 4 0 1;
+
+guide a.gr a.routes a.guide
 ROW 101 142 0 1099511627767 10 10;num net 0;|
 3
 refused 3 23;
