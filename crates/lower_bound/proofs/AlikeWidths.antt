@@ -1,5 +1,5 @@
 -- Nets of two widths that use as much of each edge pay the same.
-use Rattle.std.proofs.Common.{◌≡◌, ℕ, ◌+◌, ◌*◌, ◌<◌, ◌≤◌, List, [], ◌∷◌, All, map, true, cond, slice_index, refl, sym, ◌∙◌, ap, subst, arith}
+use Rattle.std.proofs.Common.{◌≡◌, ℕ, ◌+◌, ◌*◌, ◌<◌, ◌≤◌, List, [], ◌∷◌, All, map, true, cond, slice_index, refl, ◌∙◌, ap, subst, arith}
 use Rattle.std.specs.List.{filter}
 use Rattle.std.proofs.lemmas.Bool.{ltb-true, and_parts}
 use Rattle.std.proofs.lemmas.Nat.{mul-le}
@@ -10,9 +10,9 @@ use Rattle.grid_base.specs.declared.size.Size.{Size}
 use Rattle.grid_base.specs.Numbers.{cols, rows, layers, vertices}
 use Rattle.grid_graph.specs.declared.grid.Grid.{Grid}
 use Rattle.grid_graph.specs.declared.ground.Ground.{Ground}
-use Rattle.grid_graph.specs.Grids.{size_of, kind, edge_numbers, IsNetWidth}
+use Rattle.grid_graph.specs.Grids.{size_of, edge_numbers, IsNetWidth}
 use Rattle.grid_graph.specs.TilePieces.{AreLeastBetweenTiles}
-use Rattle.edge_prices.specs.PieceLists.{IsWeightList, admits, has_piece, all_pieces}
+use Rattle.edge_prices.specs.PieceLists.{IsWeightList, has_piece, all_pieces}
 use Rattle.edge_prices.specs.Weights.{cost, is_open}
 use Rattle.lower_bound.specs.ClassWords.{AreClassCosts, UseAsMuch}
 use Rattle.lower_bound.specs.Costs.{costed}

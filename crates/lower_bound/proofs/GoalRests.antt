@@ -6,11 +6,10 @@ use Rattle.grid_base.specs.declared.piece.Piece.{Piece}
 use Rattle.grid_base.specs.declared.piece.Piece.TheVariants.{Edge, Via}
 use Rattle.grid_base.specs.declared.size.Size.{Size}
 use Rattle.grid_base.specs.declared.vertex.Vertex.{Vertex}
-use Rattle.grid_base.specs.Numbers.{layer_of, IsPiece, Connects}
+use Rattle.grid_base.specs.Numbers.{layer_of, IsPiece}
 use Rattle.grid_graph.specs.declared.floors.Floors.{Floors}
 use Rattle.grid_graph.specs.Flat.{tile_of, tile_edge_of, IsFlatOf, AreLeastOver}
 use Rattle.grid_graph.specs.Floors.{AreFloors}
-use Rattle.grid_graph.specs.Weighed.{Weighs}
 use Rattle.grid_graph.proofs.TileSteps.{edge_connects, via_goes, flat_tiles}
 use Rattle.label_search.specs.Sets.{RisesSlowly}
 use Rattle.label_search.specs.Stamped.{most, far}

@@ -13,10 +13,8 @@ use Rattle.grid_graph.specs.Floors.{floor_along, AreFloors, AreTileFloors, AreWi
 use Rattle.grid_graph.specs.Limits.{max_weight}
 use Rattle.grid_graph.specs.TilePieces.{AreLeastBetweenTiles}
 use Rattle.grid_graph.proofs.TileSteps.{some_tiles, tile_edge-number}
-use Rattle.edge_prices.specs.Limits.{max_price}
-use Rattle.label_search.specs.Paths.{NoneWeighsNothing}
 use Rattle.lower_bound.specs.LedWeights.{led_over, led_floors}
-use Rattle.lower_bound.specs.Raised.{raised, MayBeRaised}
+use Rattle.lower_bound.specs.Raised.{raised}
 use Rattle.lower_bound.specs.TileCosts.{costs_between, cost_over}
 use Rattle.lower_bound.proofs.CostLists.{cost_is}
 use Rattle.lower_bound.proofs.Mapped.{raised_from}
@@ -53,10 +51,6 @@ led_floors_below s pieces costs floors extra under tile_floors (Via v) k weighs 
 
 pub led_within : (floors : Floors) (extra : ℕ) → extra ≤ max_weight → AreWithin (led_floors floors extra)
 led_within floors extra small = record { x = omega arith; y = omega arith; vias = small }
-
--- where something is added no piece weighs nothing
-pub raised_weigh : (pieces : List (Piece × ℕ)) (extra : ℕ) → 0 < extra → NoneWeighsNothing (raised pieces extra)
-raised_weigh pieces extra some p k weighs = let old = raised_from pieces extra p k weighs in omega (arith, old.sum, some)
 
 -- floors that were computed
 pub same_floors : (floors : Floors) (extra via x y : ℕ) → via ≡ extra → x ≡ min (floors.along_x + extra) max_weight → y ≡ min (floors.along_y + extra) max_weight

@@ -1,9 +1,9 @@
-use Rattle.std.proofs.Common.{ℕ, ◌*◌, ◌≡◌, ◌<◌, ap, sym, ◌∙◌, inl, inr, ⊎_elim, arith}
+use Rattle.std.proofs.Common.{◌*◌, ◌≡◌, ap, sym, ◌∙◌, ⊎_elim, arith}
 use Rattle.std.proofs.lemmas.Bool.{cases_eq}
 use Rattle.grid_base.specs.declared.edge.Edge.{Edge as EdgeNumber}
 use Rattle.grid_base.specs.Numbers.{cols, rows, layers, layer_of, edge_start}
-use Rattle.grid_graph.specs.Grids.{size_of, demand_on}
-use Rattle.edge_prices.proofs.Layers.{first_of_layer, layer-below, same_demand}
+use Rattle.grid_graph.specs.Grids.{size_of}
+use Rattle.edge_prices.proofs.Layers.{first_of_layer, same_demand}
 use Rattle.lower_bound.proofs.AlikeWidths.{edge_in_layer}
 use Rattle.lower_bound.proofs.class_costs.use_as_much.Goals as goal
 

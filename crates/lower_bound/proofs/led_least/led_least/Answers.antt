@@ -1,4 +1,4 @@
-use Rattle.std.proofs.Common.{ℕ, ◌≡◌, ◌^◌, ◌-◌, ◌/◌, ◌<◌, ◌≤◌, List, length, All, sym, ◌∙◌, ap, subst, arith}
+use Rattle.std.proofs.Common.{ℕ, ◌≡◌, ◌^◌, ◌-◌, ◌≤◌, List, length, All, sym, ◌∙◌, ap, subst, arith}
 use Rattle.grid_base.specs.declared.size.Size.{Size}
 use Rattle.grid_base.specs.declared.vertex.Vertex.{Vertex}
 use Rattle.grid_base.specs.Numbers.{IsVertex}
@@ -6,7 +6,7 @@ use Rattle.grid_graph.specs.Flat.{IsFlatOf}
 use Rattle.grid_graph.specs.TilePieces.{tiles_of}
 use Rattle.grid_graph.proofs.TileLists.{tiles_vertices}
 use Rattle.grid_graph.proofs.TileSteps.{flat_tiles}
-use Rattle.shortest_paths.specs.LabelWords.{labels_size, masks_of}
+use Rattle.shortest_paths.specs.LabelWords.{labels_size}
 use Rattle.steiner_exact.proofs.Attempts.{few_masks}
 use Rattle.steiner_exact.proofs.BoxSteps.{few_masks_all, some_masks_all}
 use Rattle.lower_bound.proofs.led_least.led_least.Goals as goal

@@ -1,6 +1,5 @@
-use Rattle.std.proofs.Common.{get_or, false, subst, ⊎_elim, arith}
+use Rattle.std.proofs.Common.{false, subst, ⊎_elim, arith}
 use Rattle.std.specs.Bool.{IsTrue}
-use Rattle.grid_base.specs.declared.vertex.Vertex.{Vertex}
 use Rattle.lower_bound.proofs.NearestLed.{found_more, found_same, found_all}
 use Rattle.lower_bound.proofs.led_nearest.found_goals.Goals as goal
 use Rattle.lower_bound.proofs.led_nearest.found_goals.Goals.{then-is_found_goal+in_ok-push, else-is_found_goal}

@@ -1,4 +1,4 @@
-use Rattle.std.proofs.Common.{ℕ, ◌≡◌, All, List, None, sym, ◌∙◌, subst, arith}
+use Rattle.std.proofs.Common.{All, List, sym, subst, arith}
 use Rattle.grid_base.specs.declared.vertex.Vertex.{Vertex}
 use Rattle.grid_base.specs.Numbers.{IsVertex}
 use Rattle.grid_graph.proofs.TileLists.{tiles_vertices}

@@ -1,4 +1,4 @@
-use Rattle.std.proofs.Common.{◌≡◌, ◌-◌, ◌<◌, ◌≤◌}
+use Rattle.std.proofs.Common.{◌-◌, ◌<◌, ◌≤◌}
 use Rattle.label_search.specs.Stamped.{most}
 use Rattle.steiner_exact.specs.TreeLabelWords.{AreTreeLabels}
 use Rattle.lower_bound.specs.GoalRests.{IsNearestWithin}

@@ -1,7 +1,6 @@
 use Rattle.std.proofs.Common.{ℕ, [], ◌∷◌, refl, sym, ◌∙◌, ap, subst, ⊎_elim, arith}
 use Rattle.grid_base.specs.declared.size.Size.{Size}
 use Rattle.label_search.specs.Sets.{RisesSlowly}
-use Rattle.shortest_paths.specs.LabelWords.{labels_size}
 use Rattle.steiner_exact.specs.FlatPieces.{edges_with}
 use Rattle.lower_bound.specs.GoalRests.{across_at}
 use Rattle.lower_bound.proofs.GoalRests.{across_slow}

@@ -1,7 +1,4 @@
-use Rattle.std.proofs.Common.{◌∙◌, All, sym, ap, subst, arith}
-use Rattle.grid_base.specs.declared.size.Size.{Size}
-use Rattle.grid_base.specs.Numbers.{IsVertex}
-use Rattle.grid_base.specs.declared.vertex.Vertex.{Vertex}
+use Rattle.std.proofs.Common.{◌∙◌, ap, subst}
 use Rattle.shortest_paths.specs.LabelWords.{label_of}
 use Rattle.label_search.specs.Stamped.{far}
 use Rattle.steiner_tables.specs.Tables.{IsPrunedTable, answer_at}

@@ -1,4 +1,3 @@
-use Rattle.std.proofs.Common.{◌≡◌, length}
 use Rattle.lower_bound.specs.Representatives.{AreRepresentatives}
 use Rattle.lower_bound.proofs.representatives.join_free.Given as goal
 

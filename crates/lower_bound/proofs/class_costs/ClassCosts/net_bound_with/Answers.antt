@@ -1,4 +1,4 @@
-use Rattle.std.proofs.Common.{◌≡◌, ℕ, ◌<◌, List, IfOk, sym, ◌∙◌, ap, subst, arith}
+use Rattle.std.proofs.Common.{◌≡◌, ℕ, List, IfOk, sym, ◌∙◌, ap, subst, arith}
 use Rattle.grid_base.specs.declared.piece.Piece.{Piece}
 use Rattle.grid_base.specs.declared.size.Size.{Size}
 use Rattle.grid_base.specs.declared.vertex.Vertex.{Vertex}
@@ -7,14 +7,11 @@ use Rattle.grid_graph.specs.Grids.{size_of}
 use Rattle.grid_graph.specs.TilePieces.{AreLeastBetweenTiles}
 use Rattle.grid_graph.specs.Weighed.{IsAllowed}
 use Rattle.edge_prices.specs.Costings.{costed_size, costed_pieces}
-use Rattle.label_search.specs.Paths.{NoneWeighsNothing}
-use Rattle.lower_bound.specs.declared.class_costs.ClassCosts.{ClassCosts}
 use Rattle.lower_bound.specs.Costs.{costed}
 use Rattle.lower_bound.specs.NetBounds.{IsNetBound}
 use Rattle.lower_bound.specs.Raised.{raised}
 use Rattle.lower_bound.specs.TileCosts.{costs_between}
 use Rattle.lower_bound.proofs.Costed.{raised_costs, joined_by_costs}
-use Rattle.lower_bound.proofs.LedWeights.{raised_weigh}
 use Rattle.lower_bound.proofs.TileBounds.{costed_alone}
 use Rattle.lower_bound.proofs.class_costs.ClassCosts.net_bound_with.Goals as goal
 use Rattle.lower_bound.proofs.class_costs.ClassCosts.net_bound_with.Goals.{After-list}

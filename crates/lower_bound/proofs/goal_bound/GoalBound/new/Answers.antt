@@ -1,7 +1,6 @@
-use Rattle.std.proofs.Common.{◌≡◌, sym, subst, arith}
+use Rattle.std.proofs.Common.{sym, subst, arith}
 use Rattle.grid_base.specs.declared.size.Size.{Size}
 use Rattle.grid_graph.specs.Flat.{AreLeastOver}
-use Rattle.label_search.specs.Sets.{RisesSlowly}
 use Rattle.lower_bound.specs.GoalRests.{across_at}
 use Rattle.shortest_paths.specs.LabelWords.{labels_size}
 use Rattle.lower_bound.proofs.GoalRests.{goal_slow}

@@ -16,5 +16,8 @@ returns-clause-value g c =
     let layer : c.args.place.layer ≡ layer_of x.size v = ap (λ (p : Place). p.layer) c.requires.place in
     let width : c.from-layers.result ≡ layer_of x.size v - x.layer + (x.layer - layer_of x.size v) =
     omega (arith, c.from-layers.ensures, c.abs_diff.ensures, layer) in
-    c.min.ensures ∙ ap (λ n. min (n + c.from-layers.result * x.via) (2 ^ 61)) ground
-    ∙ ap (λ n. min (across (tile_of x.size v) + n * x.via) (2 ^ 61)) width
+    let by_tile : ℕ = min (c.across.result + c.from-layers.result * x.via) (2 ^ 61) in
+    let by_number : ℕ = min (across (tile_of x.size v) + c.from-layers.result * x.via) (2 ^ 61) in
+    ◌∙◌ {b = by_tile} c.min.ensures
+    (◌∙◌ {b = by_number} (ap (λ n. min (n + c.from-layers.result * x.via) (2 ^ 61)) ground)
+    (ap (λ n. min (across (tile_of x.size v) + n * x.via) (2 ^ 61)) width))

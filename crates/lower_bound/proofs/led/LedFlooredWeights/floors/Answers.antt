@@ -1,8 +1,6 @@
-use Rattle.std.proofs.Common.{◌≡◌, ℕ, ◌+◌, ◌≤◌, min, ap, subst, arith}
+use Rattle.std.proofs.Common.{subst, arith}
 use Rattle.grid_graph.specs.declared.floors.Floors.{Floors}
-use Rattle.grid_graph.specs.Floors.{AreFloors, AreTileFloors}
-use Rattle.grid_graph.specs.Limits.{max_weight}
-use Rattle.lower_bound.specs.LedWeights.{led_over, led_floors}
+use Rattle.grid_graph.specs.Floors.{AreFloors}
 use Rattle.lower_bound.specs.Raised.{raised}
 use Rattle.lower_bound.proofs.LedWeights.{led_tile_floors, led_floors_below, same_floors}
 use Rattle.lower_bound.proofs.led.LedFlooredWeights.floors.Goals as goal

@@ -1,4 +1,4 @@
-use Rattle.std.proofs.Common.{sym, ◌∙◌, subst, arith}
+use Rattle.std.proofs.Common.{sym, ◌∙◌, arith}
 use Rattle.groups.specs.Joined.{IsParent}
 use Rattle.lower_bound.proofs.Represented.{free_up, joined_freely, own_representatives}
 use Rattle.lower_bound.proofs.representatives.Representatives.renew.Goals as goal
