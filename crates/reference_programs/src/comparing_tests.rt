@@ -1,40 +1,12 @@
 //! Merging and the flood that is used join the same, on all small grids.
 
 use crate::known::{are_pieces, are_vertices};
+use crate::piece_sets::{all_pieces, chosen};
 use crate::reference_joins::joins_by_merging;
-use grid_base::{Edge, Piece, Size, Vertex, Via};
-use std::alloc::{AllocError, Global};
+use grid_base::{Size, Vertex};
+use std::alloc::Global;
 use std::test::Fail;
 use tree_set::{Tree, joins};
-
-/// All pieces of the size.
-fn all_pieces(alloc: Global, size: Size) -> Result<Vec<Piece>, AllocError> {
-    let mut pieces = Vec::new(alloc);
-    for e in 0..2 * size.vertices() {
-        if size.is_piece(Piece::Edge(Edge(e))) {
-            pieces.push(Piece::Edge(Edge(e)))?;
-        }
-    }
-    for v in 0..size.vertices() {
-        if size.is_piece(Piece::Via(Via(v))) {
-            pieces.push(Piece::Via(Via(v)))?;
-        }
-    }
-    Ok(pieces)
-}
-
-/// The pieces whose bits are set in the number.
-fn chosen(alloc: Global, pieces: &[Piece], number: u32) -> Result<Tree, AllocError> {
-    let mut kept = Vec::new(alloc);
-    let mut rest = number;
-    for p in pieces {
-        if rest % 2 == 1 {
-            kept.push(*p)?;
-        }
-        rest /= 2;
-    }
-    Ok(Tree::of(kept))
-}
 
 /// Whether both programs say the same of these terminals.
 fn agree(alloc: Global, size: Size, tree: &Tree, terminals: &[Vertex]) -> Result<bool, Fail> {

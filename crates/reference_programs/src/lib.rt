@@ -1,4 +1,4 @@
-//! Reference programs for sets of pieces, distances and trees, which are slow, beside the fast ones.
+//! Reference programs for sets of pieces, distances, trees and guides, which are slow, beside the fast ones.
 //!
 //! A reference program answers by a method that is evident and slow, so that a reader who trusts it trusts the definition
 //! that its contract cites, and the tests compare it with the program that is used:
@@ -9,18 +9,20 @@
 //! let least = reference_least_weight(alloc, size, weighed_pieces, terminals)?; // of a least tree, where pieces are few
 //! ```
 //!
-//! It stands on the libraries whose programs and definitions it compares: `tree_set`, `shortest_paths`, `steiner_exact` and
-//! `steiner_span`, over `grid_graph` and `grid_base`. Nothing stands on it. Those for texts are in
-//! `reference_readers`.
+//! It stands on the libraries whose programs and definitions it compares: `tree_set`, `guide_text`, `shortest_paths`,
+//! `steiner_exact` and `steiner_span`, over `grid_graph` and `grid_base`, and on `worked_designs`. Nothing stands on it. Those
+//! for texts are in `reference_readers`.
 //!
 //! The programs stand with the tests that call them, so that they are proved once.
 //!
-//! Promised: each answer is the one of the definition.
+//! Promised: each answer is the one of the definition, where a contract says so.
 
 #![tactic(auto)]
 
 #[cfg(test)]
 mod comparing_tests;
+#[cfg(test)]
+mod covering_tests;
 #[cfg(test)]
 mod distance_tests;
 #[cfg(test)]
@@ -31,6 +33,10 @@ mod listed;
 mod listing;
 #[cfg(test)]
 mod lows;
+#[cfg(test)]
+mod piece_sets;
+#[cfg(test)]
+mod plain_covering;
 #[cfg(test)]
 mod reference_joins;
 #[cfg(test)]
