@@ -9,7 +9,6 @@ ghost use Rattle.negotiation.specs.Tools.{AreToolsFor};
 
 use crate::batches::next_batch;
 use crate::due::Due;
-use crate::order::long_first;
 use crate::tools::Tools;
 use grid_base::NoMemory;
 use grid_graph::{Design, Ground};
@@ -24,7 +23,7 @@ const QUICK_PASSES: u32 = 6;
 /// A pass is worth another one where it gains one part of so many of the wirelength, or overflow.
 const GAIN_PARTS: u64 = 500;
 
-/// Quick passes over the nets on overfull edges, and then at most so many over all nets. No totals are worse than those before.
+/// Quick passes over the nets of the order on overfull edges, and then at most so many over all of them. No totals are worse than those before.
 pub(crate) fn descend<R: Threads + Sync>(
     rt: &R,
     alloc: Global,
@@ -32,11 +31,13 @@ pub(crate) fn descend<R: Threads + Sync>(
     grounds: &[Ground],
     state: &mut RoutingState,
     tools: &mut Tools,
+    order: &[u32],
     passes: u32,
 ) -> Result<(), NoMemory>
     requires tools { AreToolsFor design.now tools.old }
     requires grounds { AreGrounds design.now.grid design.now.nets grounds.now }
     requires state { IsStateOf design.now state.old }
+    requires order { ArePlaces design.now order.now }
     ensures improved { IfOk result (λ _. IsImproved design.now state.old state.new) }
     ensures tools { IfOk result (λ _. AreToolsFor design.now tools.new) }
 {
@@ -48,6 +49,7 @@ pub(crate) fn descend<R: Threads + Sync>(
         grounds,
         state,
         tools,
+        order,
         quick,
         Due::Overfull,
     )?;
@@ -58,13 +60,14 @@ pub(crate) fn descend<R: Threads + Sync>(
         grounds,
         state,
         tools,
+        order,
         passes,
         Due::Improvable,
     )?;
     Ok(())
 }
 
-/// At most so many passes over the nets that are due, long ones first, while they gain something.
+/// At most so many passes over the nets of the order that are due, while they gain something.
 pub(crate) fn run_passes<R: Threads + Sync>(
     rt: &R,
     alloc: Global,
@@ -72,20 +75,21 @@ pub(crate) fn run_passes<R: Threads + Sync>(
     grounds: &[Ground],
     state: &mut RoutingState,
     tools: &mut Tools,
+    order: &[u32],
     passes: u32,
     due: Due,
 ) -> Result<(), NoMemory>
     requires tools { AreToolsFor design.now tools.old }
     requires grounds { AreGrounds design.now.grid design.now.nets grounds.now }
     requires state { IsStateOf design.now state.old }
+    requires order { ArePlaces design.now order.now }
     ensures improved { IfOk result (λ _. IsImproved design.now state.old state.new) }
     ensures tools { IfOk result (λ _. AreToolsFor design.now tools.new) }
 {
-    let order = long_first(alloc, tools.extents())?;
     for _pass in 0..passes {
         let before = state.totals();
         tools.pass_on();
-        run_pass(rt, alloc, design, grounds, state, tools, &order, due)?;
+        run_pass(rt, alloc, design, grounds, state, tools, order, due)?;
         if !is_worth_another(before, state.totals()) {
             return Ok(());
         }

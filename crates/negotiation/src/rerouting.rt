@@ -14,6 +14,7 @@ ghost use Rattle.negotiation.specs.Tools.{AreToolsFor};
 use crate::descending::{descend, run_passes};
 use crate::due::Due;
 use crate::negotiating::negotiate;
+use crate::order::long_first;
 use crate::rerouted::Rerouted;
 use crate::settings::RerouteSettings;
 use crate::starting::start;
@@ -47,6 +48,7 @@ pub fn reroute<R: Threads + Sync>(
     ensures { IfOk result (IsRerouted design.now given.items missing.now settings.now) }
 {
     let mut tools = Tools::new(alloc, design, settings.workers)?;
+    let order = long_first(alloc, tools.extents())?;
     let mut first = RoutingState::of(alloc, design, given)?;
     begin(
         rt,
@@ -55,6 +57,7 @@ pub fn reroute<R: Threads + Sync>(
         grounds,
         &mut first,
         &mut tools,
+        &order,
         missing,
         settings.passes,
     )?;
@@ -75,6 +78,7 @@ pub fn reroute<R: Threads + Sync>(
         grounds,
         &mut state,
         &mut tools,
+        &order,
         settings.passes,
     )?;
     Ok(outcome(state, rounds))
@@ -88,12 +92,14 @@ fn begin<R: Threads + Sync>(
     grounds: &[Ground],
     state: &mut RoutingState,
     tools: &mut Tools,
+    order: &[u32],
     missing: &[u32],
     passes: u32,
 ) -> Result<(), NoMemory>
     requires tools { AreToolsFor design.now tools.old }
     requires grounds { AreGrounds design.now.grid design.now.nets grounds.now }
     requires state { IsStateOf design.now state.old }
+    requires order { ArePlaces design.now order.now }
     requires missing { ArePlaces design.now missing.now }
     ensures renewed { IfOk result (λ _. IsRenewed design.now missing.now state.old state.new) }
     ensures no_worse { IfOk result (λ _. missing.now ≡ [] → IsNoWorse (totals_in state.new) (totals_in state.old)) }
@@ -108,6 +114,7 @@ fn begin<R: Threads + Sync>(
             grounds,
             state,
             tools,
+            order,
             one,
             Due::Improvable,
         )?;

@@ -217,7 +217,7 @@ impl NetSearch {
         back: Side,
     ) -> Result<(), NoMemory> {
         self.labels.lower(to.vertex, cost, back);
-        let key = u64::from(cost) + u64::from(view.rest(to));
+        let key = view.rest(to).saturating_add(u64::from(cost));
         self.queue.push(key, *to)
     }
 }

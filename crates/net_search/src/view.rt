@@ -31,7 +31,7 @@ impl<'t, 'p, 'a> View<'t, 'p, 'a> {
     }
 
     /// What is still to go from here at least.
-    pub(crate) fn rest(&self, site: &Site) -> u32 {
+    pub(crate) fn rest(&self, site: &Site) -> u64 {
         self.plan.bound.rest(self.targets, site)
     }
 
