@@ -1,0 +1,210 @@
+#!/usr/bin/env python3
+"""Runs the built `reroute` on drawn designs, and looks at all that it writes with plain counting.
+
+    tests/program/drawn_reroutes.py [COUNT [SEED [REROUTE [GROUTER]]]]
+
+By hand, outside the gate: 200 designs take some minutes. Without words it draws 200 designs from seed 1, and takes the programs
+that `rt run` left in crates/*/out. Of each design it asks that
+
+- `measure` says yes to the new routes, and names the overflow and the wirelength of the report;
+- a count of the text alone, edge by edge, comes to the same;
+- four workers write the same bytes as one;
+- rerouted from poor routes, and from its own result with another seed, the routes are not worse, and the report names the given
+  overflow and wirelength.
+
+Designs are drawn with widths from 1 to 4, choked edges and nets that are forced over them, one layer, one row, nets of many pins,
+and 16 layers. It prints a line for each design that fails, then how the processor time for each piece of wirelength is spread, and
+fails where one design failed."""
+
+import os
+import random
+import resource
+import subprocess
+import sys
+import tempfile
+
+TOP = os.path.dirname(os.path.dirname(os.path.dirname(os.path.abspath(__file__))))
+KINDS = ["plain", "widths", "choked", "one_layer", "one_row", "many_pins", "layers"]
+# a design with fewer pieces says nothing of the time for each
+FEWEST_PIECES = 1000
+
+
+class Design:
+    """A drawn design, with what a count of loads needs."""
+
+    def __init__(self, kind, rng):
+        self.cols, self.rows, layers = rng.randint(16, 40), rng.randint(16, 40), rng.randint(2, 6)
+        if kind == "one_layer":
+            layers = 1
+        if kind == "one_row":
+            self.cols, self.rows, layers = rng.randint(60, 300), 1, rng.randint(1, 3)
+        if kind == "layers":
+            layers = 16
+        self.layers = layers
+        both = kind in ("one_layer", "one_row")
+        level = rng.choice([8, 16, 24])
+        self.along_x = [level if both or l % 2 == 0 else 0 for l in range(layers)]
+        self.along_y = [level if both or l % 2 == 1 else 0 for l in range(layers)]
+        wide = kind == "widths"
+        self.widths = [rng.randint(1, 3) if wide else 1 for _ in range(layers)]
+        self.spacings = [rng.randint(0, 2) if wide else 1 for _ in range(layers)]
+        self.capacities = {}
+        self.nets = self.draw_nets(kind, rng)
+        self.draw_adjustments(kind, rng)
+
+    def draw_nets(self, kind, rng):
+        nets = []
+        count = rng.randint(40, 250)
+        for net in range(count):
+            width = rng.randint(1, 4) if kind == "widths" else 1
+            pins = rng.choice([2, 2, 2, 3, 3, 4, 5, 8, 15])
+            reach = rng.choice([4, 8, 40])
+            if kind == "many_pins" and net < 2:
+                pins, reach = rng.randint(300, 1500), 400
+            col, row = rng.randrange(self.cols), rng.randrange(self.rows)
+            places = []
+            for _ in range(pins):
+                x = min(max(col + rng.randint(-reach, reach), 0), self.cols - 1)
+                y = min(max(row + rng.randint(-reach, reach), 0), self.rows - 1)
+                places.append((x, y, 1 if rng.random() < 0.8 else rng.randint(1, self.layers)))
+            nets.append((net, width, places))
+        return nets
+
+    def draw_adjustments(self, kind, rng):
+        self.adjusted = []
+        share = {"choked": 0.3, "plain": 0.02}.get(kind, 0.05)
+        for layer in range(self.layers):
+            for row in range(self.rows):
+                for col in range(self.cols):
+                    for axis in "xy":
+                        if rng.random() < share:
+                            self.adjust(col, row, layer, axis, rng.choice([0, 0, 2, 4]) if kind == "choked" else rng.choice([0, 2, 4]))
+
+    def adjust(self, col, row, layer, axis, level):
+        to = (col + 1, row) if axis == "x" else (col, row + 1)
+        table = self.along_x if axis == "x" else self.along_y
+        if table[layer] > 0 and to[0] < self.cols and to[1] < self.rows:
+            self.capacities[(col, row, layer, axis)] = level
+            self.adjusted.append((col, row, layer + 1, to[0], to[1], layer + 1, level))
+
+    def capacity(self, edge):
+        return self.capacities.get(edge, (self.along_x if edge[3] == "x" else self.along_y)[edge[2]])
+
+    def text(self):
+        rows = [f"grid {self.cols} {self.rows} {self.layers}"]
+        for name, numbers in [("vertical capacity", self.along_y), ("horizontal capacity", self.along_x),
+                              ("minimum width", self.widths), ("minimum spacing", self.spacings), ("via spacing", [1] * self.layers)]:
+            rows.append(name + " " + " ".join(map(str, numbers)))
+        rows += ["0 0 10 10", "", f"num net {len(self.nets)}"]
+        for net, width, places in self.nets:
+            rows.append(f"n{net} {net} {len(places)} {width}")
+            rows += [f"{10 * x + 5} {10 * y + 5} {layer}" for x, y, layer in places]
+        rows.append(str(len(self.adjusted)))
+        rows += [" ".join(map(str, adjusted)) for adjusted in self.adjusted]
+        return "\n".join(rows) + "\n"
+
+    def count(self, routes):
+        """The overflow and the wirelength of a text of routes, edge by edge."""
+        loads, pieces, net, own = {}, 0, None, set()
+        for line in routes.split("\n"):
+            if line == "!":
+                pieces += len(own)
+                for piece in own:
+                    if piece[3] != "via":
+                        layer = piece[2]
+                        demand = max(self.nets[net][1], self.widths[layer]) + self.spacings[layer]
+                        loads[piece] = loads.get(piece, 0) + demand
+                own = set()
+            elif line.startswith("("):
+                own |= pieces_of(line)
+            elif line:
+                net = int(line.split()[1])
+        return sum(max(0, load - self.capacity(edge)) for edge, load in loads.items()), pieces
+
+
+def pieces_of(segment):
+    """The edges and vias of a segment: the tile and the layer that each goes from, and its axis."""
+    ends = [tuple(map(int, end.split(","))) for end in segment[1:-1].split(")-(")]
+    (x, y, l), (to_x, to_y, to_l) = sorted(((x - 5) // 10, (y - 5) // 10, layer - 1) for x, y, layer in ends)
+    return ({(c, y, l, "x") for c in range(x, to_x)} | {(x, r, l, "y") for r in range(y, to_y)} | {(x, y, k, "via") for k in range(l, to_l)})
+
+
+def run(*words):
+    """The lines that a program says, as names with their numbers, and the processor seconds that it took."""
+    before = resource.getrusage(resource.RUSAGE_CHILDREN)
+    said = subprocess.run(words, capture_output=True, text=True)
+    after = resource.getrusage(resource.RUSAGE_CHILDREN)
+    if said.returncode != 0:
+        raise AssertionError(f"status {said.returncode} of {' '.join(words)}: {said.stdout}{said.stderr}")
+    report = {line.split()[0]: line.split()[1:] for line in said.stdout.splitlines()}
+    return report, after.ru_utime - before.ru_utime
+
+
+def read(path):
+    with open(path, encoding="ascii") as file:
+        return file.read()
+
+
+def same(what, found, wanted):
+    if found != wanted:
+        raise AssertionError(f"{what}: {found}, and not {wanted}")
+
+
+def totals(report):
+    return int(report["overflow"][0]), int(report["wirelength"][0])
+
+
+def try_design(design, room, reroute, grouter):
+    """Tries one design. Answers its wirelength and the processor seconds of the run from none."""
+    here = lambda name: os.path.join(room, name)
+    with open(here("in.gr"), "w", encoding="ascii") as file:
+        file.write(design.text())
+    report, seconds = run(reroute, here("in.gr"), here("new"))
+    counted = design.count(read(here("new")))
+    same("the report", totals(report), counted)
+    same("measure", totals(run(grouter, "measure", here("in.gr"), here("new"))[0]), counted)
+    run(reroute, here("in.gr"), here("four"), "--workers", "4")
+    same("the bytes of four workers", read(here("four")) == read(here("new")), True)
+    run(reroute, here("in.gr"), here("poor"), "--rounds", "0", "--passes", "0")
+    for given in ["poor", "new"]:
+        before = design.count(read(here(given)))
+        again, _ = run(reroute, here("in.gr"), here(given), here("again"), "--seed", "7")
+        after = design.count(read(here("again")))
+        same(f"given {given}", (int(again["given"][0]), int(again["given"][1])), before)
+        same(f"the report from {given}", totals(again), after)
+        same(f"measure from {given}", totals(run(grouter, "measure", here("in.gr"), here("again"))[0]), after)
+        same(f"{after} is no worse than {before}", after <= before, True)
+        os.remove(here("again"))
+    for name in ["new", "four", "poor"]:
+        os.remove(here(name))
+    return counted[1], seconds, int(report["forced"][0])
+
+
+def main(count=200, seed=1, reroute=f"{TOP}/crates/reroute/out/reroute", grouter=f"{TOP}/crates/grouter/out/grouter"):
+    failed, forced, rates = 0, 0, []
+    with tempfile.TemporaryDirectory() as room:
+        for number in range(int(count)):
+            kind = KINDS[number % len(KINDS)]
+            design = Design(kind, random.Random(f"{seed} {number}"))
+            try:
+                pieces, seconds, over = try_design(design, room, reroute, grouter)
+            except AssertionError as fault:
+                failed += 1
+                print(f"FAILED: design {number}, {kind}: {fault}")
+                for name in os.listdir(room):
+                    os.remove(os.path.join(room, name))
+                continue
+            forced += over
+            if pieces >= FEWEST_PIECES:
+                rates.append((1e6 * seconds / pieces, number, kind))
+    print(f"{int(count) - failed} designs passed, {failed} failed; {forced} nets were forced")
+    if rates:
+        mean = sum(rate for rate, _, _ in rates) / len(rates)
+        slowest = sorted(rates, reverse=True)[:5]
+        print(f"microseconds for each piece, of {len(rates)} designs with {FEWEST_PIECES} pieces and more: mean {mean:.2f}; slowest "
+              + ", ".join(f"{rate:.2f} ({number}, {kind})" for rate, number, kind in slowest))
+    return 1 if failed else 0
+
+
+if __name__ == "__main__":
+    sys.exit(main(*sys.argv[1:]))
