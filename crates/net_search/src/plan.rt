@@ -26,6 +26,7 @@ impl<'a> Plan<'a> {
     ghost use Rattle.std.specs.Prelude.{◌≡◌};
     ghost use Rattle.grid_graph.specs.Grids.{size_of};
     ghost use Rattle.grid_graph.specs.Nets.{IsNet};
+    ghost use Rattle.net_search.specs.Plans.{size_of_plan};
 
     /// What the searches for a net go by at the loads of this field, in its ground. They look no further than the margin
     /// beyond the box of the net's terminals, unless nothing is found there.
@@ -38,7 +39,7 @@ impl<'a> Plan<'a> {
         margin: u32,
     ) -> Plan<'a>
         requires net { IsNet grid.now net.now }
-        ensures size { result.size ≡ size_of grid.now }
+        ensures size { size_of_plan result ≡ size_of grid.now }
     {
         let layers = layers_for(grid, &tables.directions, net.width);
         Plan {
@@ -61,7 +62,7 @@ impl<'a> Plan<'a> {
 
     /// The size of the grid.
     pub fn size(&self) -> Size
-        ensures { result ≡ self.now.size }
+        ensures { result ≡ size_of_plan self.now }
     {
         self.size
     }

@@ -3,6 +3,7 @@
 ghost use Rattle.std.specs.Prelude.{◌≡◌, IfOk, All};
 ghost use Rattle.grid_base.specs.Numbers.{IsVertex};
 ghost use Rattle.grid_graph.specs.Grids.{size_of};
+ghost use Rattle.net_search.specs.Plans.{size_of_plan};
 ghost use Rattle.tree_growth.specs.Growns.{IsGrown};
 
 use crate::grown::Grown;
@@ -49,8 +50,8 @@ impl Growing {
         terminals: &[Vertex],
     ) -> Result<bool, NoMemory>
         requires size { grown.old.size ≡ size_of grid.now }
-        requires root { IsVertex plan.now.size root.0 }
-        requires terminals { All (λ t. IsVertex plan.now.size t.0) terminals.now }
+        requires root { IsVertex (size_of_plan plan.now) root.0 }
+        requires terminals { All (λ t. IsVertex (size_of_plan plan.now) t.0) terminals.now }
         ensures size { grown.new.size ≡ grown.old.size }
         ensures grown { IfOk result (λ _. IsGrown grid.now over grown.old → IsGrown grid.now over grown.new) }
     {
@@ -60,8 +61,8 @@ impl Growing {
 
     /// Begins a growth: the root is joined, and all other terminals are left.
     fn begin(&mut self, plan: &Plan<'_>, root: Vertex, terminals: &[Vertex]) -> Result<(), NoMemory>
-        requires root { IsVertex plan.now.size root.0 }
-        requires terminals { All (λ t. IsVertex plan.now.size t.0) terminals.now }
+        requires root { IsVertex (size_of_plan plan.now) root.0 }
+        requires terminals { All (λ t. IsVertex (size_of_plan plan.now) t.0) terminals.now }
     {
         let root = Site::of(plan.size(), root);
         self.joined.clear();

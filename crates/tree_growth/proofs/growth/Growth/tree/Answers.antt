@@ -5,6 +5,7 @@ use Rattle.grid_base.specs.declared.vertex.Vertex.{Vertex}
 use Rattle.grid_base.specs.Numbers.{IsVertex}
 use Rattle.grid_base.specs.Walks.{JoinsList}
 use Rattle.grid_graph.specs.Grids.{size_of}
+use Rattle.net_search.specs.Plans.{size_of_plan}
 use Rattle.tree_growth.proofs.Joins.{net_vertices}
 use Rattle.tree_growth.proofs.growth.Growth.tree.Goals as goal
 
@@ -21,11 +22,11 @@ begin-requires c =
 
 pub grow-is_done-requires-clause-root : goal.grow-is_done-requires-clause-root
 grow-is_done-requires-clause-root c =
-    All-contains (λ (v : Vertex). IsVertex c.of-plan.result.size v.0) c.list-terminals.result.now c.in-Some.root
-    (net_vertices c.args.grid.now c.args.net.now c.of-plan.result.size c.list-terminals.result.now c.requires.net c.of-plan.ensures.size c.list-terminals.ensures.items) c.in-Some.ensures.root
+    All-contains (λ (v : Vertex). IsVertex (size_of_plan c.of-plan.result) v.0) c.list-terminals.result.now c.in-Some.root
+    (net_vertices c.args.grid.now c.args.net.now (size_of_plan c.of-plan.result) c.list-terminals.result.now c.requires.net c.of-plan.ensures.size c.list-terminals.ensures.items) c.in-Some.ensures.root
 
 pub grow-is_done-requires-clause-terminals : goal.grow-is_done-requires-clause-terminals
-grow-is_done-requires-clause-terminals c = net_vertices c.args.grid.now c.args.net.now c.of-plan.result.size c.list-terminals.result.now c.requires.net c.of-plan.ensures.size c.list-terminals.ensures.items
+grow-is_done-requires-clause-terminals c = net_vertices c.args.grid.now c.args.net.now (size_of_plan c.of-plan.result) c.list-terminals.result.now c.requires.net c.of-plan.ensures.size c.list-terminals.ensures.items
 
 pub returns-clause-keeps : goal.returns-clause-keeps
 returns-clause-keeps c =
