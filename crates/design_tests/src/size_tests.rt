@@ -3,7 +3,7 @@
 use crate::trees::{alike, measured, written};
 use grid_graph::Ground;
 use ispd_reader::read_design;
-use route_text::{Blocks, read_block_list, read_routes};
+use route_text::read_routes;
 use std::alloc::{AllocError, Global};
 use std::test::Fail;
 use test_rows::agree;
@@ -36,7 +36,5 @@ fn thousands_of_nets_are_read_measured_written_and_read_back(rt: HostRuntime) ->
     assert!(rt; whole && text.len() > 100_000);
     assert!(rt; text.as_slice() == routes_of(alloc, 5000)?.as_bytes());
     assert!(rt; read_routes(alloc, text.as_slice())?.len() == 5000);
-    let blocks = read_block_list(alloc, text.as_slice())?;
-    assert!(rt; (&blocks).count() == 5000);
     Ok(())
 }

@@ -1,9 +1,7 @@
 //! Route texts that are read, and that are refused.
 
 use crate::reference_blocks::blocks_by_automaton;
-use route_text::{
-    Block, BlockList, BlockRef, Blocks, Point, RouteError, read_block_list, read_routes,
-};
+use route_text::{Block, Point, RouteError, read_routes};
 use std::alloc::{AllocError, Global};
 use std::test::Fail;
 use test_rows::{bytes_of, rows_of, two_fields};
@@ -12,47 +10,24 @@ use test_rows::{bytes_of, rows_of, two_fields};
 fn told(alloc: Global, read: Result<Vec<Block>, RouteError>) -> Result<Vec<u8>, AllocError> {
     let mut told = Vec::new(alloc);
     match read {
-        Ok(blocks) => tell(alloc, blocks.as_slice(), &mut told)?,
-        Err(error) => tell_refusal(alloc, error, &mut told)?,
-    }
-    Ok(told)
-}
-
-/// The same of a list in little memory.
-fn told_of_list(
-    alloc: Global,
-    read: Result<BlockList, RouteError>,
-) -> Result<Vec<u8>, AllocError> {
-    let mut told = Vec::new(alloc);
-    match read {
-        Ok(blocks) => tell(alloc, &blocks, &mut told)?,
-        Err(error) => tell_refusal(alloc, error, &mut told)?,
-    }
-    Ok(told)
-}
-
-fn tell_refusal(alloc: Global, error: RouteError, told: &mut Vec<u8>) -> Result<(), AllocError> {
-    match error {
-        RouteError::Syntax { at } => {
+        Ok(blocks) => {
+            for block in &blocks {
+                tell(alloc, block, &mut told)?;
+            }
+        }
+        Err(RouteError::Syntax { at }) => {
             told.extend_from_slice(format!(in alloc; "refused at {at}")?.as_bytes())?;
         }
-        RouteError::NoMemory => told.extend_from_slice(b"no memory")?,
+        Err(RouteError::NoMemory) => told.extend_from_slice(b"no memory")?,
     }
-    Ok(())
+    Ok(told)
 }
 
-fn tell<B: Blocks>(alloc: Global, blocks: B, told: &mut Vec<u8>) -> Result<(), AllocError> {
-    for number in 0..blocks.count() {
-        tell_block(alloc, blocks.block(number), told)?;
-    }
-    Ok(())
-}
-
-fn tell_block(alloc: Global, block: BlockRef<'_>, told: &mut Vec<u8>) -> Result<(), AllocError> {
+fn tell(alloc: Global, block: &Block, told: &mut Vec<u8>) -> Result<(), AllocError> {
     let id = block.id;
-    told.extend_from_slice(block.name)?;
+    told.extend_from_slice(block.name.list())?;
     told.extend_from_slice(format!(in alloc; " {id}")?.as_bytes())?;
-    for s in block.segments {
+    for s in block.segments.list() {
         told.push(b' ')?;
         tell_point(alloc, s.from, told)?;
         told.push(b'-')?;
@@ -127,8 +102,6 @@ fn routes_are_read_as_they_were_worked_out(rt: HostRuntime) -> Result<(), Fail> 
         let wanted = bytes_of(alloc, wanted)?;
         let used = told(alloc, read_routes(alloc, text.as_slice()))?;
         assert!(rt; used.as_slice() == wanted.as_slice(), "in {row}");
-        let listed = told_of_list(alloc, read_block_list(alloc, text.as_slice()))?;
-        assert!(rt; listed.as_slice() == wanted.as_slice(), "as a list, in {row}");
         let reference = told(alloc, blocks_by_automaton(alloc, text.as_slice()))?;
         assert!(rt;
             reference.as_slice() == wanted.as_slice(),
