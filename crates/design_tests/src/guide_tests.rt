@@ -5,12 +5,16 @@ ghost use Rattle.tree_set.specs.Routings.{ArePieces};
 
 use crate::trees::{alike, are_pieces};
 use gr_desk::{MemDesk, Port};
-use grid_base::Size;
-use grid_graph::Design;
-use guide_text::{Guide, GuideError, guides_of, is_near, read_guides, write_guides};
-use std::alloc::Global;
+use grid_base::{Edge, Piece, Size};
+use grid_graph::{Design, Name};
+use guide_text::{
+    Guide, GuideError, Rect, Rects, covers, guides_of, is_near, read_guides, write_guides,
+};
+use std::alloc::{AllocError, Global};
 use std::test::Fail;
-use test_rows::{agree, rows_of, text_of, three_fields, two_fields};
+use test_rows::{
+    agree, four_fields, numbers_of, rows_of, set_of, text_of, three_fields, two_fields,
+};
 use tree_set::Tree;
 use worked_designs::design_of;
 
@@ -100,5 +104,124 @@ fn a_text_of_guides_is_refused_at_its_first_wrong_token(rt: HostRuntime) -> Resu
         let (given, wanted) = two_fields(row)?;
         agree(row, answer_to(alloc, given)?.as_str(), wanted)?;
     }
+    Ok(())
+}
+
+/// Rectangles from their numbers, five each.
+fn rects_from(alloc: Global, numbers: &[i64]) -> Result<Rects, Fail> {
+    let mut rects = Vec::new(alloc);
+    for five in numbers.chunks(5) {
+        match five {
+            [x1, y1, x2, y2, layer] => rects.push(Rect {
+                x1: *x1,
+                y1: *y1,
+                x2: *x2,
+                y2: *y2,
+                layer: *layer,
+            })?,
+            _ => return Err(Fail::new("five numbers a rectangle")),
+        }
+    }
+    Ok(Rects::of(rects))
+}
+
+/// Whether a guide covers the route of the first net. Its name and its id are not the net's.
+fn covered(alloc: Global, design: &Design, tree: &Tree, rects: Rects) -> Result<bool, Fail> {
+    if design.nets.list().is_empty() || !are_pieces(design.grid.size(), tree) {
+        return Err(Fail::new("no such set"));
+    }
+    let guide = Guide {
+        name: Name::of(Vec::from_slice(alloc, b"other")?),
+        id: 7,
+        rects,
+    };
+    Ok(covers(alloc, design, 0, tree, &guide)?)
+}
+
+/// A design, a set for its net, the rectangles of a guide, five numbers each, and whether they cover the route. Rectangles may
+/// overlap, need not be longest and stand in any order. They may have no tile that the route has none of, cut no tile, be upside
+/// down or empty nowhere, and name a layer from 1 on. The pins of the row are its ends, those of the square two corners.
+const COVERS: &str = "ROW|e0 e2|0 0 30 10 1|true
+ROW|e0 e2|0 0 20 10 1|false
+ROW|e0 e2|0 0 20 10 1 10 0 30 10 1|true
+ROW|e0 e2|20 0 30 10 1 0 0 30 10 1 0 0 30 10 1|true
+ROW|e0 e2|0 0 10 10 1 20 0 30 10 1|false
+ROW|e0 e2||false
+ROW||0 0 10 10 1 20 0 30 10 1|true
+ROW||0 0 30 10 1|false
+ROW||0 0 10 10 1|false
+ROW||20 0 30 10 1|false
+ROW|e0 e2|0 0 25 10 1|false
+ROW|e0 e2|0 0 30 10 1 0 0 25 10 1|false
+ROW|e0 e2|0 0 30 9 1|false
+ROW|e0 e2|5 0 30 10 1|false
+ROW|e0 e2|0 5 30 10 1|false
+ROW|e0 e2|30 0 0 10 1|false
+ROW|e0 e2|0 10 30 0 1|false
+ROW|e0 e2|30 10 0 0 1|false
+ROW|e0 e2|0 0 30 10 1 20 0 20 10 1|false
+ROW|e0 e2|0 0 30 10 1 0 0 30 0 1|false
+ROW|e0 e2|0 0 30 10 0|false
+ROW|e0 e2|0 0 30 10 2|false
+ROW|e0 e2|0 0 30 10 -1|false
+ROW|e0 e2|0 0 30 10 4294967297|false
+ROW|e0 e2|0 0 40 10 1|false
+ROW|e0 e2|0 0 30 20 1|false
+ROW|e0 e2|-10 0 30 10 1|false
+ROW|e0 e2|0 -10 30 10 1|false
+ROW|e0 e2|0 0 42949672970 10 1|false
+ROW|e0 e2|-9223372036854775808 -9223372036854775808 9223372036854775807 9223372036854775807 1|false
+ROW|e0 e2|0 0 30 10 9223372036854775807|false
+ROW|e0 e2|0 0 30 10 -9223372036854775808|false
+ROW|e0 e2|9223372036854775807 0 -9223372036854775808 10 1|false
+CRLF|e0 e2|-10 -10 20 0 1|true
+CRLF|e0 e2|-9223372036854775808 -10 20 0 1|false
+CRLF|e0 e2|0 0 30 10 1|false
+SQUARE|e0 e3|0 0 20 10 1 10 0 20 20 1|true
+SQUARE|e0 e3|0 0 20 10 1 0 0 10 20 1|false
+SQUARE|e0 e3|0 0 20 20 1|false
+SQUARE|e0 e1 e3 e4|0 0 10 20 1 10 0 20 20 1|true
+STACK|v0|0 0 10 10 1 0 0 10 10 2|true
+STACK|v0|0 0 10 10 2|false
+STACK|v0|0 0 10 10 1|false
+STACK|v0|0 0 10 10 1 0 0 10 10 2 0 0 10 10 3|false
+STAR|e5 e15 e20 e22 e24 e25 e26 e35 v12|20 0 30 50 1 20 20 30 30 2 0 20 50 30 1|true
+STAR|e5 e15 e20 e22 e24 e25 e26 e35 v12|20 0 30 50 1 20 20 30 30 2 0 20 50 40 1|false
+ROW 125 142 0 1;|||true
+ROW 125 142 0 1;||0 0 10 10 1|false";
+
+#[test]
+fn guides_cover_exactly_the_tiles_of_a_route(rt: HostRuntime) -> Result<(), Fail> {
+    let alloc = rt.alloc();
+    for row in rows_of(alloc, COVERS)? {
+        let (given, set, rects, wanted) = four_fields(row)?;
+        let design = design_of(alloc, given)?;
+        let tree = set_of(alloc, set)?;
+        let numbers = numbers_of::<i64>(alloc, rects)?;
+        let rects = rects_from(alloc, numbers.as_slice())?;
+        let answer = covered(alloc, &design, &tree, rects)?.to_string(alloc)?;
+        agree(row, answer.as_str(), wanted)?;
+    }
+    Ok(())
+}
+
+/// The edges of a row of 20,000 tiles.
+fn row_of_edges(alloc: Global) -> Result<Tree, AllocError> {
+    let mut pieces = Vec::new(alloc);
+    for v in 0..19_999 {
+        pieces.push(Piece::Edge(Edge(2 * v)))?;
+    }
+    Ok(Tree::of(pieces))
+}
+
+#[test]
+fn a_long_route_is_covered_tile_by_tile(rt: HostRuntime) -> Result<(), Fail> {
+    let alloc = rt.alloc();
+    let design = design_of(alloc, "ROW 5 6 20000")?;
+    let tree = row_of_edges(alloc)?;
+    let whole = rects_from(alloc, &[0, 0, 100_000, 10, 1, 90_000, 0, 200_000, 10, 1])?;
+    assert!(rt; covered(alloc, &design, &tree, whole)?);
+    let short = rects_from(alloc, &[0, 0, 199_990, 10, 1])?;
+    assert!(rt; !covered(alloc, &design, &tree, short)?);
     Ok(())
 }
