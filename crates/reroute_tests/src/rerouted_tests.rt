@@ -19,11 +19,11 @@ CUT
 nets 3;forced 0;routed 3;rerouted 0;rounds 0;overflow 2;wirelength 3;peak 2/1;given 0 0;
 a 0;(5,5,1)-(15,5,1);!;b 1;(5,5,1)-(15,5,1);!;c 2;(5,15,1)-(15,15,1);!;
 
-# No way leads round, so the net goes over the choked edge.
+# No way leads round, so the net goes over the choked edge, and thirty rounds find nothing better.
 2 a.gr new.routes
 ROW 142 144 1;0 0 1 1 0 1 0;
 0
-?
+nets 1;forced 1;routed 1;rerouted 0;rounds 30;overflow 2;wirelength 2;peak 1/2;given 0 0;
 a 0;(5,5,1)-(25,5,1);!;
 
 # A net with one terminal has nothing to join.
