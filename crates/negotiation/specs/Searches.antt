@@ -10,13 +10,12 @@ use Rattle.grid_graph.specs.Grounds.{AreGrounds}
 use Rattle.tree_set.specs.Routings.{IsRoute}
 use Rattle.negotiation.specs.declared.sight.Sight.{Sight}
 
--- a ground, a set and a margin for each net, and a room, also in 16 bits, and a price for each edge number
+-- a ground, a set and a margin for each net, and a room and a price for each edge number
 pub record IsSight (s : Sight) : Type 0 where
   pub grounds : AreGrounds s.design.now.grid s.design.now.nets s.grounds.now
   pub sets : length s.trees.now ≡ length s.design.now.nets
   pub margins : length s.margins.now ≡ length s.design.now.nets
   pub rooms : length s.field.rooms.now ≡ edge_numbers s.design.now.grid
-  pub narrow_rooms : length s.field.narrow_rooms.now ≡ edge_numbers s.design.now.grid
   pub prices : length s.field.prices.now ≡ edge_numbers s.design.now.grid
 
 -- all are places of nets

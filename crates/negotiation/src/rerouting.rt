@@ -84,7 +84,8 @@ pub fn reroute<R: Threads + Sync>(
     Ok(outcome(state, rounds))
 }
 
-/// Where nets have no set these get one; else one pass of descent makes the sets shorter, if passes are asked for.
+/// Where nets have no set these get one; else passes of descent make the sets shorter, as long as each gains something: routes
+/// that were not made to be short have much to gain before rounds of negotiation settle them.
 fn begin<R: Threads + Sync>(
     rt: &R,
     alloc: Global,
@@ -106,7 +107,6 @@ fn begin<R: Threads + Sync>(
     ensures tools { IfOk result (λ _. AreToolsFor design.now tools.new) }
 {
     if missing.is_empty() {
-        let one = passes.min(1);
         run_passes(
             rt,
             alloc,
@@ -115,7 +115,7 @@ fn begin<R: Threads + Sync>(
             state,
             tools,
             order,
-            one,
+            passes,
             Due::Improvable,
         )?;
         return Ok(());

@@ -102,8 +102,7 @@ impl Tools {
             grounds,
             trees: state.trees(),
             field: Field {
-                rooms: state.rooms(),
-                narrow_rooms: state.narrow_rooms(),
+                rooms: state.narrow_rooms(),
                 prices: self.prices.prices(),
                 landmark: self.prices.landmark(),
                 stage,

@@ -38,7 +38,8 @@ impl Weights<'_> {
             Road::Choked | Road::Open => false,
             Road::OwnChoked | Road::OwnOpen => true,
         };
-        let overflow = added_overflow(self.room(edge)?, demand, is_own);
+        let room = *self.field.rooms.get(edge.0 as usize)?;
+        let overflow = added_overflow(i64::from(room), demand, is_own);
         let weight = match self.field.stage {
             Stage::Start => overflow.saturating_mul(OVERFLOW_AT_START),
             Stage::Negotiation => overflow
@@ -47,16 +48,6 @@ impl Weights<'_> {
             Stage::Descent => overflow.saturating_mul(OVERFLOW_IN_DESCENT),
         };
         Some(weight.saturating_add(UNIT))
-    }
-
-    /// The room of an edge.
-    fn room(&self, edge: Edge) -> Option<i64> {
-        let at = edge.0 as usize;
-        match self.field.narrow_rooms.get(at) {
-            None => None,
-            Some(&i16::MIN | &i16::MAX) => self.field.rooms.get(at).copied(),
-            Some(room) => Some(i64::from(*room)),
-        }
     }
 
     /// What the demand costs at the price of an edge.

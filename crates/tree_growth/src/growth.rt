@@ -51,7 +51,6 @@ impl Growth {
         margin: u32,
     ) -> Result<Option<Tree>, NoMemory>
         requires rooms { length field.rooms.now ≡ edge_numbers grid.now }
-        requires narrow_rooms { length field.narrow_rooms.now ≡ edge_numbers grid.now }
         requires prices { length field.prices.now ≡ edge_numbers grid.now }
         requires net { IsNet grid.now net.now }
         ensures keeps { IfOk result (λ found. IfSome found (λ tree. KeepsTo grid.now over tree)) }

@@ -1,0 +1,90 @@
+//! Texts of edits, and what is read of them.
+
+use edit_text::{Edit, EditTextError, Pins, read_edits};
+use std::alloc::{AllocError, Global};
+use std::rt::HostRuntime;
+use std::test::Fail;
+use test_rows::{agree, rows_of, two_fields};
+
+/// Pins as a field: x, y and layer of each, and a semicolon behind it.
+fn pins_text(alloc: Global, pins: &Pins) -> Result<String, AllocError> {
+    let mut text = String::new(alloc);
+    for pin in pins.list() {
+        let (x, y, layer) = (pin.x, pin.y, pin.layer);
+        text.push_str(format!(in alloc; " {x} {y} {layer};")?.as_str())?;
+    }
+    Ok(text)
+}
+
+fn edit_text(alloc: Global, edit: &Edit) -> Result<String, AllocError> {
+    match edit {
+        Edit::Drop { id } => format!(in alloc; "drop {id}"),
+        Edit::Add {
+            name,
+            id,
+            width,
+            pins,
+        } => {
+            let (bytes, pins) = (name.list().len(), pins_text(alloc, pins)?);
+            format!(in alloc; "add {bytes} {id} {width}{pins}")
+        }
+        Edit::Change { id, width, pins } => {
+            let pins = pins_text(alloc, pins)?;
+            format!(in alloc; "change {id} {width}{pins}")
+        }
+    }
+}
+
+/// What is read of a text: each edit with a comma behind it, or the place of its refusal.
+fn read_text(alloc: Global, text: &str) -> Result<String, Fail> {
+    let edits = match read_edits(alloc, text.as_bytes()) {
+        Ok(edits) => edits,
+        Err(EditTextError::Syntax { at }) => return Ok(format!(in alloc; "61 {at}")?),
+        Err(EditTextError::NoMemory) => return Err(Fail::new("no memory")),
+    };
+    let mut found = String::new(alloc);
+    for edit in &edits {
+        found.push_str(edit_text(alloc, edit)?.as_str())?;
+        found.push_str(",")?;
+    }
+    Ok(found)
+}
+
+/// Texts, and the edits or the place of the refusal. A name is told by its length.
+const TEXTS: &str = "# nothing, and edits of each kind
+edits 0|
+edits 1 drop 1|drop 1,
+edits 2 drop 1 add d 1 2 1 5 5 1 25 5 1|drop 1,add 1 1 1 5 5 1; 25 5 1;,
+edits 1 change 4294967295 0 1023|change 4294967295 1023,
+edits 1 add edits 0 1 0 -1099511627776 1099511627776 +7|add 5 0 0 -1099511627776 1099511627776 7;,
+# a token that is missing
+|61 0
+edits|61 5
+edits 1|61 7
+edits 1 drop|61 12
+edits 1 add d 1 2 1 5 5 1 25 5|61 30
+# a token that is none of the form
+edit 0|61 0
+edits one|61 6
+edits -1|61 6
+edits 16777217|61 6
+edits 1 Drop 1|61 8
+edits 1 drop 4294967296|61 13
+edits 1 drop -1|61 13
+edits 1 change 1 0 1024|61 19
+edits 1 change 1 16777217 1|61 17
+edits 1 change 1 1 1 1099511627777 0 1|61 21
+edits 1 change 1 1 1 0 0 1.0|61 25
+# a token behind the last edit
+edits 0 drop|61 8
+edits 1 drop 1 2|61 15";
+
+#[test]
+fn each_text_has_its_edits(rt: HostRuntime) -> Result<(), Fail> {
+    let alloc = rt.alloc();
+    for row in rows_of(alloc, TEXTS)? {
+        let (text, wanted) = two_fields(row)?;
+        agree(row, read_text(alloc, text)?.as_str(), wanted)?;
+    }
+    Ok(())
+}
