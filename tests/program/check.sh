@@ -469,11 +469,11 @@ awk 'BEGIN {
         printf "n%d %d 2 1\n%d %d 1\n%d %d 1\n", i, i, 10 * x + 5, 10 * y + 5, 10 * (x + 1 + i % 9) + 5, 10 * (y + i % 7) + 5
     }
     print 0
-}' >many.gr
-"$program" many.gr one.routes --rounds 4 --passes 1 >one.report
-expect 'routes of 20,000 nets by four workers' 0 "$(cat one.report)" many.gr new.routes --rounds 4 --passes 1 --workers 4
+}' >batches.gr
+"$program" batches.gr one.routes --rounds 4 --passes 1 >one.report
+expect 'routes of 20,000 nets by four workers' 0 "$(cat one.report)" batches.gr new.routes --rounds 4 --passes 1 --workers 4
 made 'the routes that one worker finds' new.routes one.routes
-rm -f many.gr one.routes one.report
+rm -f batches.gr one.routes one.report
 expect 'an objection to given routes' 1 'no 47 0' detour.gr cut_off.routes new.routes
 usage='refused 2
 usage: reroute IN [ROUTES] NEW'
