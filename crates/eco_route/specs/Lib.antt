@@ -1,0 +1,13 @@
+pub use Rattle.edit_text.specs.EditRanges
+pub use Rattle.sharing_runs.specs.NetSteps
+pub use Rattle.tree_set.specs.Loads
+pub mod EcoStates
+pub mod EcoSteps
+pub mod EditFaults
+pub mod EditRefusals
+pub mod EditedDesigns
+pub mod NetIndices
+pub mod PinPlaces
+pub mod RoutedDesigns
+pub mod Routers
+pub mod Scales
