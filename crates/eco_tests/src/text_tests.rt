@@ -1,6 +1,6 @@
 //! Texts of edits, and what is read of them.
 
-use edit_text::{Edit, EditTextError, Pins, read_edits};
+use eco_route::{Edit, EditTextError, Pins, read_edits};
 use std::alloc::{AllocError, Global};
 use std::rt::HostRuntime;
 use std::test::Fail;
@@ -35,7 +35,7 @@ fn edit_text(alloc: Global, edit: &Edit) -> Result<String, AllocError> {
     }
 }
 
-/// What is read of a text: each edit with a comma behind it, or the place of its refusal.
+/// What is read of a text: each edit behind a bar-free comma, or the place of its refusal.
 fn read_text(alloc: Global, text: &str) -> Result<String, Fail> {
     let edits = match read_edits(alloc, text.as_bytes()) {
         Ok(edits) => edits,
