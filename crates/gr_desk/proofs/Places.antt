@@ -2,7 +2,7 @@
 use Rattle.std.proofs.Common.{◌≡◌, ◌≢◌, List, [], ◌∷◌, ℕ, zero, suc, refl, ap, sym, ◌∙◌, Some}
 use Rattle.std.specs.Prelude.{slice_get, slice_set}
 use Rattle.gr_desk.specs.declared.port.Port.{Port}
-use Rattle.gr_desk.specs.declared.port.Port.TheVariants.{In, RoutesIn, CertIn, RoutesOut, CertOut, DesignOut, GuideOut, MapOut, Report}
+use Rattle.gr_desk.specs.declared.port.Port.TheVariants.{In, RoutesIn, CertIn, EditsIn, RoutesOut, CertOut, DesignOut, GuideOut, MapOut, Report}
 use Rattle.gr_desk.specs.Ports.{number}
 
 -- the port at a place
@@ -10,18 +10,20 @@ port_at : ℕ → Port
 port_at zero = In
 port_at (suc zero) = RoutesIn
 port_at (suc (suc zero)) = CertIn
-port_at (suc (suc (suc zero))) = RoutesOut
-port_at (suc (suc (suc (suc zero)))) = CertOut
-port_at (suc (suc (suc (suc (suc zero))))) = DesignOut
-port_at (suc (suc (suc (suc (suc (suc zero)))))) = GuideOut
-port_at (suc (suc (suc (suc (suc (suc (suc zero))))))) = MapOut
-port_at (suc (suc (suc (suc (suc (suc (suc (suc k)))))))) = Report
+port_at (suc (suc (suc zero))) = EditsIn
+port_at (suc (suc (suc (suc zero)))) = RoutesOut
+port_at (suc (suc (suc (suc (suc zero))))) = CertOut
+port_at (suc (suc (suc (suc (suc (suc zero)))))) = DesignOut
+port_at (suc (suc (suc (suc (suc (suc (suc zero))))))) = GuideOut
+port_at (suc (suc (suc (suc (suc (suc (suc (suc zero)))))))) = MapOut
+port_at (suc (suc (suc (suc (suc (suc (suc (suc (suc k))))))))) = Report
 
 port_at-number : (p : Port) → port_at (number p) ≡ p
 unfolding port_at
 port_at-number In = refl
 port_at-number RoutesIn = refl
 port_at-number CertIn = refl
+port_at-number EditsIn = refl
 port_at-number RoutesOut = refl
 port_at-number CertOut = refl
 port_at-number DesignOut = refl

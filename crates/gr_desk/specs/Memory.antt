@@ -45,7 +45,7 @@ pub record IsNewDesk (s : MemDesk) (over : List File) (listed : Vec Fail Global)
   pub in_faults : (told_of s).in_faults ≡ 0
   pub out_faults : (told_of s).out_faults ≡ 0
   pub failing : s.failing ≡ listed
-  pub calls : s.calls ≡ replicate 36 0
+  pub calls : s.calls ≡ replicate 40 0
   pub starved : s.starved ≡ 0
 
 -- where calls of one kind at one port are counted

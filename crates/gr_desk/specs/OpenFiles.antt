@@ -2,7 +2,7 @@
 use Rattle.std.specs.Prelude.{◌≡◌, ◌≢◌, ℕ, List, IsSomeAnd, IsErr, is_some, Result, OnOk, OnErr, option_and_then}
 use Rattle.std.specs.declared.option.Option.{Option}
 use Rattle.gr_desk.specs.declared.port.Port.{Port}
-use Rattle.gr_desk.specs.declared.port.Port.TheVariants.{In, RoutesIn, CertIn, RoutesOut, CertOut, DesignOut, GuideOut, MapOut, Report}
+use Rattle.gr_desk.specs.declared.port.Port.TheVariants.{In, RoutesIn, CertIn, EditsIn, RoutesOut, CertOut, DesignOut, GuideOut, MapOut, Report}
 use Rattle.gr_desk.specs.declared.open_files.OpenFiles.{OpenFiles}
 
 -- the file that is open at a port
@@ -10,6 +10,7 @@ abbrev pub file_at : {F : Type 0} → OpenFiles F → Port → Option F
 file_at files In = files.input
 file_at files RoutesIn = files.routes_in
 file_at files CertIn = files.cert_in
+file_at files EditsIn = files.edits_in
 file_at files RoutesOut = files.routes_out
 file_at files CertOut = files.cert_out
 file_at files DesignOut = files.design_out
@@ -22,6 +23,7 @@ abbrev pub with_file : {F : Type 0} → OpenFiles F → Port → Option F → Op
 with_file files In file = record files { input = file }
 with_file files RoutesIn file = record files { routes_in = file }
 with_file files CertIn file = record files { cert_in = file }
+with_file files EditsIn file = record files { edits_in = file }
 with_file files RoutesOut file = record files { routes_out = file }
 with_file files CertOut file = record files { cert_out = file }
 with_file files DesignOut file = record files { design_out = file }

@@ -8,7 +8,7 @@ ghost use Rattle.gr_desk.specs.Calls.{Opens, Creates, Reads, Writes};
 use crate::failed::Failed;
 use crate::port::Port;
 
-/// Nine ports over some store of named bytes.
+/// Ten ports over some store of named bytes.
 ///
 /// A desk has two counts of faults: one rises where an `open` or a `read` fails, and one where a `create` or a `write`
 /// does. Both stand still at their last value, and a call that is Ok leaves both. What else it tells of itself (the bytes under each name, what

@@ -1,6 +1,6 @@
 //! Where the program's bytes come from and go to.
 //!
-//! A [`Desk`] has nine ports. Reading a port whole and writing a text whole go over any desk:
+//! A [`Desk`] has ten ports. Reading a port whole and writing a text whole go over any desk:
 //!
 //! ```text
 //! desk.open(Port::In, "one_net.gr")?;

@@ -13,7 +13,7 @@ use crate::reading::{Reading, find_file};
 #[derive(Drop)]
 pub struct NeverFails {
     files: Vec<(String, Vec<u8>)>,
-    readings: [Reading; 9],
+    readings: [Reading; 10],
 }
 
 impl NeverFails {
@@ -24,7 +24,7 @@ impl NeverFails {
     {
         NeverFails {
             files,
-            readings: [Reading::none(); 9],
+            readings: [Reading::none(); 10],
         }
     }
 }

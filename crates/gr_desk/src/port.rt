@@ -9,6 +9,7 @@ pub enum Port {
     In,
     RoutesIn,
     CertIn,
+    EditsIn,
     RoutesOut,
     CertOut,
     DesignOut,
@@ -22,7 +23,10 @@ impl Port {
     pub fn is_input(self) -> bool
         ensures { result ≡ is_input self }
     {
-        matches!(self, Port::In | Port::RoutesIn | Port::CertIn)
+        matches!(
+            self,
+            Port::In | Port::RoutesIn | Port::CertIn | Port::EditsIn
+        )
     }
 
     /// Whether the program writes a file at this port. `Report` is neither input nor output.
@@ -35,21 +39,22 @@ impl Port {
         )
     }
 
-    /// The place of this port among the nine.
+    /// The place of this port among the ten.
     pub(crate) fn number(self) -> usize
         ensures number { result ≡ number self }
-        ensures bound { result < 9 }
+        ensures bound { result < 10 }
     {
         match self {
             Port::In => 0,
             Port::RoutesIn => 1,
             Port::CertIn => 2,
-            Port::RoutesOut => 3,
-            Port::CertOut => 4,
-            Port::DesignOut => 5,
-            Port::GuideOut => 6,
-            Port::MapOut => 7,
-            Port::Report => 8,
+            Port::EditsIn => 3,
+            Port::RoutesOut => 4,
+            Port::CertOut => 5,
+            Port::DesignOut => 6,
+            Port::GuideOut => 7,
+            Port::MapOut => 8,
+            Port::Report => 9,
         }
     }
 }
