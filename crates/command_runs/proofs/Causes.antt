@@ -1,5 +1,5 @@
 -- What refuses a text: it is one cause, and it never refuses a text that has a routing.
-use Rattle.std.proofs.Common.{◌≡◌, ◌<◌, ℕ, All, length, get_or, arith, List, [], ◌∷◌, ◌++◌, refl, sym, ap, ◌∙◌, subst, Ok, Err, inl, inr}
+use Rattle.std.proofs.Common.{◌≡◌, ◌<◌, ℕ, All, length, get_or, arith, List, [], ◌∷◌, ◌++◌, refl, sym, ap, ◌∙◌, subst, Ok, Err, Some, inl, inr}
 use Rattle.std.specs.Prelude.{◌⊎◌, Option}
 use Rattle.std.proofs.lemmas.Option.{get_or_from_slice_get, slice_get_within, slice_get-get_or}
 use Rattle.std.proofs.lemmas.Slice.Zip.{AllZip-long}
@@ -20,7 +20,7 @@ use Rattle.grid_graph.proofs.CutOff.{first_cut_off-once, cut_off-unreachable}
 use Rattle.command_runs.specs.declared.refusal.Refusal.{Refusal}
 use Rattle.command_runs.specs.declared.refusal.Refusal.TheVariants.{NoCommand, Input, Unreachable, Text, Unread, NoMemory}
 use Rattle.gr_desk.specs.declared.port.Port.{Port}
-use Rattle.gr_desk.specs.declared.port.Port.TheVariants.{In, RoutesIn, CertIn, RoutesOut, CertOut, DesignOut, GuideOut, MapOut, Report}
+use Rattle.gr_desk.specs.declared.port.Port.TheVariants.{In, RoutesIn, CertIn, EditsIn, RoutesOut, CertOut, DesignOut, GuideOut, MapOut, Report}
 use Rattle.command_runs.specs.Refusals.{IsRefusedAt, IsAcceptedAt, AreUnopened, HasToBeRefused, AreAccepted, HaveAcceptedBytes, IsCause, IsCauseAt}
 use Rattle.command_runs.specs.Sources.{Source, IfTold, ports_of}
 use Rattle.command_runs.specs.Steps.{IsRefusedFor}
@@ -97,6 +97,7 @@ pub refused_once_at : (port : Port) (text : List ℕ) (r x : Refusal) → IsRefu
 refused_once_at In text r x h k = refused_once text r x h k
 refused_once_at RoutesIn text r x h k = let same : Err r ≡ Err x = sym h ∙ k in cc
 refused_once_at CertIn text r x h k = let same : Err r ≡ Err x = sym h ∙ k in cc
+refused_once_at EditsIn text r x h k = let same : Err r ≡ Err x = sym h ∙ k in cc
 refused_once_at RoutesOut text r x h k = absurd h
 refused_once_at CertOut text r x h k = absurd h
 refused_once_at DesignOut text r x h k = absurd h
@@ -109,6 +110,7 @@ pub not_refused_at : (port : Port) (text : List ℕ) (r : Refusal) → IsAccepte
 not_refused_at In text r accepted h = not_refused text accepted.0 r accepted.1 accepted.2 h
 not_refused_at RoutesIn text r accepted h = let same : Err r ≡ Ok accepted.0 = sym h ∙ accepted.1 in cc
 not_refused_at CertIn text r accepted h = let same : Err r ≡ Ok accepted.0 = sym h ∙ accepted.1 in cc
+not_refused_at EditsIn text r accepted h = let same : Err r ≡ Ok accepted.0 = sym h ∙ accepted.1 in cc
 not_refused_at RoutesOut text r accepted h = h
 not_refused_at CertOut text r accepted h = h
 not_refused_at DesignOut text r accepted h = h
@@ -148,6 +150,24 @@ cause-accepted (s ∷ later) a c r (inl (at, unopened)) all calm = elim (cause_a
   | inr memory ↦ memory
 ]
 cause-accepted (s ∷ later) a c r (inr (accepted, rest)) all calm = cause-accepted later a c r rest all.1 calm
+
+-- where the desk tells all texts, and they are accepted, it ends for nothing but a failed open or read, or want of memory
+cause_at-accepted : (s : Source) (a c : Told) (r : Refusal) (text : List ℕ) → a.files s.name ≡ Some text → IsAcceptedAt s.port text
+    → IsCauseAt s a c r → (r ≡ Unread) ⊎ (r ≡ NoMemory)
+cause_at-accepted s a c NoCommand text under accepted cause = absurd cause
+cause_at-accepted s a c (Input fault) text under accepted cause =
+    absurd (not_refused_at s.port text (Input fault) accepted (of_told (λ bytes. IsRefusedAt s.port bytes (Input fault)) cause text under))
+cause_at-accepted s a c (Text fault) text under accepted cause =
+    absurd (not_refused_at s.port text (Text fault) accepted (of_told (λ bytes. IsRefusedAt s.port bytes (Text fault)) cause text under))
+cause_at-accepted s a c (Unreachable net) text under accepted cause =
+    absurd (not_refused_at s.port text (Unreachable net) accepted (of_told (λ bytes. IsRefusedAt s.port bytes (Unreachable net)) cause text under))
+cause_at-accepted s a c Unread text under accepted cause = inl refl
+cause_at-accepted s a c NoMemory text under accepted cause = inr refl
+
+pub cause-of_accepted : (sources : List Source) (a c : Told) (r : Refusal) → IsCause sources a c r → AreAccepted a.files sources → (r ≡ Unread) ⊎ (r ≡ NoMemory)
+cause-of_accepted [] a c r cause all = inr cause
+cause-of_accepted (s ∷ later) a c r (inl (at, unopened)) all = cause_at-accepted s a c r all.0.0 all.0.1 all.0.2 at
+cause-of_accepted (s ∷ later) a c r (inr (accepted, rest)) all = cause-of_accepted later a c r rest all.1
 
 -- ---- a run that reads one file
 

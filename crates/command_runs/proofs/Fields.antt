@@ -3,7 +3,7 @@ use Rattle.std.proofs.Common.{◌≡◌, ℕ, List, [], ◌∷◌, ◌++◌, Som
 use Rattle.std.specs.Prelude.{slice_get, slice_index}
 use Rattle.std.proofs.lemmas.List.{append-nil}
 use Rattle.command_runs.specs.declared.text_fault.TextFault.{TextFault}
-use Rattle.command_runs.specs.declared.text_fault.TextFault.TheVariants.{Routes, Certificate, Price, Number, TooLong}
+use Rattle.command_runs.specs.declared.text_fault.TextFault.TheVariants.{Routes, Certificate, Price, Number, Edits, TooLong}
 use Rattle.command_runs.specs.Lines.{fields}
 use Rattle.command_runs.specs.TextFaults.{text_fault_fields}
 
@@ -18,6 +18,7 @@ with-place (Routes x) at is = let same : Some x ≡ Some at = is in cc
 with-place (Certificate x) at is = let same : Some x ≡ Some at = is in cc
 with-place (Price x) at is = let same : Some x ≡ Some at = is in cc
 with-place (Number x) at is = let same : Some x ≡ Some at = is in cc
+with-place (Edits x) at is = let same : Some x ≡ Some at = is in cc
 with-place TooLong at is = cc
 
 pub without-place : (fault : TextFault) → slice_get (text_fault_fields fault) 1 ≡ None
@@ -26,4 +27,5 @@ without-place (Routes x) is = cc
 without-place (Certificate x) is = cc
 without-place (Price x) is = cc
 without-place (Number x) is = cc
+without-place (Edits x) is = cc
 without-place TooLong is = refl

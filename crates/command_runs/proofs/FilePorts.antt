@@ -2,7 +2,7 @@
 use Rattle.std.proofs.Common.{◌≢◌, List, [], ◌∷◌, Contains, sym, subst, inl, inr}
 use Rattle.std.specs.Prelude.{IsTrue}
 use Rattle.gr_desk.specs.declared.port.Port.{Port}
-use Rattle.gr_desk.specs.declared.port.Port.TheVariants.{In, RoutesIn, CertIn, RoutesOut, CertOut, DesignOut, GuideOut, MapOut, Report}
+use Rattle.gr_desk.specs.declared.port.Port.TheVariants.{In, RoutesIn, CertIn, EditsIn, RoutesOut, CertOut, DesignOut, GuideOut, MapOut, Report}
 use Rattle.gr_desk.specs.Ports.{is_input, is_output}
 use Rattle.grid_base.proofs.Lists.{head_or_rest}
 use Rattle.command_runs.specs.Sources.{Source, ports_of}
@@ -37,6 +37,7 @@ not_both : (p : Port) → IsTrue (is_input p) → IsTrue (is_output p) → ⊥
 not_both In input output = cc
 not_both RoutesIn input output = cc
 not_both CertIn input output = cc
+not_both EditsIn input output = cc
 not_both RoutesOut input output = cc
 not_both CertOut input output = cc
 not_both DesignOut input output = cc

@@ -10,3 +10,4 @@ pub mod MadeFiles
 pub mod FilePorts
 pub mod LeftOutcomes
 pub mod EndedRuns
+pub mod StoppedRuns

@@ -3,7 +3,7 @@ use Rattle.std.proofs.Common.{◌≡◌, ◌≢◌, ◌<◌, ◌≤◌, ◌+◌,
 use Rattle.std.specs.Prelude.{IsTrue, Option, option_map, Result, is_err}
 use Rattle.std.specs.Io.KnownBytes.{Consumes}
 use Rattle.gr_desk.specs.declared.port.Port.{Port}
-use Rattle.gr_desk.specs.declared.port.Port.TheVariants.{In, RoutesIn, CertIn, RoutesOut, CertOut, DesignOut, GuideOut, MapOut, Report}
+use Rattle.gr_desk.specs.declared.port.Port.TheVariants.{In, RoutesIn, CertIn, EditsIn, RoutesOut, CertOut, DesignOut, GuideOut, MapOut, Report}
 use Rattle.gr_desk.specs.declared.state.State.{State}
 use Rattle.gr_desk.specs.declared.state.State.TheVariants.{Ready, Refused}
 use Rattle.gr_desk.specs.Calls.{Opens, IsOrderlyRead}
@@ -137,6 +137,7 @@ too_long-refused : (port : Port) (text : List ℕ) → IsTrue (is_input port) �
 too_long-refused In text input long = rw (lt-ltb max_bytes (length text) long) refl
 too_long-refused RoutesIn text input long = rw (lt-ltb max_bytes (length text) long) refl
 too_long-refused CertIn text input long = rw (lt-ltb max_bytes (length text) long) refl
+too_long-refused EditsIn text input long = rw (lt-ltb max_bytes (length text) long) refl
 too_long-refused RoutesOut text input long = cc
 too_long-refused CertOut text input long = cc
 too_long-refused DesignOut text input long = cc
@@ -152,6 +153,8 @@ too_long-cause RoutesIn name text a b input long told = has-either a.files name 
     text (too_long-refused RoutesIn text input long) (λ bytes under. too_long-refused RoutesIn bytes input (told bytes under))
 too_long-cause CertIn name text a b input long told = has-either a.files name (λ bytes. IsRefusedAt CertIn bytes (too_long_at CertIn)) text
     (too_long-refused CertIn text input long) (λ bytes under. too_long-refused CertIn bytes input (told bytes under))
+too_long-cause EditsIn name text a b input long told = has-either a.files name (λ bytes. IsRefusedAt EditsIn bytes (too_long_at EditsIn)) text
+    (too_long-refused EditsIn text input long) (λ bytes under. too_long-refused EditsIn bytes input (told bytes under))
 too_long-cause RoutesOut name text a b input long told = cc
 too_long-cause CertOut name text a b input long told = cc
 too_long-cause DesignOut name text a b input long told = cc

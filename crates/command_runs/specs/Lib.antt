@@ -18,4 +18,5 @@ pub mod Steps
 pub mod Outputs
 pub mod CommandRun
 pub mod AnsweredRun
+pub mod StoppedRuns
 pub mod Saying

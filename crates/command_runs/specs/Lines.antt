@@ -58,7 +58,7 @@ numbers_of _ = []
 
 -- what stands behind the numbers: the word that was wanted, and the line's end; and how the program is called
 abbrev pub ending_of : Refusal → List ℕ
-ending_of NoCommand = codes "\nusage: grouter route|measure|judge|make|trial|guide\n"
+ending_of NoCommand = codes "\nusage: grouter route|measure|judge|make|trial|eco|climb|guide\n"
 ending_of (Input fault) = wanted_part (wanted_of fault) ++ codes "\n"
 ending_of _ = codes "\n"
 

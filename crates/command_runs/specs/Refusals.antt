@@ -2,8 +2,9 @@
 use Rattle.std.specs.Prelude.{◌≡◌, ◌⊎◌, ℕ, All, List, [], ◌∷◌, Contains, Option, Some, Ok, Err}
 use Rattle.std.specs.List.{AllByRecursion}
 use Rattle.cert_text.specs.declared.stated.Stated.{Stated}
+use Rattle.edit_text.specs.declared.edit.Edit.{Edit}
 use Rattle.gr_desk.specs.declared.port.Port.{Port}
-use Rattle.gr_desk.specs.declared.port.Port.TheVariants.{In, RoutesIn, CertIn}
+use Rattle.gr_desk.specs.declared.port.Port.TheVariants.{In, RoutesIn, CertIn, EditsIn}
 use Rattle.gr_desk.specs.Told.{Told}
 use Rattle.grid_graph.specs.declared.design.Design.{Design}
 use Rattle.grid_graph.specs.declared.ground.Ground.TheVariants.{WithChoked}
@@ -12,7 +13,7 @@ use Rattle.ispd_reader.specs.Designs.{contents_of, IsDesignOfText}
 use Rattle.route_text.specs.declared.block.Block.{Block}
 use Rattle.command_runs.specs.declared.refusal.Refusal.{Refusal}
 use Rattle.command_runs.specs.declared.refusal.Refusal.TheVariants.{NoCommand, Input, Unreachable, Unread, NoMemory}
-use Rattle.command_runs.specs.JudgedTexts.{blocks_or_refusal, stated_or_refusal}
+use Rattle.command_runs.specs.JudgedTexts.{blocks_or_refusal, stated_or_refusal, edits_or_refusal}
 use Rattle.command_runs.specs.Lines.{status_of}
 use Rattle.command_runs.specs.Sources.{Source, HasBytes, ports_of}
 use Rattle.command_runs.specs.Traces.{ReportsRefusal, InputFailed}
@@ -26,14 +27,16 @@ IsRefusedAt In text (Input fault) = contents_of text ≡ Err fault
 IsRefusedAt In text (Unreachable net) = (d : Design) × IsDesignOfText text d × IsFirstCutOff d.grid d.nets net.id net.terminal
 IsRefusedAt RoutesIn text refusal = blocks_or_refusal text ≡ Err refusal
 IsRefusedAt CertIn text refusal = stated_or_refusal text ≡ Err refusal
+IsRefusedAt EditsIn text refusal = edits_or_refusal text ≡ Err refusal
 IsRefusedAt _ text refusal = ⊥
 
 -- the text that is read at the port is one: of a design of which open and choked edges with vias join each net's terminals, of
--- blocks, of a certificate
+-- blocks, of a certificate, of edits
 abbrev pub IsAcceptedAt : Port → List ℕ → Type 0
 IsAcceptedAt In text = (d : Design) × IsDesignOfText text d × All (λ n. JoinsTerminals d.grid WithChoked n.terminals) d.nets
 IsAcceptedAt RoutesIn text = (blocks : List Block) × (blocks_or_refusal text ≡ Ok blocks)
 IsAcceptedAt CertIn text = (stated : Stated) × (stated_or_refusal text ≡ Ok stated)
+IsAcceptedAt EditsIn text = (edits : List Edit) × (edits_or_refusal text ≡ Ok edits)
 IsAcceptedAt _ text = ⊥
 
 -- ---- in which order texts are read

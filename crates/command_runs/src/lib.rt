@@ -7,9 +7,9 @@
 //! }
 //! ```
 //!
-//! It stands on `ispd_reader` for the design, `grid_graph` for the nets' grounds, `route_text` and `cert_text` for what the texts of
-//! routes and certificates say, `gr_desk` to read from and write to, `tree_set` for budgets, `text_scan` and `grid_base`. It
-//! knows nothing of how routes are found or judged.
+//! It stands on `ispd_reader` for the design, `grid_graph` for the nets' grounds, `route_text`, `cert_text` and `edit_text` for
+//! what the texts of routes, certificates and edits say, `gr_desk` to read from and write to, `tree_set` for budgets, `text_scan`
+//! and `grid_base`. It knows nothing of how routes are found, judged or edited.
 //!
 //! Promised, in the words of `specs/CommandRun.antt`: a run of a command has one status for each way to end, every status but 8, want
 //! of memory, has its cause, files are made only by a run that has all it will write, and nothing else is touched.

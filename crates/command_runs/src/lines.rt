@@ -57,7 +57,7 @@ fn put_wanted<D: Desk>(pen: &mut Pen<'_, D>, wanted: Option<Wanted>)
     }
 }
 
-/// Puts the numbers of a fault of a text that is judged.
+/// Puts the numbers of a fault of a text that is read beside a design.
 fn put_text_fault<D: Desk>(pen: &mut Pen<'_, D>, fault: TextFault)
     ensures same_desk { HasSameDesk pen.old pen.new }
     ensures puts { Puts (pen_told D.told pen.old) (pen_told D.told pen.new) (fields (numbers_of (Refusal.Text fault))) }
@@ -98,7 +98,9 @@ fn put_ending<D: Desk>(pen: &mut Pen<'_, D>, refusal: Refusal)
     ensures puts { Puts (pen_told D.told pen.old) (pen_told D.told pen.new) (ending_of refusal) }
 {
     match refusal {
-        Refusal::NoCommand => pen.put(b"\nusage: grouter route|measure|judge|make|trial|guide\n"),
+        Refusal::NoCommand => pen.put(
+            b"\nusage: grouter route|measure|judge|make|trial|eco|climb|guide\n",
+        ),
         Refusal::Input(fault) => {
             put_wanted(pen, fault.wanted());
             pen.put(b"\n");

@@ -3,11 +3,12 @@
 ghost use Rattle.std.specs.Prelude.{◌≡◌};
 ghost use Rattle.command_runs.specs.declared.refusal.Refusal.TheVariants.{NoMemory};
 ghost use Rattle.command_runs.specs.Lines.{status_of};
-ghost use Rattle.command_runs.specs.JudgedTexts.{of_route_error, of_cert_error};
+ghost use Rattle.command_runs.specs.JudgedTexts.{of_route_error, of_cert_error, of_edit_error};
 ghost use Rattle.command_runs.specs.Steps.{of_input_error, of_ground_error};
 
 use crate::text_fault::TextFault;
 use cert_text::CertError;
+use edit_text::EditTextError;
 use grid_graph::{GroundError, UnreachableNet};
 use ispd_reader::{InputError, InputFault};
 use route_text::RouteError;
@@ -23,7 +24,7 @@ pub enum Refusal {
     /// The input is no design.
     #[error("{0}")]
     Input(InputFault),
-    /// A text that is to be judged is no route text or no certificate.
+    /// A text that is read beside a design is no route text, no certificate or no text of edits.
     #[error("{0}")]
     Text(TextFault),
     /// Neither open nor choked edges join a net's terminals.
@@ -95,6 +96,17 @@ impl From<CertError> for Refusal {
             CertError::PriceLimit { at } => Refusal::Text(TextFault::Price { at }),
             CertError::NumberLimit { at } => Refusal::Text(TextFault::Number { at }),
             CertError::NoMemory => Refusal::NoMemory,
+        }
+    }
+}
+
+impl From<EditTextError> for Refusal {
+    ghost from_gives = { λ error refusal. refusal ≡ of_edit_error error };
+
+    fn from(error: EditTextError) -> Refusal {
+        match error {
+            EditTextError::Syntax { at } => Refusal::Text(TextFault::Edits { at }),
+            EditTextError::NoMemory => Refusal::NoMemory,
         }
     }
 }

@@ -1,12 +1,12 @@
-//! Why a text that is judged is refused.
+//! Why a text that is read beside a design is refused.
 
 ghost use Rattle.std.specs.Prelude.{◌≡◌, slice_get, slice_index};
 ghost use Rattle.command_runs.specs.TextFaults.{text_fault_fields};
 
 use thiserror::Error;
 
-/// Why a route text or a certificate is refused. A place is counted in bytes from 0; where the text ends too early it is the
-/// text's length.
+/// Why a route text, a certificate or a text of edits is refused. A place is counted in bytes from 0; where the text ends too
+/// early it is the text's length.
 #[derive(Clone, Copy, Debug, Drop, PartialEq, Eq, Error)]
 pub enum TextFault {
     /// The routes are no list of blocks.
@@ -21,6 +21,9 @@ pub enum TextFault {
     /// Another number of the certificate is outside its limits.
     #[error("number outside its limits at byte {at}")]
     Number { at: usize },
+    /// The edits are no text of edits.
+    #[error("no edits at byte {at}")]
+    Edits { at: usize },
     /// The text has more than 2^30 bytes.
     #[error("more than 2^30 bytes")]
     TooLong,
@@ -36,6 +39,7 @@ impl TextFault {
             TextFault::Certificate { .. } => 32,
             TextFault::Price { .. } => 33,
             TextFault::Number { .. } => 34,
+            TextFault::Edits { .. } => 61,
             TextFault::TooLong => 35,
         }
     }
@@ -48,7 +52,8 @@ impl TextFault {
             TextFault::Routes { at }
             | TextFault::Certificate { at }
             | TextFault::Price { at }
-            | TextFault::Number { at } => Some(at),
+            | TextFault::Number { at }
+            | TextFault::Edits { at } => Some(at),
             TextFault::TooLong => None,
         }
     }

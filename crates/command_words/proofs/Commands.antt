@@ -11,12 +11,12 @@ use Rattle.command_words.specs.declared.verb.Verb.{Verb}
 use Rattle.command_words.specs.declared.command.Command.{Command}
 use Rattle.command_words.specs.declared.words_error.WordsError.{WordsError}
 use Rattle.command_words.specs.declared.words_error.WordsError.TheVariants.{Refused}
-use Rattle.command_words.specs.declared.verb.Verb.TheVariants.{Route, Measure, Judge, Make, Trial, Guide}
+use Rattle.command_words.specs.declared.verb.Verb.TheVariants.{Route, Measure, Judge, Make, Trial, Eco, Climb, Guide}
 use Rattle.command_words.specs.CommandLine.{AsksFor, are_names, are_options, begins_with, has_shape, has_values_in_range, is_command, is_command_of, names_in, option_words}
 use Rattle.command_words.specs.Kinds.{verb_form}
 
 no_word_of : (first : Text) (rest : List Text) → ((verb : Verb) → bytes_eq first (verb_form verb).word ≡ false) → is_command (first ∷ rest) ≡ false
-no_word_of first rest none = rw (none Route, none Measure, none Judge, none Make, none Trial, none Guide) refl
+no_word_of first rest none = rw (none Route, none Measure, none Judge, none Make, none Trial, none Eco, none Climb, none Guide) refl
 
 -- words that begin with the word of a command may be this one alone
 only : (verb : Verb) (rest : List Text) → is_command ((verb_form verb).word ∷ rest) ≡ is_command_of ((verb_form verb).word ∷ rest) (verb_form verb)
@@ -25,6 +25,8 @@ only Measure rest = or-false _
 only Judge rest = or-false _
 only Make rest = or-false _
 only Trial rest = or-false _
+only Eco rest = or-false _
+only Climb rest = or-false _
 only Guide rest = or-false _
 
 pub no_other : (verb : Verb) (first : Text) (rest : List Text) → bytes_eq first (verb_form verb).word ≡ true

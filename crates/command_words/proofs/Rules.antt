@@ -14,9 +14,9 @@ use Rattle.clap.specs.Faults.{is_simple_and_free}
 use Rattle.clap.proofs.OnLiterals.{clap_on_literals}
 use Rattle.command_words.specs.declared.kind.Kind.{Kind}
 use Rattle.command_words.specs.declared.kind.Kind.TheVariants.{Grouter, Reroute, RerouteRoutes}
-use Rattle.command_words.specs.declared.verb.Verb.TheVariants.{Route, Measure, Judge, Make, Trial, Guide}
+use Rattle.command_words.specs.declared.verb.Verb.TheVariants.{Route, Measure, Judge, Make, Trial, Eco, Climb, Guide}
 use Rattle.command_words.specs.declared.option_name.OptionName.{OptionName}
-use Rattle.command_words.specs.declared.option_name.OptionName.TheVariants.{Workers, Phases, Rounds, Seed, Budget, Cols, Rows, Layers, Nets, RerouteRounds, Passes}
+use Rattle.command_words.specs.declared.option_name.OptionName.TheVariants.{Workers, Phases, Rounds, Seed, Budget, Cols, Rows, Layers, Nets, Turns, RerouteRounds, Passes}
 use Rattle.command_words.specs.CommandLine.{IsOptionValue, OptionForm, has_option, is_in_range, is_value_word}
 use Rattle.command_words.specs.Kinds.{form_of, id_of, option_named, option_of, options_of}
 use Rattle.command_words.specs.Apps.{app_of_kind, app_with, default_text, option_rule}
@@ -77,6 +77,7 @@ known (Grouter Route) = record {
 }
 known (Grouter Measure) = record { simple = refl; free = refl; none_required = λ rows. refl; has = λ word. refl; defaults = (refl, tt); options = tt }
 known (Grouter Judge) = record { simple = refl; free = refl; none_required = λ rows. refl; has = λ word. refl; defaults = (refl, tt); options = tt }
+known (Grouter Eco) = record { simple = refl; free = refl; none_required = λ rows. refl; has = λ word. refl; defaults = (refl, tt); options = tt }
 known (Grouter Guide) = record { simple = refl; free = refl; none_required = λ rows. refl; has = λ word. refl; defaults = (refl, tt); options = tt }
 known (Grouter Make) = record {
   simple = refl;
@@ -85,6 +86,14 @@ known (Grouter Make) = record {
   has = λ word. refl;
   defaults = (refl, (refl, (refl, (refl, (refl, (refl, tt))))));
   options = ((refl, refl, λ t. refl, refl, refl), ((refl, refl, λ t. refl, refl, refl), ((refl, refl, λ t. refl, refl, refl), ((refl, refl, λ t. refl, refl, refl), ((refl, refl, λ t. refl, refl, refl), tt)))));
+}
+known (Grouter Climb) = record {
+  simple = refl;
+  free = refl;
+  none_required = λ rows. refl;
+  has = λ word. refl;
+  defaults = (refl, (refl, tt));
+  options = ((refl, refl, λ t. refl, refl, refl), tt);
 }
 known (Grouter Trial) = record {
   simple = refl;
@@ -155,6 +164,7 @@ sound Cols = record { word = refl; long = refl; no_dashes = refl; small = omega 
 sound Rows = record { word = refl; long = refl; no_dashes = refl; small = omega arith; default = (refl, refl, (omega arith, omega arith)) }
 sound Layers = record { word = refl; long = refl; no_dashes = refl; small = omega arith; default = (refl, refl, (omega arith, omega arith)) }
 sound Nets = record { word = refl; long = refl; no_dashes = refl; small = omega arith; default = (refl, refl, (omega arith, omega arith)) }
+sound Turns = record { word = refl; long = refl; no_dashes = refl; small = omega arith; default = (refl, refl, (omega arith, omega arith)) }
 sound RerouteRounds = record { word = refl; long = refl; no_dashes = refl; small = omega arith; default = (refl, refl, (omega arith, omega arith)) }
 sound Passes = record { word = refl; long = refl; no_dashes = refl; small = omega arith; default = (refl, refl, (omega arith, omega arith)) }
 

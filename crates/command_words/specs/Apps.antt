@@ -7,7 +7,7 @@ use Rattle.clap.specs.declared.builder.value_parser.ValueParser.TheVariants as v
 use Rattle.command_words.specs.declared.kind.Kind.{Kind}
 use Rattle.command_words.specs.declared.option_name.OptionName.{OptionName}
 use Rattle.command_words.specs.declared.option_name.OptionName.TheVariants.{Workers, Phases, Rounds, Seed, Budget}
-use Rattle.command_words.specs.declared.option_name.OptionName.TheVariants.{Cols, Rows, Layers, Nets, RerouteRounds, Passes}
+use Rattle.command_words.specs.declared.option_name.OptionName.TheVariants.{Cols, Rows, Layers, Nets, Turns, RerouteRounds, Passes}
 use Rattle.command_words.specs.CommandLine.{has_shape, has_values_in_range}
 use Rattle.command_words.specs.Kinds.{form_of, id_of, option_of, options_of}
 
@@ -26,6 +26,7 @@ default_text Cols = Some (codes "16")
 default_text Rows = Some (codes "16")
 default_text Layers = Some (codes "4")
 default_text Nets = Some (codes "200")
+default_text Turns = Some (codes "4")
 default_text RerouteRounds = Some (codes "60")
 default_text Passes = Some (codes "4")
 

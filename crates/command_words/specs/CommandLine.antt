@@ -9,12 +9,14 @@ use Rattle.std.specs.Char.{is_ascii_digit}
 use Rattle.std.specs.Str.{bytes_eq}
 use Rattle.std.specs.Str.Parse.{digits_value}
 use Rattle.command_words.specs.declared.command.Command.{Command}
-use Rattle.command_words.specs.declared.command.Command.TheVariants.{Route, Measure, Judge, Make, Trial, Guide}
+use Rattle.command_words.specs.declared.command.Command.TheVariants.{Route, Measure, Judge, Make, Trial, Eco, Climb, Guide}
 use Rattle.command_words.specs.declared.route_request.RouteRequest.{RouteRequest}
 use Rattle.command_words.specs.declared.measure_request.MeasureRequest.{MeasureRequest}
 use Rattle.command_words.specs.declared.judge_request.JudgeRequest.{JudgeRequest}
 use Rattle.command_words.specs.declared.make_request.MakeRequest.{MakeRequest}
 use Rattle.command_words.specs.declared.trial_request.TrialRequest.{TrialRequest}
+use Rattle.command_words.specs.declared.eco_request.EcoRequest.{EcoRequest}
+use Rattle.command_words.specs.declared.climb_request.ClimbRequest.{ClimbRequest}
 use Rattle.command_words.specs.declared.guide_request.GuideRequest.{GuideRequest}
 
 -- ---- names and values
@@ -81,6 +83,9 @@ layers_option = record { word = codes "--layers"; least = 2; most = 8; unless_gi
 abbrev pub nets_option : OptionForm
 nets_option = record { word = codes "--nets"; least = 0; most = 1048576; unless_given = Some 200 }
 
+abbrev pub turns_option : OptionForm
+turns_option = record { word = codes "--turns"; least = 1; most = 16; unless_given = Some 4 }
+
 -- `route IN ROUTES CERT`
 abbrev pub route_form : CommandForm
 route_form = record {
@@ -116,12 +121,20 @@ trial_form = record {
   options = cols_option ∷ rows_option ∷ layers_option ∷ nets_option ∷ [];
 }
 
+-- `eco IN ROUTES EDITS OUT`
+abbrev pub eco_form : CommandForm
+eco_form = record { word = codes "eco"; names = 4; is_name = is_file_name; options = [] }
+
+-- `climb IN ROUTES CERT NEW`
+abbrev pub climb_form : CommandForm
+climb_form = record { word = codes "climb"; names = 4; is_name = is_file_name; options = turns_option ∷ [] }
+
 -- `guide IN ROUTES GUIDES`
 abbrev pub guide_form : CommandForm
 guide_form = record { word = codes "guide"; names = 3; is_name = is_file_name; options = [] }
 
 abbrev pub command_forms : List CommandForm
-command_forms = route_form ∷ measure_form ∷ judge_form ∷ make_form ∷ trial_form ∷ guide_form ∷ []
+command_forms = route_form ∷ measure_form ∷ judge_form ∷ make_form ∷ trial_form ∷ eco_form ∷ climb_form ∷ guide_form ∷ []
 
 -- ---- the parts of the words
 
@@ -241,6 +254,17 @@ pub record AsksForTrial (words : List (List ℕ)) (request : TrialRequest) : Typ
   pub layers : value_for layers_option (given_options trial_form words) ≡ Some request.layers
   pub nets : value_for nets_option (given_options trial_form words) ≡ Some request.nets
 
+-- the words ask for these edits
+pub record AsksForEco (words : List (List ℕ)) (request : EcoRequest) : Type 0 where
+  pub is_eco : is_command_of words eco_form ≡ true
+  pub names : names_in eco_form words ≡ request.input.now ∷ request.routes.now ∷ request.edits.now ∷ request.edited.now ∷ []
+
+-- the words ask for this climb
+pub record AsksForClimb (words : List (List ℕ)) (request : ClimbRequest) : Type 0 where
+  pub is_climb : is_command_of words climb_form ≡ true
+  pub names : names_in climb_form words ≡ request.input.now ∷ request.routes.now ∷ request.certificate.now ∷ request.climbed.now ∷ []
+  pub turns : value_for turns_option (given_options climb_form words) ≡ Some request.turns
+
 -- the words ask for these guides
 pub record AsksForGuide (words : List (List ℕ)) (request : GuideRequest) : Type 0 where
   pub is_guide : is_command_of words guide_form ≡ true
@@ -253,6 +277,8 @@ AsksFor words (Measure request) = AsksForMeasure words request
 AsksFor words (Judge request) = AsksForJudge words request
 AsksFor words (Make request) = AsksForMake words request
 AsksFor words (Trial request) = AsksForTrial words request
+AsksFor words (Eco request) = AsksForEco words request
+AsksFor words (Climb request) = AsksForClimb words request
 AsksFor words (Guide request) = AsksForGuide words request
 
 -- ---- what follows of a command's values
@@ -279,6 +305,9 @@ pub record HasTrialRanges (request : TrialRequest) : Type 0 where
   pub layers : IsOptionValue layers_option request.layers
   pub nets : IsOptionValue nets_option request.nets
 
+pub record HasClimbRanges (request : ClimbRequest) : Type 0 where
+  pub turns : IsOptionValue turns_option request.turns
+
 -- each value of the command lies in its option's range
 abbrev pub HasRanges : Command → Type 0
 HasRanges (Route request) = HasRouteRanges request
@@ -286,4 +315,6 @@ HasRanges (Measure request) = ⊤
 HasRanges (Judge request) = ⊤
 HasRanges (Make request) = HasMakeRanges request
 HasRanges (Trial request) = HasTrialRanges request
+HasRanges (Eco request) = ⊤
+HasRanges (Climb request) = HasClimbRanges request
 HasRanges (Guide request) = ⊤

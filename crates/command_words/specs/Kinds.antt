@@ -4,16 +4,16 @@ use Rattle.std.specs.Str.{bytes_eq}
 use Rattle.command_words.specs.declared.kind.Kind.{Kind}
 use Rattle.command_words.specs.declared.kind.Kind.TheVariants.{Grouter, Reroute, RerouteRoutes}
 use Rattle.command_words.specs.declared.verb.Verb.{Verb}
-use Rattle.command_words.specs.declared.verb.Verb.TheVariants.{Route, Measure, Judge, Make, Trial, Guide}
+use Rattle.command_words.specs.declared.verb.Verb.TheVariants.{Route, Measure, Judge, Make, Trial, Eco, Climb, Guide}
 use Rattle.command_words.specs.declared.name_form.NameForm.{NameForm}
 use Rattle.command_words.specs.declared.name_form.NameForm.TheVariants as names
 use Rattle.command_words.specs.declared.option_name.OptionName.{OptionName}
 use Rattle.command_words.specs.declared.option_name.OptionName.TheVariants.{Workers, Phases, Rounds, Seed, Budget}
-use Rattle.command_words.specs.declared.option_name.OptionName.TheVariants.{Cols, Rows, Layers, Nets, RerouteRounds, Passes}
+use Rattle.command_words.specs.declared.option_name.OptionName.TheVariants.{Cols, Rows, Layers, Nets, Turns, RerouteRounds, Passes}
 use Rattle.command_words.specs.CommandLine.{CommandForm, OptionForm, is_file_name, is_seed_name}
-use Rattle.command_words.specs.CommandLine.{route_form, measure_form, judge_form, make_form, trial_form, guide_form}
+use Rattle.command_words.specs.CommandLine.{route_form, measure_form, judge_form, make_form, trial_form, eco_form, climb_form, guide_form}
 use Rattle.command_words.specs.CommandLine.{workers_option, phases_option, rounds_option, seed_option, budget_option}
-use Rattle.command_words.specs.CommandLine.{cols_option, rows_option, layers_option, nets_option}
+use Rattle.command_words.specs.CommandLine.{cols_option, rows_option, layers_option, nets_option, turns_option}
 use Rattle.command_words.specs.RerouteLine.{passes_option, reroute_form, reroute_rounds_option, reroute_routes_form}
 
 -- which words may be a name
@@ -27,6 +27,8 @@ verb_form Measure = measure_form
 verb_form Judge = judge_form
 verb_form Make = make_form
 verb_form Trial = trial_form
+verb_form Eco = eco_form
+verb_form Climb = climb_form
 verb_form Guide = guide_form
 
 abbrev pub form_of : Kind → CommandForm
@@ -48,6 +50,7 @@ option_of Cols = cols_option
 option_of Rows = rows_option
 option_of Layers = layers_option
 option_of Nets = nets_option
+option_of Turns = turns_option
 option_of RerouteRounds = reroute_rounds_option
 option_of Passes = passes_option
 
@@ -61,6 +64,8 @@ verb_options Measure = []
 verb_options Judge = []
 verb_options Make = Seed ∷ Cols ∷ Rows ∷ Layers ∷ Nets ∷ []
 verb_options Trial = Cols ∷ Rows ∷ Layers ∷ Nets ∷ []
+verb_options Eco = []
+verb_options Climb = Turns ∷ []
 verb_options Guide = []
 
 abbrev pub options_of : Kind → List OptionName

@@ -1,5 +1,7 @@
 //! A command.
 
+use crate::climb_request::ClimbRequest;
+use crate::eco_request::EcoRequest;
 use crate::guide_request::GuideRequest;
 use crate::judge_request::JudgeRequest;
 use crate::make_request::MakeRequest;
@@ -20,6 +22,10 @@ pub enum Command<'a> {
     Make(MakeRequest<'a>),
     /// A design is to be made, routed and judged, without a file.
     Trial(TrialRequest),
+    /// A routed design is to be edited.
+    Eco(EcoRequest<'a>),
+    /// A certificate's prices are to rise further.
+    Climb(ClimbRequest<'a>),
     /// Guides are to be written for routes.
     Guide(GuideRequest<'a>),
 }

@@ -19,8 +19,10 @@
 
 mod arguments;
 mod clap_command;
+mod climb_request;
 mod command;
 mod congestion_map;
+mod eco_request;
 mod guide_request;
 mod judge_request;
 mod kind;
@@ -46,8 +48,10 @@ mod word;
 mod words_error;
 
 pub use arguments::words_of;
+pub use climb_request::ClimbRequest;
 pub use command::Command;
 pub use congestion_map::map_of;
+pub use eco_request::EcoRequest;
 pub use guide_request::GuideRequest;
 pub use judge_request::JudgeRequest;
 pub use make_request::MakeRequest;

@@ -27,6 +27,7 @@ pub(crate) enum OptionName {
     Rows,
     Layers,
     Nets,
+    Turns,
     RerouteRounds,
     Passes,
 }
@@ -50,6 +51,7 @@ impl OptionName {
             OptionName::Rows => ("--rows", "rows", between(2, 1024), Some("16")),
             OptionName::Layers => ("--layers", "layers", between(2, 8), Some("4")),
             OptionName::Nets => ("--nets", "nets", between(0, 1_048_576), Some("200")),
+            OptionName::Turns => ("--turns", "turns", between(1, 16), Some("4")),
             OptionName::RerouteRounds => ("--rounds", "rounds", between(0, 400), Some("60")),
             OptionName::Passes => ("--passes", "passes", between(0, 16), Some("4")),
         }

@@ -1,11 +1,13 @@
 //! The requests that words ask for.
 
 ghost use Rattle.std.specs.Prelude.{◌≡◌, map, string_bytes};
-ghost use Rattle.command_words.specs.CommandLine.{AsksFor, AsksForRoute, AsksForMeasure, AsksForJudge, AsksForMake, AsksForTrial, AsksForGuide};
+ghost use Rattle.command_words.specs.CommandLine.{AsksFor, AsksForRoute, AsksForMeasure, AsksForJudge, AsksForMake, AsksForTrial, AsksForEco, AsksForClimb, AsksForGuide};
 ghost use Rattle.command_words.specs.Kinds.{with_word};
-ghost use Rattle.command_words.specs.CommandLine.{HasRanges, HasRouteRanges, HasMakeRanges, HasTrialRanges};
+ghost use Rattle.command_words.specs.CommandLine.{HasRanges, HasRouteRanges, HasMakeRanges, HasTrialRanges, HasClimbRanges};
 
+use crate::climb_request::ClimbRequest;
 use crate::command::Command;
+use crate::eco_request::EcoRequest;
 use crate::guide_request::GuideRequest;
 use crate::judge_request::JudgeRequest;
 use crate::kind::Kind;
@@ -30,6 +32,8 @@ pub(crate) fn command_in<'a>(verb: Verb, read: &ReadWords<'a>) -> Command<'a>
         Verb::Judge => Command::Judge(judge_request(read)),
         Verb::Make => Command::Make(make_request(read)),
         Verb::Trial => Command::Trial(trial_request(read)),
+        Verb::Eco => Command::Eco(eco_request(read)),
+        Verb::Climb => Command::Climb(climb_request(read)),
         Verb::Guide => Command::Guide(guide_request(read)),
     }
 }
@@ -98,6 +102,32 @@ fn trial_request(read: &ReadWords<'_>) -> TrialRequest
         rows: read.small_number(OptionName::Rows),
         layers: read.small_number(OptionName::Layers),
         nets: read.small_number(OptionName::Nets),
+    }
+}
+
+fn eco_request<'a>(read: &ReadWords<'a>) -> EcoRequest<'a>
+    requires { read.now.kind ≡ Kind.Grouter Verb.Eco }
+    ensures { AsksForEco (with_word read.now.kind (map string_bytes read.now.words.now)) result }
+{
+    EcoRequest {
+        input: read.name(0),
+        routes: read.name(1),
+        edits: read.name(2),
+        edited: read.name(3),
+    }
+}
+
+fn climb_request<'a>(read: &ReadWords<'a>) -> ClimbRequest<'a>
+    requires { read.now.kind ≡ Kind.Grouter Verb.Climb }
+    ensures asked { AsksForClimb (with_word read.now.kind (map string_bytes read.now.words.now)) result }
+    ensures ranges { HasClimbRanges result }
+{
+    ClimbRequest {
+        input: read.name(0),
+        routes: read.name(1),
+        certificate: read.name(2),
+        climbed: read.name(3),
+        turns: read.small_number(OptionName::Turns),
     }
 }
 

@@ -16,6 +16,8 @@ pub(crate) enum Verb {
     Judge,
     Make,
     Trial,
+    Eco,
+    Climb,
     Guide,
 }
 
@@ -31,6 +33,8 @@ impl Verb {
             "judge" => Some(Verb::Judge),
             "make" => Some(Verb::Make),
             "trial" => Some(Verb::Trial),
+            "eco" => Some(Verb::Eco),
+            "climb" => Some(Verb::Climb),
             "guide" => Some(Verb::Guide),
             _ => None,
         }
@@ -42,6 +46,7 @@ impl Verb {
         ensures some { 0 < result }
     {
         match self {
+            Verb::Eco | Verb::Climb => 4,
             Verb::Route | Verb::Judge | Verb::Guide => 3,
             Verb::Measure => 2,
             Verb::Make | Verb::Trial => 1,
@@ -60,7 +65,8 @@ impl Verb {
                 OptionName::Seed,
                 OptionName::Budget,
             ],
-            Verb::Measure | Verb::Judge | Verb::Guide => &[],
+            Verb::Measure | Verb::Judge | Verb::Eco | Verb::Guide => &[],
+            Verb::Climb => &[OptionName::Turns],
             Verb::Make => &[
                 OptionName::Seed,
                 OptionName::Cols,
@@ -82,8 +88,14 @@ impl Verb {
         ensures { (word : List ℕ) → name_test result word ≡ (verb_form self).is_name word }
     {
         match self {
-            Verb::Route | Verb::Measure | Verb::Judge | Verb::Make | Verb::Guide => NameForm::File,
             Verb::Trial => NameForm::Seed,
+            Verb::Route
+            | Verb::Measure
+            | Verb::Judge
+            | Verb::Make
+            | Verb::Eco
+            | Verb::Climb
+            | Verb::Guide => NameForm::File,
         }
     }
 }

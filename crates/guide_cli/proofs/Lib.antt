@@ -1,3 +1,2 @@
 pub mod FarDesigns
 pub mod GuidedRuns
-pub mod Sets

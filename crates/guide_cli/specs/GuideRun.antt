@@ -2,7 +2,7 @@
 use Rattle.std.specs.Prelude.{◌≡◌, ◌⊎◌, ◌++◌, ℕ, List, [], ◌∷◌, Some, slice_index_or}
 use Rattle.command_words.specs.CommandLine.{names_in, guide_form}
 use Rattle.command_words.specs.declared.guide_request.GuideRequest.{GuideRequest}
-use Rattle.gr_desk.specs.declared.port.Port.TheVariants.{In, GuideOut}
+use Rattle.gr_desk.specs.declared.port.Port.TheVariants.{GuideOut}
 use Rattle.gr_desk.specs.Told.{Told}
 use Rattle.grid_base.specs.declared.piece.Piece.{Piece}
 use Rattle.grid_graph.specs.declared.design.Design.{Design}
@@ -16,10 +16,9 @@ use Rattle.route_judge.specs.Objections.{Finds}
 use Rattle.route_judge.specs.Orders.{route_objections, AreRoutes}
 use Rattle.command_runs.specs.declared.refusal.Refusal.TheVariants.{Unread, NoMemory}
 use Rattle.command_runs.specs.AnsweredRun.{IsAnsweredRun}
-use Rattle.command_runs.specs.CommandRun.{ExpectsNames}
 use Rattle.command_runs.specs.Lines.{status_of}
-use Rattle.command_runs.specs.Sources.{Source, HasBytes}
-use Rattle.command_runs.specs.Traces.{ReportsSince, TouchesOnly}
+use Rattle.command_runs.specs.Sources.{Source, HasBytes, design_source}
+use Rattle.command_runs.specs.StoppedRuns.{IsStoppedRun}
 use Rattle.judge_cli.specs.MeasureRun.{AreReadRoutes, measure_sources}
 use Rattle.guide_cli.specs.declared.guide_answer.GuideAnswer.{GuideAnswer}
 use Rattle.guide_cli.specs.declared.guide_answer.GuideAnswer.TheVariants.{Guided, No}
@@ -88,10 +87,7 @@ pub record IsNearRun (q : GuideTask) (before after : Told) (status : ℕ) : Type
 pub record IsFarRun (q : GuideTask) (before after : Told) (status : ℕ) : Type 0 where
   pub named : HasBytes before.files q.input NamesFarDesign
   pub status_is : status ≡ far_status
-  pub says : ReportsSince before.out_faults before after far_line
-  pub touches : TouchesOnly (In ∷ []) [] before after
-  pub unread : after.in_faults ≡ before.in_faults
-  pub in_order : ExpectsNames (guide_sources q ++ guide_files q) before → after.strayed ≡ before.strayed
+  pub stopped : IsStoppedRun (design_source q.input) (guide_sources q ++ guide_files q) far_line before after
 
 -- a run of `guide` with this task
 abbrev pub IsGuideRun : GuideTask → Told → Told → ℕ → Type 0

@@ -1,6 +1,6 @@
 use Rattle.std.proofs.lemmas.Slice.Zip.{AllZip-long}
 use Rattle.route_judge.specs.NetSets.{AreSetsOf, IsSetOfNet}
-use Rattle.guide_cli.proofs.Sets.{sets_are_pieces}
+use Rattle.judge_laws.proofs.SetPieces.{sets_are_pieces}
 use Rattle.guide_cli.proofs.guiding.answer_on.Goals as goal
 use Rattle.guide_cli.proofs.guiding.answer_on.Goals.{After-as_slice}
 
