@@ -1,3 +1,4 @@
+pub mod Accepted
 pub mod EcoFacts
 pub mod FirstPins
 pub mod Indices

@@ -89,3 +89,7 @@ IsRefusedFor d (Change id width pins) f =
 abbrev pub IsEditRefusal : Design → Edit → EditRefusal → Type 0
 IsEditRefusal d e (Fault f) = IsRefusedFor d e f
 IsEditRefusal d e NoMemory = Unit {0}
+
+-- nothing speaks against an edit of this design
+abbrev pub IsEditAccepted : Design → Edit → Type 0
+IsEditAccepted d e = (f : EditFault) → ¬ IsRefusedFor d e f

@@ -53,7 +53,7 @@ impl Eco {
     ghost use Rattle.eco_route.specs.RoutedDesigns.{IsRewired, IsUnchanged};
     ghost use Rattle.eco_route.specs.declared.edit_fault.EditFault.TheVariants.{UnknownId};
     ghost use Rattle.eco_route.specs.NetIndices.{ids_of};
-    ghost use Rattle.eco_route.specs.EditRefusals.{HasNoNet, IsEditRefusal, terminals_of};
+    ghost use Rattle.eco_route.specs.EditRefusals.{HasNoNet, IsEditAccepted, IsEditRefusal, terminals_of};
 
     /// An eco of a routed design. The error is want of memory, and hands both back.
     pub fn open(alloc: Global, design: Design, trees: Vec<Tree>) -> Result<Eco, (Design, Vec<Tree>)>
@@ -83,6 +83,7 @@ impl Eco {
     pub fn apply(&mut self, edit: &Edit) -> Result<(), EditRefusal>
         requires { IsEditInRange edit.now }
         ensures step { OnOk result (IsEcoStep edit.now self.old.design self.old.sets self.new.design self.new.sets) }
+        ensures accepted { OnOk result (IsEditAccepted self.old.design edit.now) }
         ensures refusal { IfErr result (IsEditRefusal self.old.design edit.now) }
         ensures as_before { OnErr result (IsUnchanged self.old self.new) }
     {
@@ -134,6 +135,7 @@ impl Eco {
     /// The net with this id goes.
     fn drop_net(&mut self, id: u32) -> Result<(), EditRefusal>
         ensures step { OnOk result (IsDropStep id self.old.design self.old.sets self.new.design self.new.sets) }
+        ensures accepted { OnOk result (IsEditAccepted self.old.design (edit.Drop id)) }
         ensures refusal { IfErr result (IsEditRefusal self.old.design (edit.Drop id)) }
         ensures as_before { OnErr result (IsUnchanged self.old self.new) }
     {
@@ -154,6 +156,7 @@ impl Eco {
     fn add_net(&mut self, name: &[u8], id: u32, width: u32, pins: &[Pin]) -> Result<(), EditRefusal>
         requires { IsNetInRange id width pins.now }
         ensures step { OnOk result (IsAddStep name.now id width pins.now self.old.design self.old.sets self.new.design self.new.sets) }
+        ensures accepted { OnOk result (IsEditAccepted self.old.design (edit.Add name.now id width pins.now)) }
         ensures refusal { IfErr result (IsEditRefusal self.old.design (edit.Add name.now id width pins.now)) }
         ensures as_before { OnErr result (IsUnchanged self.old self.new) }
     {
@@ -208,6 +211,7 @@ impl Eco {
     fn change_net(&mut self, id: u32, width: u32, pins: &[Pin]) -> Result<(), EditRefusal>
         requires { IsNetInRange id width pins.now }
         ensures step { OnOk result (IsChangeStep id width pins.now self.old.design self.old.sets self.new.design self.new.sets) }
+        ensures accepted { OnOk result (IsEditAccepted self.old.design (edit.Change id width pins.now)) }
         ensures refusal { IfErr result (IsEditRefusal self.old.design (edit.Change id width pins.now)) }
         ensures as_before { OnErr result (IsUnchanged self.old self.new) }
     {

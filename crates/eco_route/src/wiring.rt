@@ -43,6 +43,7 @@ pub(crate) fn wired(
     ensures net { IfOk result (λ x. IsNetOfPins grid.now wish.now.id wish.now.name.now wish.now.width wish.now.pins.now x.0) }
     ensures fits { IfOk result (λ x. IsNet grid.now x.0) }
     ensures ground { IfOk result (λ x. IsGround grid.now x.0.terminals x.1) }
+    ensures accepted { IfOk result (λ x. IsNetAccepted grid.now wish.now.nets wish.now.others wish.now.width wish.now.pins.now) }
     ensures nets { IfOk result (λ x. wish.now.nets ≤ max_nets) }
     ensures pins { IfOk result (λ x. wish.now.others + length x.0.terminals ≤ max_pins) }
     ensures refusal { IfErr result (IsNetRefusal grid.now wish.now.nets wish.now.others wish.now.name.now wish.now.id wish.now.width wish.now.pins.now) }

@@ -5,9 +5,10 @@ use Rattle.edit_text.specs.declared.edit.Edit.TheVariants.{Add}
 use Rattle.grid_graph.specs.declared.design.Design.{Design}
 use Rattle.price_workers.proofs.TurnFacts.{step_pieces}
 use Rattle.eco_route.specs.EcoSteps.{IsAddStep}
-use Rattle.eco_route.specs.EditRefusals.{HasNoNet, IsEditRefusal}
+use Rattle.eco_route.specs.EditRefusals.{HasNoNet, IsEditAccepted, IsEditRefusal}
 use Rattle.eco_route.specs.RoutedDesigns.{RoutedDesign}
 use Rattle.eco_route.specs.Routers.{router_loads}
+use Rattle.eco_route.proofs.Accepted.{add_accepted}
 use Rattle.eco_route.proofs.EcoFacts.{loads_are, IsEco-rerouted}
 use Rattle.eco_route.proofs.StepFacts.{add_refused, add_step, is_taken, when_not_ok}
 use Rattle.eco_route.proofs.eco.Eco.add_net.Goals as goal
@@ -59,3 +60,14 @@ returns-clause-step c =
     subst (λ (x : RoutedDesign). IsAddStep c.args.name.now c.args.id c.args.width c.args.pins.now x.design x.sets c.append.new.self.design c.append.new.self.sets) c.self.view_is
     (add_step old c.append.new.self c.args.name.now c.args.id c.args.width c.args.pins.now c.in_ok-net.net c.in_ok-tree.tree (router_loads s.router) c.in_ok-net.ensures.net loaded
     c.in_ok-tree.ensures.step made.grid made.nets made.sets)
+
+pub returns-clause-accepted : goal.returns-clause-accepted
+returns-clause-accepted c =
+    let d = c.self.inside.design in
+    let seen : d ≡ c.args.self.now.design = ap (λ (x : RoutedDesign). x.design) c.self.view_is in
+    let free : HasNoNet c.args.self.now.design.nets c.args.id = when_not_ok c.place_of.result (sym c.is_ok.ensures.value ∙ c.if-is_ok.false) c.place_of.ensures.free in
+    let here : HasNoNet d.nets c.args.id = subst (λ (x : Design). HasNoNet x.nets c.args.id) (sym seen) free in
+    let count : c.len.result + 1 ≡ length d.nets + 1 = ap (λ k. k + 1) (c.len.ensures ∙ c.self.inside.trees.ok.0 ∙ c.self.invariant.sets.one_each) in
+    subst (λ (x : Design). IsEditAccepted x (Add c.args.name.now c.args.id c.args.width c.args.pins.now)) seen
+    (add_accepted d c.args.name.now c.args.id c.args.width c.args.pins.now (c.len.result + 1) c.self.inside.terminals c.in_ok-net.net c.in_ok-net.over count c.self.invariant.counted here
+    c.in_ok-net.ensures.accepted c.in_ok-net.ensures.net c.in_ok-net.ensures.ground)

@@ -6,10 +6,11 @@ use Rattle.grid_base.specs.Lists.{At}
 use Rattle.grid_graph.specs.declared.design.Design.{Design}
 use Rattle.grid_graph.specs.Grounds.{IsGround}
 use Rattle.grid_graph.specs.Limits.{max_pins}
-use Rattle.eco_route.specs.EditRefusals.{terminals_of, IsEditRefusal, IsNetRefusal}
+use Rattle.eco_route.specs.EditRefusals.{terminals_of, IsEditAccepted, IsEditRefusal, IsNetRefusal}
 use Rattle.eco_route.specs.EditedDesigns.{IsNetOfPins}
 use Rattle.eco_route.specs.NetIndices.{ids_of}
 use Rattle.eco_route.specs.RoutedDesigns.{RoutedDesign}
+use Rattle.eco_route.proofs.Accepted.{change_accepted}
 use Rattle.eco_route.proofs.EcoFacts.{has_id, id_here, id_within, net_read, terminals-removed}
 use Rattle.eco_route.proofs.StepFacts.{change_refused, change_step}
 use Rattle.eco_route.proofs.eco.Eco.change_net.Goals as goal
@@ -95,3 +96,18 @@ returns-clause-step c =
     (has_id c.args.self.now.design.nets c.in_ok-place.place c.args.id c.index-list-place.result c.in_ok-place.ensures.found before)
     (subst (λ (d : Design). IsNetOfPins d.grid c.args.id c.index-list-place.result.name c.args.width c.args.pins.now c.in_ok-net.net) (seen here.After-list) made)
     c.in_ok-rewire.ensures.rewired
+
+pub returns-clause-accepted : goal.returns-clause-accepted
+returns-clause-accepted c =
+    let d = c.self.inside.design in
+    let here = goal.at.returns-clause-accepted c in
+    let p = c.in_ok-place.place in
+    let n = c.index-list-place.result in
+    let others_here = others here.After-list-3 (within here.After-list) in
+    let before = net_at here.After-list-3 (within here.After-list) in
+    let made : IsNetOfPins d.grid c.args.id n.name c.args.width c.args.pins.now c.in_ok-net.net =
+    subst (λ name. IsNetOfPins d.grid c.args.id name c.args.width c.args.pins.now c.in_ok-net.net) c.list-2.ensures c.in_ok-net.ensures.net in
+    subst (λ (x : Design). IsEditAccepted x (Change c.args.id c.args.width c.args.pins.now)) (seen here.After-list)
+    (change_accepted d p n c.args.id c.args.width c.args.pins.now c.len.result (c.self.inside.terminals - length c.list-3.result.now) c.in_ok-net.net c.in_ok-net.over before
+    (has_id d.nets p c.args.id n (named here.After-list) before) (c.len.ensures ∙ c.self.inside.trees.ok.0 ∙ c.self.invariant.sets.one_each) (omega (arith, others_here))
+    c.in_ok-net.ensures.accepted made c.in_ok-net.ensures.ground)

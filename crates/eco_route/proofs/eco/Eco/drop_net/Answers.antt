@@ -9,7 +9,8 @@ use Rattle.tree_set.specs.Routings.{ArePieces}
 use Rattle.eco_route.specs.NetIndices.{ids_of, IsIndexOf}
 use Rattle.eco_route.specs.RoutedDesigns.{RoutedDesign}
 use Rattle.eco_route.specs.Routers.{router_loads}
-use Rattle.eco_route.proofs.EcoFacts.{drop_step, each_at, has_id, id_here, id_within, load-had, net_read, once-ids, terminals-removed, IdsDiffer-removed, IsDesign-removed, IsEco-removed}
+use Rattle.eco_route.proofs.Accepted.{drop_accepted}
+use Rattle.eco_route.proofs.EcoFacts.{drop_step, each_at, has_id, id_here, id_within, load-had, net_of_id, net_read, once-ids, terminals-removed, IdsDiffer-removed, IsDesign-removed, IsEco-removed}
 use Rattle.eco_route.proofs.eco.Eco.drop_net.Goals as goal
 use Rattle.eco_route.proofs.eco.Eco.drop_net.Goals.{After-list, After-list-2, After-index}
 
@@ -107,3 +108,8 @@ returns-clause-step c =
     (net_at here.After-list-2 (within here.After-list))
     (has_id c.self.inside.design.nets c.in_ok-place.place c.args.id c.index-list-place.result (named here.After-list) (net_at here.After-list-2 (within here.After-list)))
     c.remove_net.ensures refl c.remove-2.ensures.items
+
+pub returns-clause-accepted : goal.returns-clause-accepted
+returns-clause-accepted c =
+    let found = net_of_id c.args.self.now.design.nets c.in_ok-place.place c.args.id c.in_ok-place.ensures.found in
+    drop_accepted c.args.self.now.design c.args.id c.in_ok-place.place found.0 found.1 found.2

@@ -1,0 +1,9 @@
+pub mod EcoChains
+pub mod EditChains
+pub mod EditedAlike
+pub mod Lists
+pub mod OneRefusal
+pub mod Options
+pub mod Pins
+pub mod RefusedAlike
+pub mod TextEdits
