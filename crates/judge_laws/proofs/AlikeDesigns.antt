@@ -273,6 +273,9 @@ module _ (d e : Design) (alike : AreAlikeDesigns d e) where
   against_routes : (blocks : List Block) → route_objections d blocks ≡ route_objections e blocks
   against_routes blocks = ap (λ nets. all_block_objections blocks ++ map (objections.missing_net blocks) nets) alike.nets
 
+  pub routes_found_too : (blocks : List Block) (found : Option Reason) → Finds d (route_objections d blocks) found → Finds e (route_objections e blocks) found
+  routes_found_too blocks found is = subst (λ xs. Finds e xs found) (against_routes blocks) (finds_too d e alike (route_objections d blocks) found is)
+
   but_bound : (over : List Ground) (blocks : List Block) (cert : Cert) (m : Measure) → objections_but_bound d over blocks cert m ≡ objections_but_bound e over blocks cert m
   but_bound over blocks cert m = λ i.
       against_routes blocks i

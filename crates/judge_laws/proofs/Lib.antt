@@ -1,4 +1,5 @@
 pub mod RisingSets
+pub mod SetPieces
 pub mod WrittenSegments
 pub mod NoObjections
 pub mod WrittenBlocks

@@ -6,9 +6,9 @@ ghost use Rattle.cert_text.specs.declared.cert.Cert.{Cert};
 ghost use Rattle.cert_text.specs.Certs.{IsCertOf, IsCertWithin};
 ghost use Rattle.cert_text.specs.CertText.{cert_text};
 ghost use Rattle.dual_bound.specs.DesignBounds.{IsBoundOrNone};
-ghost use Rattle.dual_bound.specs.Prices.{free_budget};
+ghost use Rattle.dual_bound.specs.Prices.{ArePricesWith};
+ghost use Rattle.edge_prices.specs.declared.budget.Budget.{Budget};
 ghost use Rattle.edge_prices.specs.Limits.{max_price};
-ghost use Rattle.edge_prices.specs.Weights.{AreEdgePrices};
 ghost use Rattle.grid_base.specs.declared.piece.Piece.{Piece};
 ghost use Rattle.grid_graph.specs.Alike.{AreAlikeDesigns};
 ghost use Rattle.grid_graph.specs.Borders.{HasBordersInRange};
@@ -87,19 +87,18 @@ pub fn texts_have_one_verdict()
         → AreTextsOf design routes certificate d over blocks cert → Meet d over blocks cert → IsVerdictOn design routes certificate reason → reason ≡ None }
 {}
 
-/// Where routes and a certificate are accepted, they stay so with other prices of the edges and the bound at these, where a
-/// wirelength that is to be kept costs nothing. The new text reads back, and states a bound of the design.
+/// Where routes and a certificate are accepted, they stay so with other prices of the edges and of the wirelength, and the bound at
+/// these; none is stated only where none was. The new text reads back, and states a bound of the design.
 pub fn certificates_with_another_bound_are_accepted()
-    ensures accepted { (d : Design) (over : List Ground) (blocks : List Block) (cert : Cert) (prices : List ℕ) (f : Fraction)
-        → IsJudged d over blocks cert None → AreEdgePrices d.grid prices
-        → IsBoundOrNone d prices (free_budget (most_of cert.budget)) (Some f)
-        → IsJudged d over blocks (with_prices d.grid cert prices (Some f)) None }
-    ensures reads_back { (d : Design) (cert : Cert) (prices : List ℕ) (f : Fraction)
-        → IsCertWithin cert → AreEdgePrices d.grid prices
-        → IsBoundOrNone d prices (free_budget (most_of cert.budget)) (Some f)
-        → IsCertOf (cert_text (with_prices d.grid cert prices (Some f))) (with_prices d.grid cert prices (Some f)) }
-    ensures bounds { (d : Design) (cert : Cert) (prices : List ℕ) (f : Fraction)
-        → IsWithinLimits cert.budget → AreEdgePrices d.grid prices
-        → IsBoundOrNone d prices (free_budget (most_of cert.budget)) (Some f)
-        → StatesBound d (with_prices d.grid cert prices (Some f)) }
+    ensures accepted { (d : Design) (over : List Ground) (blocks : List Block) (cert : Cert) (budget : Option Budget) (prices : List ℕ) (found : Option Fraction)
+        → IsJudged d over blocks cert None → most_of budget ≡ most_of cert.budget → ArePricesWith d.grid prices budget
+        → IsBoundOrNone d prices budget found → (found ≡ None → cert.bound ≡ None)
+        → IsJudged d over blocks (with_prices d.grid cert budget prices found) None }
+    ensures reads_back { (d : Design) (cert : Cert) (budget : Option Budget) (prices : List ℕ) (found : Option Fraction)
+        → IsCertWithin cert → most_of budget ≡ most_of cert.budget → ArePricesWith d.grid prices budget
+        → IsBoundOrNone d prices budget found
+        → IsCertOf (cert_text (with_prices d.grid cert budget prices found)) (with_prices d.grid cert budget prices found) }
+    ensures bounds { (d : Design) (cert : Cert) (budget : Option Budget) (prices : List ℕ) (found : Option Fraction)
+        → ArePricesWith d.grid prices budget → IsBoundOrNone d prices budget found
+        → StatesBound d (with_prices d.grid cert budget prices found) }
 {}

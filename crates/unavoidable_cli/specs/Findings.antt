@@ -5,6 +5,8 @@ use Rattle.cert_text.specs.Certs.{IsCertOf}
 use Rattle.cert_text.specs.CertText.{cert_text}
 use Rattle.dual_bound.specs.DesignBounds.{IsBoundOrNone}
 use Rattle.dual_bound.specs.LeastOverflow.{ShowsOverflow}
+use Rattle.dual_bound.specs.Prices.{free_budget}
+use Rattle.edge_prices.specs.Budgets.{most_of}
 use Rattle.edge_prices.specs.Weights.{AreEdgePrices}
 use Rattle.grid_base.specs.declared.piece.Piece.{Piece}
 use Rattle.grid_graph.specs.declared.design.Design.{Design}
@@ -39,7 +41,7 @@ pub record IsPricing (d : Design) (prices : List ℕ) (edges : List PricedEdge) 
 -- the two are equal. The overflow that these prices show is at most the one that is found.
 pub record IsBetter (d : Design) (old new : Cert) (edges : List PricedEdge) (least : ℕ) : Type 0 where
   pub prices : List ℕ
-  pub is_new : new ≡ with_prices d.grid old prices new.bound
+  pub is_new : new ≡ with_prices d.grid old (free_budget (most_of old.budget)) prices new.bound
   pub is_bound : IsBoundOrNone d prices new.budget new.bound
   pub above : IsAbove new.bound old.bound
   pub pricing : (shown : ℕ) × IsPricing d prices edges shown × (shown ≤ least)
