@@ -1,0 +1,10 @@
+pub use Rattle.grid_graph.specs.Grids
+pub use Rattle.edge_prices.specs.Budgets
+pub use Rattle.fractions.specs.Fractions
+pub use Rattle.sharing_runs.specs.NetSteps
+pub use Rattle.dual_bound.specs.DesignBounds
+pub mod Climbs
+pub mod ClimbTurns
+pub mod LabelRows
+pub mod NetProofs
+pub mod ProofParts
