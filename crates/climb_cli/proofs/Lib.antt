@@ -1,0 +1,4 @@
+pub mod BlockLoads
+pub mod VectorCosts
+pub mod NewBounds
+pub mod ClimbRuns
