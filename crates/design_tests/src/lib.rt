@@ -10,24 +10,12 @@ mod design_grid_tests;
 #[cfg(test)]
 mod design_text_tests;
 #[cfg(test)]
-mod guide_run_tests;
-#[cfg(test)]
 mod guide_tests;
 #[cfg(test)]
-mod judge_run_tests;
-#[cfg(test)]
-mod make_tests;
-#[cfg(test)]
 mod route_text_tests;
-#[cfg(test)]
-mod run_tests;
-#[cfg(test)]
-mod runs;
 #[cfg(test)]
 mod size_tests;
 #[cfg(test)]
 mod tree_tests;
 #[cfg(test)]
 mod trees;
-#[cfg(test)]
-mod trial_tests;

@@ -16,10 +16,16 @@
 -- in `guide_cli`:
 --   GuideRun     what a run of `guide` writes and says, and when a design is refused that is not near
 --   GuideLines   its lines, byte for byte
+-- in `eco_cli`:
+--   EcoRun       what a run of `eco` writes and says, and when an edit is refused
+--   EcoInputs    what it reads, and EcoLines its lines, byte for byte
+-- in `climb_cli`:
+--   ClimbRun     what a run of `climb` writes and says
+--   ClimbLines   its lines, byte for byte
 -- and in `command_runs`, where no word says how they are judged:
---   CommandRun   what a run of any of the six commands leaves on each status
+--   CommandRun   what a run of any of the eight commands leaves on each status
 --   Sources      the files that a command reads or makes
---   JudgedTexts  what the texts of routes and certificates say
+--   JudgedTexts  what the texts of routes, certificates and edits say
 --   Refusals     why a run can be refused, and what it then says
 --   Lines        the lines of refusals, byte for byte
 --   Outputs      the files that a run makes
@@ -32,10 +38,12 @@
 use Rattle.std.specs.Prelude.{◌≡◌, ◌⊎◌, ℕ, List, [], map, string_bytes, true, false}
 use Rattle.std.specs.declared.string.String.{String}
 use Rattle.gr_desk.specs.Told.{Told}
-use Rattle.command_words.specs.CommandLine.{is_command, is_command_of, route_form, measure_form, judge_form, make_form, trial_form, guide_form}
+use Rattle.command_words.specs.CommandLine.{is_command, is_command_of, route_form, measure_form, judge_form, make_form, trial_form, eco_form, climb_form, guide_form}
 use Rattle.command_runs.specs.declared.refusal.Refusal.{Refusal}
 use Rattle.command_runs.specs.declared.refusal.Refusal.TheVariants.{NoCommand, NoMemory}
 use Rattle.command_runs.specs.Lines.{status_of}
+use Rattle.climb_cli.specs.ClimbRun.{IsClimbRun, climb_task_of_words}
+use Rattle.eco_cli.specs.EcoRun.{IsEcoRun, eco_task_of_words}
 use Rattle.guide_cli.specs.GuideRun.{IsGuideRun, guide_task_of_words}
 use Rattle.judge_cli.specs.JudgeRun.{IsJudgeRun, judge_task_of_words}
 use Rattle.router_cli.specs.MakeRun.{IsMakeRun, make_task_of_words}
@@ -66,4 +74,6 @@ pub record IsRun {Z : Type 0} (words : List (String Z)) (before after : Told) (s
   pub judge : is_command_of (map string_bytes words) judge_form ≡ true → IsJudgeRun (judge_task_of_words (map string_bytes words)) before after status
   pub make : is_command_of (map string_bytes words) make_form ≡ true → IsMakeRun (make_task_of_words (map string_bytes words)) before after status
   pub trial : is_command_of (map string_bytes words) trial_form ≡ true → IsTrialRun (trial_task_of_words (map string_bytes words)) before after status
+  pub eco : is_command_of (map string_bytes words) eco_form ≡ true → IsEcoRun (eco_task_of_words (map string_bytes words)) before after status
+  pub climb : is_command_of (map string_bytes words) climb_form ≡ true → IsClimbRun (climb_task_of_words (map string_bytes words)) before after status
   pub guide : is_command_of (map string_bytes words) guide_form ≡ true → IsGuideRun (guide_task_of_words (map string_bytes words)) before after status

@@ -5,8 +5,10 @@ ghost use Rattle.router_cli.specs.Runs.{IsRun};
 use crate::make::make;
 use crate::route::route;
 use crate::trial::trial;
+use climb_cli::climb;
 use command_runs::{Refusal, refuse};
 use command_words::{Command, WordsError, command_of};
+use eco_cli::eco;
 use gr_desk::Desk;
 use guide_cli::guide;
 use judge_cli::{judge, measure};
@@ -23,11 +25,12 @@ use std::thread::Threads;
 /// | 1 | routes or a certificate are not accepted, and the report says why |
 /// | 2 | the words are no command |
 /// | 3 | the input is no design, or one that guides can't hold |
-/// | 4 | a text that is to be judged is no route text or no certificate |
+/// | 4 | a text that is read beside the design is no route text, no certificate or no text of edits |
 /// | 5 | a net is unreachable |
 /// | 6 | a file could not be opened or read |
 /// | 7 | a file could not be created or written, or the report not written whole |
 /// | 8 | want of memory, before a file was created |
+/// | 9 | an edit is refused |
 pub fn run<R: Threads + Sync, D: Desk, G: Gate>(
     rt: &R,
     alloc: Global,
@@ -43,6 +46,8 @@ pub fn run<R: Threads + Sync, D: Desk, G: Gate>(
         Ok(Command::Judge(request)) => judge(rt, alloc, &request, desk),
         Ok(Command::Make(request)) => make(desk, &request),
         Ok(Command::Trial(request)) => trial(rt, alloc, &request, desk, gate),
+        Ok(Command::Eco(request)) => eco(alloc, &request, desk),
+        Ok(Command::Climb(request)) => climb(rt, alloc, &request, desk),
         Ok(Command::Guide(request)) => guide(alloc, &request, desk),
         Err(WordsError::Refused) => refuse(desk, Refusal::NoCommand),
         Err(WordsError::NoMemory) => refuse(desk, Refusal::NoMemory),

@@ -10,6 +10,7 @@ fn port_of(word: &str) -> Option<Port> {
         "In" => Some(Port::In),
         "RoutesIn" => Some(Port::RoutesIn),
         "CertIn" => Some(Port::CertIn),
+        "EditsIn" => Some(Port::EditsIn),
         "RoutesOut" => Some(Port::RoutesOut),
         "CertOut" => Some(Port::CertOut),
         "DesignOut" => Some(Port::DesignOut),

@@ -1,10 +1,11 @@
 //! Whole runs over a desk in memory, as tables tell them.
 //!
-//! A table has a paragraph for each run, maybe with a comment in front of it. The first line has the words, and maybe a bar and a call that fails. The second line
-//! has the texts that the desk has: a design, and behind a bar each the routes and the certificate, as far as there are any;
-//! or `-` where it has no file. The third has the status, with a word behind it where the desk strayed or starved. Then come
-//! the texts that are left: the report, the routes, the certificate, the design, the guides and the map. There `-` is nothing, `?` is not known,
-//! and of lines that lack at the end nothing was written. `;` is a line end within a text.
+//! A table has a paragraph for each run, maybe with a comment in front of it. The first line has the words, and maybe a bar and a
+//! call that fails. The second line has the texts that the desk has: a design, and behind a bar each the routes, the certificate
+//! and the edits, as far as there are any; or `-` where it has no file. The third has the status, with a word behind it where the
+//! desk strayed or starved. Then come the texts that are left: the report, the routes, the certificate, the design, the guides
+//! and the map. There `-` is nothing, `?` is not known, and of lines that lack at the end nothing was written. `;` is a line end
+//! within a text.
 //!
 //! ```text
 //! measure a.gr a.routes

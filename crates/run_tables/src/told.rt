@@ -7,8 +7,8 @@ use std::test::Fail;
 use test_rows::text_of;
 use worked_designs::design_text;
 
-/// The names of the files with the design, the routes and the certificate.
-const FILES: [&str; 3] = ["a.gr", "a.routes", "a.cert"];
+/// The names of the files with the design, the routes, the certificate and the edits.
+const FILES: [&str; 4] = ["a.gr", "a.routes", "a.cert", "a.edits"];
 
 /// What a paragraph tells of a run.
 #[derive(Drop)]
@@ -17,7 +17,7 @@ pub struct Told {
     pub line: &'static str,
     /// The calls that fail.
     pub failing: Vec<FailedCall>,
-    /// The texts of the design, the routes and the certificate, where there are files.
+    /// The texts of the design, the routes, the certificate and the edits, where there are files.
     pub texts: Vec<Vec<u8>>,
     /// The status and the texts that are left.
     pub wanted: &'static str,
@@ -46,9 +46,10 @@ fn texts_of(alloc: Global, line: &'static str) -> Result<Vec<Vec<u8>>, Fail> {
         return Ok(texts);
     }
     let (design, rest) = halves(line);
-    let (routes, cert) = halves(rest);
+    let (routes, rest) = halves(rest);
+    let (cert, edits) = halves(rest);
     texts.push(design_text(alloc, design)?)?;
-    for text in [routes, cert] {
+    for text in [routes, cert, edits] {
         let text = text_of(alloc, text)?;
         texts.push(Vec::from_slice(alloc, text.as_bytes())?)?;
     }

@@ -31,6 +31,21 @@ fn shown(alloc: Global, words: &[String]) -> Result<String, AllocError> {
         }
         Ok(Command::Make(request)) => make_shown(alloc, &request),
         Ok(Command::Trial(request)) => trial_shown(alloc, &request),
+        Ok(Command::Eco(request)) => {
+            let input = request.input;
+            let routes = request.routes;
+            let edits = request.edits;
+            let edited = request.edited;
+            format!(in alloc; "eco {input} {routes} {edits} {edited}")
+        }
+        Ok(Command::Climb(request)) => {
+            let input = request.input;
+            let routes = request.routes;
+            let certificate = request.certificate;
+            let climbed = request.climbed;
+            let turns = request.turns;
+            format!(in alloc; "climb {input} {routes} {certificate} {climbed} {turns}")
+        }
         Ok(Command::Guide(request)) => {
             let input = request.input;
             let routes = request.routes;
@@ -108,6 +123,12 @@ trial 00000000000000000042 --layers 2|trial 42 16 16 2 200
 trial 1 --cols 2 --rows 2 --layers 2 --nets 0|trial 1 2 2 2 0
 trial 1 --cols 1024 --rows 1024 --layers 8 --nets 1048576|trial 1 1024 1024 8 1048576
 trial 12 --nets 7 --layers 3 --rows 5 --cols 6|trial 12 6 5 3 7
+eco a b c d|eco a b c d
+eco eco climb 2 guide|eco eco climb 2 guide
+climb a b c d|climb a b c d 4
+climb a b c d --turns 1|climb a b c d 1
+climb a b c d --turns 16|climb a b c d 16
+climb climb eco 2 turns --turns 007|climb climb eco 2 turns 7
 guide a b c|guide a b c
 guide guide 2 route|guide guide 2 route
 # one empty word
@@ -120,7 +141,7 @@ routes a b c|refused
 --help|refused
 --version|refused
 help|refused
-eco a b c|refused
+ec a b c d|refused
 route --help|refused
 route a b|refused
 route a b c d|refused
@@ -223,6 +244,21 @@ trial 1 --rows 1025|refused
 trial 1 --layers 1|refused
 trial 1 --layers 9|refused
 trial 1 --nets 1048577|refused
+eco|refused
+eco a b c|refused
+eco a b c a|refused
+eco a b c d e|refused
+eco a b c d --turns 1|refused
+climb|refused
+climb a b c|refused
+climb a b c c|refused
+climb a b c d e|refused
+climb a b c d --turns|refused
+climb a b c d --turns 0|refused
+climb a b c d --turns 17|refused
+climb a b c d --turns 2 --turns 2|refused
+climb a b c d --phases 2|refused
+climb --turns 2 a b c d|refused
 guide|refused
 guide a b|refused
 guide a b a|refused

@@ -1,6 +1,9 @@
 use Rattle.std.proofs.Common.{refl, sym, subst, lit<, string_bytes, map}
-use Rattle.command_words.specs.CommandLine.{AsksForRoute, AsksForMeasure, AsksForJudge, AsksForMake, AsksForTrial, AsksForGuide, HasRouteRanges, HasTrialRanges}
-use Rattle.command_words.specs.CommandLine.{route_form, measure_form, judge_form, make_form, trial_form, guide_form}
+use Rattle.command_words.specs.CommandLine.{AsksForRoute, AsksForMeasure, AsksForJudge, AsksForMake, AsksForTrial, AsksForEco, AsksForClimb, AsksForGuide, HasRouteRanges, HasTrialRanges, HasClimbRanges}
+use Rattle.command_words.specs.CommandLine.{route_form, measure_form, judge_form, make_form, trial_form, eco_form, climb_form, guide_form}
+use Rattle.climb_cli.specs.ClimbRun.{IsClimbRun, ClimbTask, climb_task_of_words}
+use Rattle.eco_cli.specs.EcoInputs.{EcoTask}
+use Rattle.eco_cli.specs.EcoRun.{IsEcoRun, eco_task_of_words}
 use Rattle.guide_cli.specs.GuideRun.{IsGuideRun, GuideTask, guide_task_of_words}
 use Rattle.judge_cli.specs.JudgeRun.{IsJudgeRun, JudgeTask, judge_task_of_words}
 use Rattle.router_cli.specs.MakeRun.{IsMakeRun, MakeTask, make_task_of_words}
@@ -8,7 +11,7 @@ use Rattle.judge_cli.specs.MeasureRun.{IsMeasureRun, MeasureTask, measure_task_o
 use Rattle.router_cli.specs.RouteRun.{IsRouteRun}
 use Rattle.router_cli.specs.Tasks.{RouteTask, task_of_words}
 use Rattle.router_cli.specs.TrialRun.{IsTrialRun, TrialTask, trial_task_of_words}
-use Rattle.router_cli.proofs.CommandRuns.{measure_task-asked, judge_task-asked, guide_task-asked, run-of_command, run-without_memory, run-without_command}
+use Rattle.router_cli.proofs.CommandRuns.{measure_task-asked, judge_task-asked, climb_task-asked, eco_task-asked, guide_task-asked, run-of_command, run-without_memory, run-without_command}
 use Rattle.router_cli.proofs.Tasks.{make_task-asked, settings-in_range, task_of-asked, trial_task-asked}
 use Rattle.router_cli.proofs.top.run.Goals as goal
 
@@ -26,7 +29,7 @@ returns-in-Ok-Route g c =
     let run : IsRouteRun (task_of_words words) (told c.args.desk.now) (told c.route.new.desk) c.route.result =
     subst (λ (q : RouteTask). IsRouteRun q (told c.args.desk.now) (told c.route.new.desk) c.route.result) (sym (task_of-asked words r asks)) c.route.ensures in
     run-of_command c.args.words.now.items (told c.args.desk.now) (told c.route.new.desk) c.route.result route_form (0, lit< tt, refl) asks.is_route
-    (λ _. run) (λ h. cc) (λ h. cc) (λ h. cc) (λ h. cc) (λ h. cc)
+    (λ _. run) (λ h. cc) (λ h. cc) (λ h. cc) (λ h. cc) (λ h. cc) (λ h. cc) (λ h. cc)
 
 pub returns-in-Ok-Measure : goal.returns-in-Ok-Measure
 returns-in-Ok-Measure g c =
@@ -37,7 +40,7 @@ returns-in-Ok-Measure g c =
     let run : IsMeasureRun (measure_task_of_words words) (told c.args.desk.now) (told c.measure.new.desk) c.measure.result =
     subst (λ (q : MeasureTask). IsMeasureRun q (told c.args.desk.now) (told c.measure.new.desk) c.measure.result) (sym (measure_task-asked words r asks)) c.measure.ensures in
     run-of_command c.args.words.now.items (told c.args.desk.now) (told c.measure.new.desk) c.measure.result measure_form (1, lit< tt, refl) asks.is_measure
-    (λ h. cc) (λ _. run) (λ h. cc) (λ h. cc) (λ h. cc) (λ h. cc)
+    (λ h. cc) (λ _. run) (λ h. cc) (λ h. cc) (λ h. cc) (λ h. cc) (λ h. cc) (λ h. cc)
 
 pub returns-in-Ok-Judge : goal.returns-in-Ok-Judge
 returns-in-Ok-Judge g c =
@@ -48,7 +51,7 @@ returns-in-Ok-Judge g c =
     let run : IsJudgeRun (judge_task_of_words words) (told c.args.desk.now) (told c.judge.new.desk) c.judge.result =
     subst (λ (q : JudgeTask). IsJudgeRun q (told c.args.desk.now) (told c.judge.new.desk) c.judge.result) (sym (judge_task-asked words r asks)) c.judge.ensures in
     run-of_command c.args.words.now.items (told c.args.desk.now) (told c.judge.new.desk) c.judge.result judge_form (2, lit< tt, refl) asks.is_judge
-    (λ h. cc) (λ h. cc) (λ _. run) (λ h. cc) (λ h. cc) (λ h. cc)
+    (λ h. cc) (λ h. cc) (λ _. run) (λ h. cc) (λ h. cc) (λ h. cc) (λ h. cc) (λ h. cc)
 
 pub returns-in-Ok-Make : goal.returns-in-Ok-Make
 returns-in-Ok-Make g c =
@@ -59,7 +62,7 @@ returns-in-Ok-Make g c =
     let run : IsMakeRun (make_task_of_words words) (told c.args.desk.now) (told c.make.new.desk) c.make.result =
     subst (λ (q : MakeTask). IsMakeRun q (told c.args.desk.now) (told c.make.new.desk) c.make.result) (sym (make_task-asked words r asks)) c.make.ensures in
     run-of_command c.args.words.now.items (told c.args.desk.now) (told c.make.new.desk) c.make.result make_form (3, lit< tt, refl) asks.is_make
-    (λ h. cc) (λ h. cc) (λ h. cc) (λ _. run) (λ h. cc) (λ h. cc)
+    (λ h. cc) (λ h. cc) (λ h. cc) (λ _. run) (λ h. cc) (λ h. cc) (λ h. cc) (λ h. cc)
 
 pub trial-requires-clause-ranges : goal.trial-requires-clause-ranges
 trial-requires-clause-ranges g c =
@@ -75,7 +78,34 @@ returns-in-Ok-Trial g c =
     let run : IsTrialRun (trial_task_of_words words) (told c.args.desk.now) (told c.trial.new.desk) c.trial.result =
     subst (λ (q : TrialTask). IsTrialRun q (told c.args.desk.now) (told c.trial.new.desk) c.trial.result) (sym (trial_task-asked words r asks)) c.trial.ensures in
     run-of_command c.args.words.now.items (told c.args.desk.now) (told c.trial.new.desk) c.trial.result trial_form (4, lit< tt, refl) asks.is_trial
-    (λ h. cc) (λ h. cc) (λ h. cc) (λ h. cc) (λ _. run) (λ h. cc)
+    (λ h. cc) (λ h. cc) (λ h. cc) (λ h. cc) (λ _. run) (λ h. cc) (λ h. cc) (λ h. cc)
+
+pub returns-in-Ok-Eco : goal.returns-in-Ok-Eco
+returns-in-Ok-Eco g c =
+    let words = map string_bytes c.args.words.now.items in
+    let told = g.D.Desk.told in
+    let r = c.in-Ok-Eco.request in
+    let asks : AsksForEco words r = rw (c.as_slice.ensures.value, c.in-Ok-Eco.field-0-is) at c.in-Ok-Eco.ensures.asked in
+    let run : IsEcoRun (eco_task_of_words words) (told c.args.desk.now) (told c.eco.new.desk) c.eco.result =
+    subst (λ (q : EcoTask). IsEcoRun q (told c.args.desk.now) (told c.eco.new.desk) c.eco.result) (sym (eco_task-asked words r asks)) c.eco.ensures in
+    run-of_command c.args.words.now.items (told c.args.desk.now) (told c.eco.new.desk) c.eco.result eco_form (5, lit< tt, refl) asks.is_eco
+    (λ h. cc) (λ h. cc) (λ h. cc) (λ h. cc) (λ h. cc) (λ _. run) (λ h. cc) (λ h. cc)
+
+pub climb-requires-clause-ranges : goal.climb-requires-clause-ranges
+climb-requires-clause-ranges g c =
+    let ranges : HasClimbRanges c.in-Ok-Climb.request = rw c.in-Ok-Climb.field-0-is at c.in-Ok-Climb.ensures.ranges in
+    λ _ _. ranges
+
+pub returns-in-Ok-Climb : goal.returns-in-Ok-Climb
+returns-in-Ok-Climb g c =
+    let words = map string_bytes c.args.words.now.items in
+    let told = g.D.Desk.told in
+    let r = c.in-Ok-Climb.request in
+    let asks : AsksForClimb words r = rw (c.as_slice.ensures.value, c.in-Ok-Climb.field-0-is) at c.in-Ok-Climb.ensures.asked in
+    let run : IsClimbRun (climb_task_of_words words) (told c.args.desk.now) (told c.climb.new.desk) c.climb.result =
+    subst (λ (q : ClimbTask). IsClimbRun q (told c.args.desk.now) (told c.climb.new.desk) c.climb.result) (sym (climb_task-asked words r asks)) c.climb.ensures in
+    run-of_command c.args.words.now.items (told c.args.desk.now) (told c.climb.new.desk) c.climb.result climb_form (6, lit< tt, refl) asks.is_climb
+    (λ h. cc) (λ h. cc) (λ h. cc) (λ h. cc) (λ h. cc) (λ h. cc) (λ _. run) (λ h. cc)
 
 pub returns-in-Ok-Guide : goal.returns-in-Ok-Guide
 returns-in-Ok-Guide g c =
@@ -85,8 +115,8 @@ returns-in-Ok-Guide g c =
     let asks : AsksForGuide words r = rw (c.as_slice.ensures.value, c.in-Ok-Guide.field-0-is) at c.in-Ok-Guide.ensures.asked in
     let run : IsGuideRun (guide_task_of_words words) (told c.args.desk.now) (told c.guide.new.desk) c.guide.result =
     subst (λ (q : GuideTask). IsGuideRun q (told c.args.desk.now) (told c.guide.new.desk) c.guide.result) (sym (guide_task-asked words r asks)) c.guide.ensures in
-    run-of_command c.args.words.now.items (told c.args.desk.now) (told c.guide.new.desk) c.guide.result guide_form (5, lit< tt, refl) asks.is_guide
-    (λ h. cc) (λ h. cc) (λ h. cc) (λ h. cc) (λ h. cc) (λ _. run)
+    run-of_command c.args.words.now.items (told c.args.desk.now) (told c.guide.new.desk) c.guide.result guide_form (7, lit< tt, refl) asks.is_guide
+    (λ h. cc) (λ h. cc) (λ h. cc) (λ h. cc) (λ h. cc) (λ h. cc) (λ h. cc) (λ _. run)
 
 pub returns-in-Err-Refused : goal.returns-in-Err-Refused
 returns-in-Err-Refused g c =

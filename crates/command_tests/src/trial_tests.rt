@@ -33,47 +33,47 @@ trial|Report Write
 trial
 -
 2
-refused 2;usage: grouter route|measure|judge|make|trial|guide;
+refused 2;usage: grouter route|measure|judge|make|trial|eco|climb|guide;
 
 trial seven
 -
 2
-refused 2;usage: grouter route|measure|judge|make|trial|guide;
+refused 2;usage: grouter route|measure|judge|make|trial|eco|climb|guide;
 
 trial 18446744073709551616
 -
 2
-refused 2;usage: grouter route|measure|judge|make|trial|guide;
+refused 2;usage: grouter route|measure|judge|make|trial|eco|climb|guide;
 
 trial 7 8
 -
 2
-refused 2;usage: grouter route|measure|judge|make|trial|guide;
+refused 2;usage: grouter route|measure|judge|make|trial|eco|climb|guide;
 
 trial 7 --cols 1
 -
 2
-refused 2;usage: grouter route|measure|judge|make|trial|guide;
+refused 2;usage: grouter route|measure|judge|make|trial|eco|climb|guide;
 
 trial 7 --rows 1025
 -
 2
-refused 2;usage: grouter route|measure|judge|make|trial|guide;
+refused 2;usage: grouter route|measure|judge|make|trial|eco|climb|guide;
 
 trial 7 --layers 1
 -
 2
-refused 2;usage: grouter route|measure|judge|make|trial|guide;
+refused 2;usage: grouter route|measure|judge|make|trial|eco|climb|guide;
 
 trial 7 --nets 1048577
 -
 2
-refused 2;usage: grouter route|measure|judge|make|trial|guide;
+refused 2;usage: grouter route|measure|judge|make|trial|eco|climb|guide;
 
 trial 7 --seed 8
 -
 2
-refused 2;usage: grouter route|measure|judge|make|trial|guide;";
+refused 2;usage: grouter route|measure|judge|make|trial|eco|climb|guide;";
 
 #[test]
 fn a_made_design_is_tried_in_memory(rt: HostRuntime) -> Result<(), Fail> {

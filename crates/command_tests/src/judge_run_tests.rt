@@ -134,17 +134,17 @@ no 52 3/1 2/1;
 measure a.gr
 ROW|a 0;(5,5,1)-(25,5,1);!;
 2
-refused 2;usage: grouter route|measure|judge|make|trial|guide;
+refused 2;usage: grouter route|measure|judge|make|trial|eco|climb|guide;
 
 measure a.gr a.routes a.cert
 ROW|a 0;(5,5,1)-(25,5,1);!;|grouter certificate 1;nets 1;forced 0;overflow 0;wirelength 2;peak 1/2;bound 1/2;prices 2;12758;12758;
 2
-refused 2;usage: grouter route|measure|judge|make|trial|guide;
+refused 2;usage: grouter route|measure|judge|make|trial|eco|climb|guide;
 
 judge a.gr a.routes a.cert --seed 1
 ROW|a 0;(5,5,1)-(25,5,1);!;|grouter certificate 1;nets 1;forced 0;overflow 0;wirelength 2;peak 1/2;bound 1/2;prices 2;12758;12758;
 2
-refused 2;usage: grouter route|measure|judge|make|trial|guide;
+refused 2;usage: grouter route|measure|judge|make|trial|eco|climb|guide;
 
 judge a.gr a.routes a.cert
 ROW 0 144|a 0!

@@ -361,52 +361,52 @@ fn a_text_is_refused(rt: HostRuntime) -> Result<(), Fail> {
 const ENDED: &str = "-
 ROW
 2
-refused 2;usage: grouter route|measure|judge|make|trial|guide;
+refused 2;usage: grouter route|measure|judge|make|trial|eco|climb|guide;
 
 route
 ROW
 2
-refused 2;usage: grouter route|measure|judge|make|trial|guide;
+refused 2;usage: grouter route|measure|judge|make|trial|eco|climb|guide;
 
 route a.gr a.gr a.cert
 ROW
 2
-refused 2;usage: grouter route|measure|judge|make|trial|guide;
+refused 2;usage: grouter route|measure|judge|make|trial|eco|climb|guide;
 
 route a.gr  a.cert
 ROW
 2
-refused 2;usage: grouter route|measure|judge|make|trial|guide;
+refused 2;usage: grouter route|measure|judge|make|trial|eco|climb|guide;
 
 route a.gr -r a.cert
 ROW
 2
-refused 2;usage: grouter route|measure|judge|make|trial|guide;
+refused 2;usage: grouter route|measure|judge|make|trial|eco|climb|guide;
 
 route a.gr a.routes a.cert --phases
 ROW
 2
-refused 2;usage: grouter route|measure|judge|make|trial|guide;
+refused 2;usage: grouter route|measure|judge|make|trial|eco|climb|guide;
 
 route a.gr a.routes a.cert --phases=2
 ROW
 2
-refused 2;usage: grouter route|measure|judge|make|trial|guide;
+refused 2;usage: grouter route|measure|judge|make|trial|eco|climb|guide;
 
 route a.gr a.routes a.cert --phases 17
 ROW
 2
-refused 2;usage: grouter route|measure|judge|make|trial|guide;
+refused 2;usage: grouter route|measure|judge|make|trial|eco|climb|guide;
 
 route a.gr a.routes a.cert --budget 0
 ROW
 2
-refused 2;usage: grouter route|measure|judge|make|trial|guide;
+refused 2;usage: grouter route|measure|judge|make|trial|eco|climb|guide;
 
 judge a.gr a.routes
 ROW
 2
-refused 2;usage: grouter route|measure|judge|make|trial|guide;
+refused 2;usage: grouter route|measure|judge|make|trial|eco|climb|guide;
 
 route b.gr a.routes a.cert
 ROW

@@ -30,6 +30,22 @@ const GUIDED: &[(Port, &str)] = &[
     (Port::GuideOut, "a.guide"),
 ];
 
+/// Where `eco` has them.
+const EDITED: &[(Port, &str)] = &[
+    (Port::In, "a.gr"),
+    (Port::RoutesIn, "a.routes"),
+    (Port::EditsIn, "a.edits"),
+    (Port::RoutesOut, "b.routes"),
+];
+
+/// Where `climb` has them.
+const CLIMBED: &[(Port, &str)] = &[
+    (Port::In, "a.gr"),
+    (Port::RoutesIn, "a.routes"),
+    (Port::CertIn, "a.cert"),
+    (Port::CertOut, "b.cert"),
+];
+
 /// Where `make` has its file.
 const MADE: &[(Port, &str)] = &[(Port::DesignOut, "made.gr")];
 
@@ -39,6 +55,8 @@ fn names_of(command: &str) -> &'static [(Port, &'static str)] {
         "route" => ROUTED,
         "make" => MADE,
         "trial" => &[],
+        "eco" => EDITED,
+        "climb" => CLIMBED,
         "guide" => GUIDED,
         _ => JUDGED,
     }

@@ -50,42 +50,42 @@ make|Report Write
 make
 -
 2
-refused 2;usage: grouter route|measure|judge|make|trial|guide;
+refused 2;usage: grouter route|measure|judge|make|trial|eco|climb|guide;
 
 make 
 -
 2
-refused 2;usage: grouter route|measure|judge|make|trial|guide;
+refused 2;usage: grouter route|measure|judge|make|trial|eco|climb|guide;
 
 make -o
 -
 2
-refused 2;usage: grouter route|measure|judge|make|trial|guide;
+refused 2;usage: grouter route|measure|judge|make|trial|eco|climb|guide;
 
 make made.gr b.gr
 -
 2
-refused 2;usage: grouter route|measure|judge|make|trial|guide;
+refused 2;usage: grouter route|measure|judge|make|trial|eco|climb|guide;
 
 make made.gr --rows 1
 -
 2
-refused 2;usage: grouter route|measure|judge|make|trial|guide;
+refused 2;usage: grouter route|measure|judge|make|trial|eco|climb|guide;
 
 make made.gr --layers 9
 -
 2
-refused 2;usage: grouter route|measure|judge|make|trial|guide;
+refused 2;usage: grouter route|measure|judge|make|trial|eco|climb|guide;
 
 make made.gr --nets 1048577
 -
 2
-refused 2;usage: grouter route|measure|judge|make|trial|guide;
+refused 2;usage: grouter route|measure|judge|make|trial|eco|climb|guide;
 
 make made.gr --workers 2
 -
 2
-refused 2;usage: grouter route|measure|judge|make|trial|guide;
+refused 2;usage: grouter route|measure|judge|make|trial|eco|climb|guide;
 
 make other.gr --nets 0
 -

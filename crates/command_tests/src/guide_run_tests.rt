@@ -125,7 +125,7 @@ refused 6;
 guide a.gr a.routes a.gr
 ROW|a 0;(5,5,1)-(25,5,1);!;
 2
-refused 2;usage: grouter route|measure|judge|make|trial|guide;";
+refused 2;usage: grouter route|measure|judge|make|trial|eco|climb|guide;";
 
 #[test]
 fn guides_are_refused_for_the_first_cause(rt: HostRuntime) -> Result<(), Fail> {
