@@ -79,4 +79,5 @@ def main():
             print(*adjustment, file=out)
 
 
-main()
+if __name__ == '__main__':
+    main()

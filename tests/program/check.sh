@@ -45,6 +45,9 @@ cd "$room/files" || exit 1
 passed=0
 failed=0
 
+usage_of_grouter='refused 2
+usage: grouter route|measure|judge|make|trial|eco|climb|guide'
+
 # judge NAME STATUS: compares the status that was got, and what was said, with what is wanted
 judge() {
     if [ "$got" -ne "$2" ]; then
@@ -256,6 +259,146 @@ expect 'a design that guides can not hold' 3 'refused 3 23' guide far.gr missing
 expect 'guides that can not be created' 7 'refused 7' guide detour.gr detour.routes folder
 rm far.gr
 
+# ---- edits of routed designs
+
+# unmade NAME FILE: no run made this file
+unmade() {
+    : >"$room/wanted"
+    : >"$room/said"
+    : >"$room/complained"
+    got=0
+    [ ! -e "$2" ] || got=1
+    judge "$1" 0
+}
+
+# refuses NAME STATUS LINES WORD..: eco says these lines of three names, and makes no file
+refuses() {
+    name=$1 status=$2 lines=$3
+    shift 3
+    expect "$name" "$status" "$lines" eco "$@" out.routes
+    unmade "$name: no routes" out.routes
+}
+
+# Three nets in a row of three tiles: each has one set that joins its pins.
+crowd='3
+a 0 2 1
+5 5 1
+25 5 1
+b 1 2 1
+5 5 1
+25 5 1
+c 2 2 1
+5 5 1
+25 5 1
+0'
+row 0 4 1 '0 0 10 10' "$crowd" >crowd.gr
+printf '%s\n' 'a 0' '(5,5,1)-(25,5,1)' '!' 'b 1' '(5,5,1)-(25,5,1)' '!' 'c 2' '(5,5,1)-(25,5,1)' '!' >crowd.routes
+printf '%s' 'edits 1 drop 1' >a.edits
+expect 'a net is dropped' 0 'nets 2
+forced 0
+kept 2
+routed 0
+overflow 0
+wirelength 4
+peak 1/1' eco crowd.gr crowd.routes a.edits out.routes
+printf '%s\n' 'a 0' '(5,5,1)-(25,5,1)' '!' 'c 2' '(5,5,1)-(25,5,1)' '!' >"$room/out.routes"
+made 'the routes of the others' out.routes "$room/out.routes"
+printf '%s' 'edits 2 drop 1 add d 1 2 1 5 5 1 25 5 1' >a.edits
+edited='nets 3
+forced 0
+kept 2
+routed 1
+overflow 4
+wirelength 6
+peak 3/2'
+expect 'an id that was dropped is added' 0 "$edited" eco crowd.gr crowd.routes a.edits out.routes
+printf '%s\n' 'd 1' '(5,5,1)-(25,5,1)' '!' >>"$room/out.routes"
+made 'the routes with that of the net that came' out.routes "$room/out.routes"
+printf '%s' 'edits 1 drop 9' >a.edits
+refuses 'an edit of a net that is not there' 9 'refused 9 62 0 9' crowd.gr crowd.routes a.edits
+printf '%s' 'edits 1 drop' >a.edits
+refuses 'edits that end too early' 4 'refused 4 61 12' crowd.gr crowd.routes a.edits
+
+# Edits that are refused, each alone and behind one that is made. The design has one layer, whose edges along y are walls.
+row 0 4 1 '0 0 10 10' "$crowd" | sed 's/^grid 3 1 1$/grid 3 2 1/' >rows.gr
+while IFS='|' read -r number field edit; do
+    printf 'edits 1 %s' "$edit" >a.edits
+    refuses "an edit that $number refuses" 9 "refused 9 $number 0$field" rows.gr crowd.routes a.edits
+    printf 'edits 3 drop 2 %s drop 2' "$edit" >a.edits
+    refuses "an edit that $number refuses, behind another" 9 "refused 9 $number 1$field" rows.gr crowd.routes a.edits
+done <<'EDITS'
+62| 9|change 9 0 1
+62| 8|change 8 1 1023 31 5 0
+63| 1|add d 1 1 1023 31 5 0
+64| 2|add d 3 3 1 5 5 2 30 20 1 5 21 1
+64| 0|change 1 2 1023 -1 5 1 5 5 0
+65| 1|add d 3 2 1023 5 5 1 5 15 0
+65| 0|change 1 1 1 5 5 2
+67||add d 3 1 1023 5 5 1
+67||change 1 2 1023 5 5 1 5 15 1
+68| 1|add d 3 2 1022 5 5 1 5 15 1
+68| 2|change 1 4 1 5 5 1 15 5 1 15 15 1 5 15 1
+EDITS
+printf '%s' 'edits 3 drop 1 add d 1 0 1 add e 1 0 1' >a.edits
+refuses 'an id that an edit before it added' 9 'refused 9 63 2 1' crowd.gr crowd.routes a.edits
+rm rows.gr
+
+# The steps of this example have one lightest set each; see examples/README.md.
+edited_example='nets 3
+forced 0
+kept 1
+routed 2
+overflow 0
+wirelength 19
+peak 1/2'
+expect 'the example detour, edited' 0 "$edited_example" eco detour.gr detour.routes "$examples/detour.edits" out.routes
+expect 'its routes, measured on the edited design' 0 "$(echo "$edited_example" | sed 's/^kept 1$/beyond 0/; /^routed/d')" measure detour_edited.gr out.routes
+made 'its routes' out.routes "$examples/detour_edited.routes"
+printf 'edits 0\r\n' >none.edits
+expect 'no edits' 0 'nets 3
+forced 0
+kept 3
+routed 0
+overflow 0
+wirelength 11
+peak 1/2' eco detour.gr detour.routes none.edits out.routes
+made 'the routes that were given' out.routes "$examples/detour.routes"
+printf '%s' 'clk 0 (35,5,2)-(39,19,2) (35,15,1)-(35,15,2) (0,10,1)-(15,15,1) (35,15,1)-(5,15,1) (5,15,2)-(5,15,1) (5,5,2)-(5,15,2)! data 1 9
+    (5,5,1)-(5,5,2) (5,5,2)-(5,25,2) (5,25,2)-(5,25,1) (5,25,2)-(5,15,2)!' >other.routes
+expect 'routes of another make, and a net without a block' 0 "$edited_example" eco detour.gr other.routes "$examples/detour.edits" out.routes
+made 'their edited routes' out.routes "$examples/detour_edited.routes"
+
+# the first of these that comes ends the run, and nothing behind it is read
+echo grid >bad.gr
+row 0 0 >cut.gr
+printf '%s' 'edits 1 dorp 1' >bad.edits
+refuses 'no design to be edited' 3 'refused 3 11 5 number' bad.gr missing.routes missing.edits
+refuses 'a net that is cut off, and no edits' 5 'refused 5 4 0 1' cut.gr missing.routes missing.edits
+refuses 'routes that are missing, and no edits' 6 'refused 6' detour.gr missing.routes bad.edits
+refuses 'no route text, and no edits' 4 'refused 4 31 9' detour.gr crowd.gr missing.edits
+refuses 'an objection, and edits that are none' 1 'no 47 0' detour.gr cut_off.routes bad.edits
+refuses 'an objection, and edits that are missing' 1 'no 47 0' detour.gr cut_off.routes missing.edits
+refuses 'a net without a block, before its edits' 1 'no 43 1' crowd.gr one_net.routes missing.edits
+refuses 'edits that are missing' 6 'refused 6' detour.gr detour.routes missing.edits
+refuses 'edits in a folder' 6 'refused 6' detour.gr detour.routes folder
+refuses 'a word that begins no edit' 4 'refused 4 61 8' detour.gr detour.routes bad.edits
+truncate -s 1073741825 long
+refuses 'edits that are too long' 4 'refused 4 35' detour.gr detour.routes long
+rm long bad.gr cut.gr bad.edits
+expect 'routes of edits in a folder that is missing' 7 'refused 7' eco detour.gr detour.routes none.edits missing/out.routes
+expect_unheard 'edited routes whose report can not be said' 7 eco detour.gr detour.routes none.edits out.routes
+made 'edited routes without a report' out.routes "$examples/detour.routes"
+expect_unheard 'an objection before edits that can not be said' 1 eco detour.gr cut_off.routes none.edits out.routes
+expect_unheard 'a refused edit that can not be said' 9 eco crowd.gr crowd.routes a.edits out.routes
+unmade 'no routes of what can not be said' out.routes
+for same in detour.gr detour.routes none.edits; do
+    expect "edited routes in the place of $same" 2 "$usage_of_grouter" eco detour.gr detour.routes none.edits "$same"
+done
+expect 'no name for the edited routes' 2 "$usage_of_grouter" eco detour.gr detour.routes none.edits
+expect 'an option of no command' 2 "$usage_of_grouter" eco detour.gr detour.routes none.edits out.routes --rounds 1
+unmade 'no routes where the words are no command' out.routes
+rm crowd.gr crowd.routes other.routes a.edits none.edits
+
 # judged NAME STATUS LINES: a.routes and a.cert are judged by the example one_net
 judged() {
     expect "$1" "$2" "$3" judge one_net.gr a.routes a.cert
@@ -424,6 +567,145 @@ expect_unheard 'findings that can not be said' 7 few_exits.gr few_exits.routes f
 made 'a new certificate without a report' new.cert "$examples/few_exits_cut.cert"
 expect_unheard 'an objection to routes that can not be said' 1 detour.gr cut_off.routes detour.cert new.cert
 
+# ---- certificates that climb
+
+# climbs NAME DESIGN ROUTES CERT NEW LINES [OPTION VALUE]: the report has these lines, and NEW is made with the bytes of that file
+climbs() {
+    name=$1 climbed_in=$2 climbed_by=$3 climbed_from=$4 wanted_new=$5 lines=$6
+    shift 6
+    expect "$name" 0 "$lines" climb "$climbed_in" "$climbed_by" "$climbed_from" new.cert "$@"
+    made "$name: its certificate" new.cert "$wanted_new"
+}
+
+# Two ways round a square, of which the routes take one, whichever it is. The first turn takes the other one, and then all loads
+# are 2.
+program=$room/grouter
+row 2 2 1 '0 0 10 10' '1
+a 0 2 1
+5 5 1
+15 15 1
+0' | sed 's/^grid 3 1 1$/grid 2 2 1/' >square.gr
+expect 'two ways round a square' 0 'nets 1
+forced 0
+rounded 0
+rounds 0
+overflow 0
+wirelength 2
+peak 1/1
+bound 5234/11613' route square.gr a.routes a.cert --phases 1
+climbs 'one turn, which comes to the given prices' square.gr a.routes a.cert a.cert 'turn 0
+bound 5234/11613' --turns 1
+# square_cert BOUND PRICE PRICE PRICE PRICE
+square_cert() {
+    printf '%s\n' 'grouter certificate 1' 'nets 1' 'forced 0' 'overflow 0' 'wirelength 2' 'peak 1/1' "bound $1" 'prices 4' "$2" "$3" "$4" "$5"
+}
+square_cert 1/2 12758 12758 12758 12758 >"$room/square.cert"
+climbs 'two turns, which come to both ways' square.gr a.routes a.cert "$room/square.cert" 'turn 2
+bound 1/2' --turns 2
+climbs 'four turns, of which the second is the first with its bound' square.gr a.routes a.cert "$room/square.cert" 'turn 2
+bound 1/2'
+climbs 'from there nothing is greater' square.gr a.routes "$room/square.cert" "$room/square.cert" 'turn 0
+bound 1/2' --turns 00000000000000000016
+printf '%s' 'a 0 9 (15,15,1)-(15,5,1) (5,5,1)-(15,5,1)!' >a.routes
+square_cert 5234/11613 12758 10468 12758 10468 >"$room/way.cert"
+square_cert 0/1 0 0 0 0 >a.cert
+climbs 'prices that show nothing' square.gr a.routes a.cert "$room/way.cert" 'turn 1
+bound 5234/11613' --turns 1
+square_cert 1/3 12758 10468 12758 10468 >a.cert
+climbs 'a bound below what the prices show' square.gr a.routes a.cert "$room/way.cert" 'turn 0
+bound 5234/11613' --turns 1
+square_cert 2/4 1 1 1 1 >a.cert
+square_cert 1/2 1 1 1 1 >"$room/ones.cert"
+climbs 'the given prices, where later ones show as much' square.gr a.routes a.cert "$room/ones.cert" 'turn 0
+bound 1/2'
+rm square.gr a.routes a.cert
+
+# Each net of few_exits has one route of least weight in each of the turns, so all of them were worked out.
+climbs 'too few turns for a greater bound' few_exits.gr few_exits.routes few_exits.cert few_exits.cert 'turn 0
+bound 178793/550306'
+climbs 'sixteen turns' few_exits.gr few_exits.routes few_exits.cert "$examples/few_exits_climbed.cert" 'turn 14
+bound 108395/137376' --turns 16
+climbs 'a bound that no mixture is below' few_exits.gr few_exits.routes few_exits_cut.cert few_exits_cut.cert 'turn 0
+bound 4/3'
+expect 'the certificate of sixteen turns is accepted' 0 'yes
+nets 8
+forced 0
+beyond 0
+overflow 4
+wirelength 59
+peak 3/2
+bound 108395/137376' judge few_exits.gr few_exits.routes few_exits_climbed.cert
+
+# A budget of one piece for a route of two. After i turns the edges have half of their capacity for each, and the wirelength twice
+# its budget; so the edges get cheaper by 12 places of the table in each turn.
+# row_cert BOUND PRICE-OF-A-PIECE PRICE
+row_cert() {
+    printf '%s\n' 'grouter certificate 2' 'nets 1' 'forced 0' 'overflow 0' 'wirelength 2' 'peak 2/1' "bound $1" "budget 1 $2" 'prices 2' "$3" "$3"
+}
+row_cert 0/1 7 0 >a.cert
+row_cert 2/1 7 0 >"$room/row.cert"
+climbs 'a price of the wirelength alone' one_net.gr one_net.routes a.cert "$room/row.cert" 'turn 0
+bound 2/1' --turns 16
+row_cert 0/1 0 0 >a.cert
+row_cert 31720/44303 12758 9481 >"$room/row.cert"
+climbs 'one turn with a budget' one_net.gr one_net.routes a.cert "$room/row.cert" 'turn 1
+bound 31720/44303' --turns 1
+row_cert 4314/2249 12758 92 >"$room/row.cert"
+climbs 'sixteen turns with a budget' one_net.gr one_net.routes a.cert "$room/row.cert" 'turn 16
+bound 4314/2249' --turns 16
+rm a.cert
+
+# 12,000 nets of one set each, from as many threads as there are
+printf '%s\n' 'grouter certificate 1' 'nets 12000' 'forced 0' 'overflow 47992' 'wirelength 24000' 'peak 6000/1' 'bound 6000/1' \
+    'prices 2' 1 1 >many.cert
+climbs 'a climb of twelve thousand nets' many.gr "$room/many.routes" many.cert many.cert 'turn 0
+bound 6000/1'
+rm many.cert
+
+row 4 4 1 '0 0 10 10' '1
+a 0 2 1
+5 5 1
+5 5 2
+0' | awk '/^grid/ { $0 = "grid 1 1 2" } /capacity|width|spacing/ { $0 = $0 " " $NF } { print }' >stack.gr
+printf '%s\n' 'a 0' '(5,5,1)-(5,5,2)' '!' >a.routes
+printf '%s\n' 'grouter certificate 1' 'nets 1' 'forced 0' 'overflow 0' 'wirelength 1' 'peak none' 'bound none' 'prices 0' >a.cert
+climbs 'a design without an edge' stack.gr a.routes a.cert a.cert 'turn 0
+bound none'
+rm stack.gr a.routes a.cert
+
+# climbs_not NAME STATUS LINES NAME NAME NAME: climb says these lines, and makes no file
+climbs_not() {
+    name=$1 status=$2 lines=$3
+    shift 3
+    expect "$name" "$status" "$lines" climb "$@" new.cert
+    unmade "$name: no certificate" new.cert
+}
+climbs_not 'an objection to routes that are to climb' 1 'no 47 0' detour.gr cut_off.routes detour.cert
+climbs_not 'a bound that is not shown, and no climb' 1 'no 52 1/2 41633/378056' detour.gr detour.routes overstated.cert
+climbs_not 'no design that could climb' 3 'refused 3 11 0 grid' few_exits.routes few_exits.gr few_exits.cert
+climbs_not 'no routes that could climb' 4 'refused 4 31 8' few_exits.gr few_exits.cert missing.cert
+climbs_not 'no certificate that could climb' 4 'refused 4 32 0' few_exits.gr few_exits.routes detour.routes
+row 0 0 >cut.gr
+climbs_not 'a net that is cut off, and no climb' 5 'refused 5 4 0 1' cut.gr missing.routes missing.cert
+rm cut.gr
+climbs_not 'a certificate that is missing, and no climb' 6 'refused 6' few_exits.gr few_exits.routes missing.cert
+truncate -s 1073741825 long
+climbs_not 'a certificate that is too long to climb' 4 'refused 4 35' few_exits.gr few_exits.routes long
+rm long
+expect 'a climb into a folder that is missing' 7 'refused 7' climb few_exits.gr few_exits.routes few_exits.cert missing/new.cert
+expect_unheard 'a climb that can not be said' 7 climb few_exits.gr few_exits.routes few_exits.cert new.cert
+made 'its certificate without a report' new.cert few_exits.cert
+expect_unheard 'an objection before a climb that can not be said' 1 climb detour.gr cut_off.routes detour.cert new.cert
+for same in few_exits.gr few_exits.routes few_exits.cert; do
+    expect "a climb in the place of $same" 2 "$usage_of_grouter" climb few_exits.gr few_exits.routes few_exits.cert "$same"
+done
+expect 'no name for what a climb finds' 2 "$usage_of_grouter" climb few_exits.gr few_exits.routes few_exits.cert
+for words in '--turns 0' '--turns 17' '--turns' '--turns=2' '--turns +2' '--turns 000000000000000000002' '--turns 2 --turns 2' '--phases 2'; do
+    # shellcheck disable=SC2086
+    expect "a climb with the words $words" 2 "$usage_of_grouter" climb few_exits.gr few_exits.routes few_exits.cert new.cert $words
+done
+unmade 'no certificate of what is no climb' new.cert
+
 # ---- new routes
 
 # Each net of these designs has one shortest route on open edges, and they leave no overflow.
@@ -582,8 +864,7 @@ judge 'a trial ends with a yes' 0
 
 # ---- words that are no command
 
-usage='refused 2
-usage: grouter route|measure|judge|make|trial|guide'
+usage=$usage_of_grouter
 expect 'no words' 2 "$usage"
 expect 'a command without its names' 2 "$usage" route
 expect 'a name too few' 2 "$usage" route one_net.gr a.routes
@@ -697,6 +978,21 @@ printf '%s\n' 'refused 8' >"$room/wanted"
 (ulimit -v 40000 && exec "$program" route vast.gr a.routes a.cert) </dev/null >"$room/said" 2>"$room/complained"
 got=$?
 judge 'want of memory' 8
+cp "$examples/one_net.routes" a.routes
+echo 'edits 0' >a.edits
+# shellcheck disable=SC3045
+(ulimit -v 40000 && exec "$program" eco vast.gr a.routes a.edits out.routes) </dev/null >"$room/said" 2>"$room/complained"
+got=$?
+judge 'want of memory for an edited design' 8
+unmade 'no routes where memory is wanting' out.routes
+cp "$examples/one_net.cert" a.cert
+printf '%s\n' 'refused 8' >"$room/wanted"
+# shellcheck disable=SC3045
+(ulimit -v 40000 && exec "$program" climb vast.gr a.routes a.cert new.cert) </dev/null >"$room/said" 2>"$room/complained"
+got=$?
+judge 'want of memory for a climb' 8
+unmade 'no certificate where memory is wanting' new.cert
+rm a.routes a.edits a.cert
 
 # two million blocks in 12,000,000 bytes, within six times that
 yes 'a 0 !' | head -c 12000000 >"$room/blocks.routes"
@@ -745,7 +1041,7 @@ program=$room/grouter
 # ---- what all runs left
 
 ls -R . >"$room/said"
-printf '%s\n' .: along.gr detour.gr few_exits.gr folder many.gr misspelled.gr 'no nets.gr' one_net.gr three_layers.gr vast.gr '' ./folder: crlf.gr >"$room/wanted"
+printf '%s\n' .: along.gr detour.gr detour_edited.gr few_exits.gr folder many.gr misspelled.gr 'no nets.gr' one_net.gr three_layers.gr vast.gr '' ./folder: crlf.gr >"$room/wanted"
 : >"$room/complained"
 got=0
 judge 'no other file was made' 0
