@@ -1,7 +1,7 @@
 -- What a keeper of prices does where one load changes.
-use Rattle.std.proofs.Common.{ℕ, Bool, true, false, ◌↔◌, ◌≡◌, ◌≢◌, ◌≤◌, ◌<◌, ◌⊎◌, List, length, get_or, set, refl, sym, ap, inl, inr, ◌∙◌, arith, get_or-set_other, length-set}
+use Rattle.std.proofs.Common.{ℕ, ◌≡◌, ◌≢◌, ◌≤◌, ◌<◌, List, length, get_or, set, refl, sym, ap, inl, inr, ◌∙◌, arith, get_or-set_other, length-set}
 use Rattle.std.specs.Prelude.{Option}
-use Rattle.std.proofs.lemmas.Bool.{cases_eq, cases_lt, iff_false}
+use Rattle.std.proofs.lemmas.Bool.{cases_eq}
 use Rattle.std.proofs.lemmas.Grind.{get_or-set_at}
 use Rattle.std.proofs.lemmas.List.{get_or_read}
 use Rattle.std.proofs.lemmas.List.FromFn.{fill_by_all}
@@ -10,14 +10,16 @@ use Rattle.grid_base.specs.Numbers.{edge_axis}
 use Rattle.grid_graph.specs.declared.grid.Grid.{Grid}
 use Rattle.grid_graph.specs.Grids.{capacity, edge_numbers, entries}
 use Rattle.edge_prices.specs.declared.least_prices.LeastPrices.{LeastPrices}
+use Rattle.edge_prices.specs.declared.top_index.TopIndex.{TopIndex}
 use Rattle.edge_prices.specs.Floors.{least_along, AreLeast}
 use Rattle.edge_prices.specs.Kept.{IsCurrent}
 use Rattle.grid_graph.specs.Limits.{max_load}
 use Rattle.edge_prices.specs.TilePrices.{AreTilePrices}
 use Rattle.edge_prices.specs.Prices.{index_or_zero, price_or_zero}
+use Rattle.edge_prices.specs.TopIndices.{IsTopIndex, IsAfterChange}
 use Rattle.edge_prices.specs.Vectors.{capacity_of, index_of, top_of, price_of, price_vector, IsLoadList}
 use Rattle.edge_prices.proofs.Entries.{set_within}
-use Rattle.edge_prices.proofs.Greatest.{le-greatest, greatest-kept}
+use Rattle.edge_prices.proofs.TopIndices.{IsTopIndex-change}
 use Rattle.edge_prices.proofs.PriceVectors.{capacity_of-edge, entry-price_vector, length-price_vector, price_or_zero-positive}
 
 pub IsLoadList-set : (g : Grid) (loads : List ℕ) (r load : ℕ) → IsLoadList g loads → load ≤ max_load → IsLoadList g (set loads r load)
@@ -33,28 +35,40 @@ index_of-here g loads scale budget r load inside = ap (λ x. index_or_zero (capa
 -- a load under which the greatest index stays
 pub record KeepsGreatest (g : Grid) (loads : List ℕ) (scale : ℕ) (budget : Option ℕ) (r load : ℕ) : Type 0 where
   pub inside : r < entries g
-  pub low : index_or_zero (capacity_of g budget r) load scale ≤ top_of g loads scale budget
-  pub other : (index_of g loads scale budget r < top_of g loads scale budget) ⊎ (index_or_zero (capacity_of g budget r) load scale ≡ index_of g loads scale budget r)
+  pub stays : top_of g (set loads r load) scale budget ≡ top_of g loads scale budget
 
-top_of-kept : (g : Grid) (loads : List ℕ) (scale : ℕ) (budget : Option ℕ) (r load : ℕ) → IsLoadList g loads → KeepsGreatest g loads scale budget r load →
-    top_of g (set loads r load) scale budget ≡ top_of g loads scale budget
-top_of-kept g loads scale budget r load loaded keeps =
-    let here = index_of-here g loads scale budget r load (omega (arith, loaded.long, keeps.inside)) in
-    greatest-kept (index_of g loads scale budget) (index_of g (set loads r load) scale budget) (entries g) r
-    (λ k apart. index_of-others g loads scale budget r load k apart) (rw here keeps.low)
-    (elim keeps.other [ inl lower ↦ inl lower | inr same ↦ inr (here ∙ same) ])
+-- the greatest index and how many have it, after the change
+pub top-set : (g : Grid) (loads : List ℕ) (scale : ℕ) (budget : Option ℕ) (r load read before after : ℕ) (top next : TopIndex) → IsLoadList g loads → r < entries g →
+    IsTopIndex (index_of g loads scale budget) (entries g) top → read ≡ get_or loads r read → before ≡ index_or_zero (capacity_of g budget r) read scale →
+    after ≡ index_or_zero (capacity_of g budget r) load scale → IsAfterChange top before after next →
+    IsTopIndex (index_of g (set loads r load) scale budget) (entries g) next
+top-set g loads scale budget r load read before after top next loaded inside is found was now changed =
+    let within : r < length loads = omega (arith, loaded.long) in
+    let had : before ≡ index_of g loads scale budget r =
+    was ∙ ap (λ x. index_or_zero (capacity_of g budget r) x scale) (get_or_read loads r read within found 0) in
+    IsTopIndex-change (index_of g loads scale budget) (index_of g (set loads r load) scale budget) (entries g) r before after top next is
+    (λ k apart. index_of-others g loads scale budget r load k apart) inside had (now ∙ sym (index_of-here g loads scale budget r load within)) changed
+
+-- so it stays
+pub KeepsGreatest-by : (g : Grid) (loads : List ℕ) (scale : ℕ) (budget : Option ℕ) (r load before after : ℕ) (top next : TopIndex) → r < entries g →
+    IsTopIndex (index_of g loads scale budget) (entries g) top → IsTopIndex (index_of g (set loads r load) scale budget) (entries g) next → IsAfterChange top before after next →
+    KeepsGreatest g loads scale budget r load
+KeepsGreatest-by g loads scale budget r load before after top next inside was is changed = record {
+  inside = inside;
+  stays = sym is.index ∙ changed.index ∙ was.index;
+}
 
 -- the price of each entry after the change
 price_of-after : (g : Grid) (loads : List ℕ) (scale : ℕ) (budget : Option ℕ) (r load : ℕ) → IsLoadList g loads → KeepsGreatest g loads scale budget r load → (k : ℕ) → k ≢ r →
     price_of g loads scale budget k ≡ price_of g (set loads r load) scale budget k
 price_of-after g loads scale budget r load loaded keeps k apart =
-    ap (λ t. price_or_zero (capacity_of g budget k) t (index_of g loads scale budget k)) (sym (top_of-kept g loads scale budget r load loaded keeps))
+    ap (λ t. price_or_zero (capacity_of g budget k) t (index_of g loads scale budget k)) (sym keeps.stays)
     ∙ ap (λ i. price_or_zero (capacity_of g budget k) (top_of g (set loads r load) scale budget) i) (sym (index_of-others g loads scale budget r load k apart))
 
 price_of-here : (g : Grid) (loads : List ℕ) (scale : ℕ) (budget : Option ℕ) (r load : ℕ) → IsLoadList g loads → KeepsGreatest g loads scale budget r load →
     price_or_zero (capacity_of g budget r) (top_of g loads scale budget) (index_or_zero (capacity_of g budget r) load scale) ≡ price_of g (set loads r load) scale budget r
 price_of-here g loads scale budget r load loaded keeps =
-    ap (λ t. price_or_zero (capacity_of g budget r) t (index_or_zero (capacity_of g budget r) load scale)) (sym (top_of-kept g loads scale budget r load loaded keeps))
+    ap (λ t. price_or_zero (capacity_of g budget r) t (index_or_zero (capacity_of g budget r) load scale)) (sym keeps.stays)
     ∙ ap (λ i. price_or_zero (capacity_of g budget r) (top_of g (set loads r load) scale budget) i)
     (sym (index_of-here g loads scale budget r load (omega (arith, loaded.long, keeps.inside))))
 
@@ -83,14 +97,14 @@ vector-set g loads scale budget prices top r load price loaded vector greatest k
     (vector-after g loads scale budget r load price loaded keeps is)
 
 -- the prices stay current where the greatest index stays and the entry gets its price
-pub IsCurrent-set : (g : Grid) (loads : List ℕ) (scale : ℕ) (budget : Option ℕ) (prices : List ℕ) (top : ℕ) (least lower : LeastPrices) (over after : List ℕ) (r load price : ℕ) →
-    IsLoadList g loads → IsCurrent g loads scale budget prices top least over → KeepsGreatest g loads scale budget r load →
-    price ≡ price_or_zero (capacity_of g budget r) top (index_or_zero (capacity_of g budget r) load scale) → AreLeast g (set prices r price) lower → AreTilePrices g (set prices r price) after →
-    IsCurrent g (set loads r load) scale budget (set prices r price) top lower after
-IsCurrent-set g loads scale budget prices top least lower over after r load price loaded current keeps priced lowest tiled =
+pub IsCurrent-set : (g : Grid) (loads : List ℕ) (scale : ℕ) (budget : Option ℕ) (prices : List ℕ) (top next : TopIndex) (least lower : LeastPrices) (over after : List ℕ) (r load price : ℕ) →
+    IsLoadList g loads → IsCurrent g loads scale budget prices top least over → IsTopIndex (index_of g (set loads r load) scale budget) (entries g) next → KeepsGreatest g loads scale budget r load →
+    price ≡ price_or_zero (capacity_of g budget r) next.index (index_or_zero (capacity_of g budget r) load scale) → AreLeast g (set prices r price) lower → AreTilePrices g (set prices r price) after →
+    IsCurrent g (set loads r load) scale budget (set prices r price) next lower after
+IsCurrent-set g loads scale budget prices top next least lower over after r load price loaded current greatest keeps priced lowest tiled =
     record {
-      greatest = current.greatest ∙ sym (top_of-kept g loads scale budget r load loaded keeps);
-      vector = vector-set g loads scale budget prices top r load price loaded current.vector current.greatest keeps priced;
+      greatest = greatest;
+      vector = vector-set g loads scale budget prices next.index r load price loaded current.vector (greatest.index ∙ keeps.stays) keeps priced;
       lowest = lowest;
       tiled = tiled;
     }
@@ -109,36 +123,3 @@ AreLeast-set g budget prices least lower r price top index inside low priced her
   ];
   within = λ axis. omega (arith, others axis, low.within axis);
 }
-
--- what the test of a change says where it answers no
-stays_below : (top before after : ℕ) (moves : Bool) → (moves ≡ true) ↔ ((top < after) ⊎ ((before ≡ top) × (after < before))) → moves ≡ false → before ≤ top →
-    (after ≤ top) × ((before < top) ⊎ (after ≡ before))
-stays_below top before after moves means never within = elim (cases_lt top after) [
-  | inl above ↦ absurd (iff_false means never (inl above))
-  | inr low ↦ (
-    low,
-    elim (cases_lt before top) [
-      | inl lower ↦ inl lower
-      | inr same ↦ elim (cases_lt after before) [
-        | inl fell ↦ absurd (iff_false means never (inr (omega arith, fell)))
-        | inr kept ↦ inr (omega arith)
-      ]
-    ],
-  )
-]
-
--- a load that moves no greatest index, by what was read and compared
-pub KeepsGreatest-by : (g : Grid) (loads : List ℕ) (scale : ℕ) (budget : Option ℕ) (r load top read before after : ℕ) (moves : Bool) → IsLoadList g loads → r < entries g →
-    top ≡ top_of g loads scale budget → read ≡ get_or loads r read → before ≡ index_or_zero (capacity_of g budget r) read scale →
-    after ≡ index_or_zero (capacity_of g budget r) load scale →
-    (moves ≡ true) ↔ ((top < after) ⊎ ((before ≡ top) × (after < before))) → moves ≡ false → KeepsGreatest g loads scale budget r load
-KeepsGreatest-by g loads scale budget r load top read before after moves loaded inside greatest found was is means never =
-    let had : before ≡ index_of g loads scale budget r =
-    was ∙ ap (λ x. index_or_zero (capacity_of g budget r) x scale) (get_or_read loads r read (omega (arith, loaded.long, inside)) found 0) in
-    let bound = le-greatest (index_of g loads scale budget) (entries g) r inside in
-    let stays = stays_below top before after moves means never (omega (arith, bound, had)) in
-    record {
-      inside = inside;
-      low = omega (arith, stays.0);
-      other = elim stays.1 [ inl lower ↦ inl (omega (arith, had)) | inr same ↦ inr (omega (arith, had)) ];
-    }

@@ -8,5 +8,6 @@ pub mod LeastOver
 pub mod PriceTable
 pub mod PriceVectors
 pub mod TilePrices
+pub mod TopIndices
 pub mod WeightFloors
 pub mod WeightLimits

@@ -15,6 +15,7 @@ pub mod PieceLists
 pub mod Prices
 pub mod Resting
 pub mod TilePrices
+pub mod TopIndices
 pub mod Vectors
 pub mod Weighings
 pub mod Weights

@@ -3,24 +3,25 @@
 ghost use Rattle.edge_prices.specs.Kept.{IsKept};
 ghost use Rattle.edge_prices.specs.Limits.{IsScale, IsBudget};
 
-use crate::change::moves_greatest;
 use crate::least_of::least_prices_of;
 use crate::least_prices::LeastPrices;
 use crate::net_prices::NetPrices;
 use crate::resources::Resources;
 use crate::tile_prices::{write_tile_price, write_tile_prices};
+use crate::top_index::TopIndex;
 use crate::weighing::Weighing;
 use grid_graph::{Grid, Ground};
 
 /// The loads of a grid's resources, and the price list that follows them.
 ///
-/// A change of one load changes one price, unless the greatest index changes: then all prices are stale until `renew`.
+/// A change of one load changes one price, unless the greatest index changes: it is exceeded, or the last entry that had it
+/// falls. Then all prices are stale until `renew`.
 #[derive(Drop)]
 pub struct KeptPrices<'a> {
     pub(crate) resources: Resources<'a>,
     pub(crate) loads: Vec<u64>,
     pub(crate) prices: Vec<u32>,
-    pub(crate) top: u128,
+    pub(crate) top: TopIndex,
     pub(crate) least: LeastPrices,
     pub(crate) tile_prices: Vec<u32>,
     pub(crate) stale: bool,
@@ -67,7 +68,7 @@ impl<'a> KeptPrices<'a> {
             },
             loads,
             prices,
-            top: 0,
+            top: TopIndex::NONE,
             least: LeastPrices::NONE,
             tile_prices,
             stale: true,
@@ -92,14 +93,19 @@ impl<'a> KeptPrices<'a> {
         ensures loads { loads_of self.new ≡ slice_set (loads_of self.old) entry load }
         ensures setting { KeepsSetting self.old self.new }
     {
-        let before = self.resources.index(entry, self.loads[entry as usize]);
-        let index = self.resources.index(entry, load);
+        let old = self.loads[entry as usize];
         self.loads[entry as usize] = load;
-        if self.stale || moves_greatest(self.top, before, index) {
-            self.stale = true;
+        if self.stale {
             return;
         }
-        let price = self.resources.price(entry, load, self.top);
+        let before = self.resources.index(entry, old);
+        let after = self.resources.index(entry, load);
+        let Some(top) = self.top.after_change(before, after) else {
+            self.stale = true;
+            return;
+        };
+        self.top = top;
+        let price = self.resources.price(entry, after, top.index);
         self.prices[entry as usize] = price;
         self.least = self.least.with_entry(self.resources.edges(), entry, price);
         write_tile_price(
@@ -120,7 +126,11 @@ impl<'a> KeptPrices<'a> {
             return;
         }
         self.top = self.resources.top(self.loads.as_slice());
-        self.resources.write_prices(self.loads.as_slice(), self.top, self.prices.as_mut_slice());
+        self.resources.write_prices(
+            self.loads.as_slice(),
+            self.top.index,
+            self.prices.as_mut_slice(),
+        );
         self.least = least_prices_of(self.resources.grid, self.prices.as_slice());
         write_tile_prices(
             self.resources.grid,

@@ -16,7 +16,6 @@
 #![tactic(auto)]
 
 mod budget;
-mod change;
 mod costing;
 mod index;
 mod kept_prices;
@@ -32,6 +31,7 @@ mod price_vector;
 mod resources;
 mod resting_prices;
 mod tile_prices;
+mod top_index;
 mod weighing;
 
 pub use budget::Budget;

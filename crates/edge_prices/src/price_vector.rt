@@ -24,5 +24,5 @@ pub fn prices(grid: &Grid, loads: &[u64], scale: u32, budget: Option<u64>, out: 
         scale,
         budget,
     };
-    resources.write_prices(loads, resources.top(loads), out);
+    resources.write_prices(loads, resources.top(loads).index, out);
 }

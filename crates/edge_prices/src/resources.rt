@@ -4,6 +4,7 @@ ghost use Rattle.edge_prices.specs.Limits.{IsScale, IsBudget};
 
 use crate::index::index_at;
 use crate::price::price_from;
+use crate::top_index::TopIndex;
 use grid_base::Edge;
 use grid_graph::Grid;
 
@@ -24,6 +25,7 @@ impl Resources<'_> {
     ghost use Rattle.grid_graph.specs.Limits.{max_load};
     ghost use Rattle.edge_prices.specs.Prices.{index_or_zero, price_or_zero};
     ghost use Rattle.grid_graph.specs.Grids.{edge_numbers, entries};
+    ghost use Rattle.edge_prices.specs.TopIndices.{IsTopIndex};
     ghost use Rattle.edge_prices.specs.Vectors.{capacity_of, index_of, top_of, price_of, price_vector, IsLoadList};
 
     /// The number of edge numbers, which is the place of the wirelength's entry.
@@ -64,29 +66,26 @@ impl Resources<'_> {
         }
     }
 
-    /// The price of the entry's resource under this load; 0 where the entry is no resource.
-    pub fn price(&self, entry: u32, load: u64, top: u128) -> u32
+    /// The price of the entry's resource by its index; 0 where the entry is no resource.
+    pub fn price(&self, entry: u32, index: u128, top: u128) -> u32
         requires entry { entry < entries self.now.grid.now }
-        requires load { load ≤ max_load }
-        requires top { index_or_zero (capacity_of self.now.grid.now self.now.budget entry) load self.now.scale ≤ top }
-        ensures { result ≡ price_or_zero (capacity_of self.now.grid.now self.now.budget entry) top (index_or_zero (capacity_of self.now.grid.now self.now.budget entry) load self.now.scale) }
+        requires top { index ≤ top }
+        ensures { result ≡ price_or_zero (capacity_of self.now.grid.now self.now.budget entry) top index }
     {
-        let capacity = self.capacity(entry);
-        if capacity == 0 {
+        if self.capacity(entry) == 0 {
             return 0;
         }
-        price_from(index_at(capacity, load, self.scale), top)
+        price_from(index, top)
     }
 
-    /// The greatest index over all resources.
-    #[tactic(auto, using(crate::proofs::Greatest::greatest_none))]
-    pub fn top(&self, loads: &[u64]) -> u128
+    /// The greatest index over all resources, and how many entries have it.
+    pub fn top(&self, loads: &[u64]) -> TopIndex
         requires { IsLoadList self.now.grid.now loads.now }
-        ensures { result ≡ top_of self.now.grid.now loads.now self.now.scale self.now.budget }
+        ensures { IsTopIndex (index_of self.now.grid.now loads.now self.now.scale self.now.budget) (entries self.now.grid.now) result }
     {
-        let mut top = 0;
+        let mut top = TopIndex::NONE;
         for entry in 0..self.entries() {
-            top = top.max(self.index(entry, loads[entry as usize]));
+            top = top.with(self.index(entry, loads[entry as usize]));
         }
         top
     }
@@ -99,7 +98,8 @@ impl Resources<'_> {
         ensures { out.new ≡ price_vector self.now.grid.now loads.now self.now.scale self.now.budget }
     {
         for entry in 0..self.entries() {
-            out[entry as usize] = self.price(entry, loads[entry as usize], top);
+            let index = self.index(entry, loads[entry as usize]);
+            out[entry as usize] = self.price(entry, index, top);
         }
     }
 }

@@ -3,6 +3,7 @@
 use crate::kept_prices::KeptPrices;
 use crate::least_prices::LeastPrices;
 use crate::resources::Resources;
+use crate::top_index::TopIndex;
 use grid_graph::Grid;
 use std::alloc::Global;
 
@@ -14,7 +15,7 @@ pub struct RestingPrices {
     budget: Option<u64>,
     loads: Vec<u64>,
     prices: Vec<u32>,
-    top: u128,
+    top: TopIndex,
     least: LeastPrices,
     tile_prices: Vec<u32>,
     stale: bool,
@@ -32,7 +33,7 @@ impl RestingPrices {
             budget: None,
             loads: Vec::new(alloc),
             prices: Vec::new(alloc),
-            top: 0,
+            top: TopIndex::NONE,
             least: LeastPrices::NONE,
             tile_prices: Vec::new(alloc),
             stale: true,
