@@ -21,8 +21,8 @@ use std::alloc::Global;
 /// The calls of one kind at one port are counted up to this number, which no `Fail` names.
 const CALLS_COUNTED: u64 = 1 << 32;
 
-/// A desk over named bytes in memory, which tells all that it does. A read or a write moves at most a step of bytes, and as
-/// much as it can otherwise.
+/// A desk over named bytes in memory, which tells all that it does. A read or a write moves as much as it can, but for
+/// at most a step of bytes.
 ///
 /// Its calls fail where they are listed, where an `open` names no file, and where a `create` or a `write` finds no
 /// memory; no other call does.
