@@ -1,9 +1,8 @@
 -- A call of a desk in memory that was marked and counted, and then changed one port.
-use Rattle.std.proofs.Common.{◌≡◌, ◌≤◌, ◌<◌, List, [], ◌++◌, ℕ, refl, ap, sym, ◌∙◌, Ok, Err, Some, None, Bool, true, false, not, ◌||◌, length, take, get_or, arith}
+use Rattle.std.proofs.Common.{◌≡◌, ◌≤◌, ◌<◌, List, [], ◌++◌, ℕ, refl, ap, sym, ◌∙◌, Ok, Err, Some, None, Bool, true, false, not, ◌||◌, length, take, get_or}
 use Rattle.std.specs.Prelude.{IsTrue, IfSome, is_some, if◌then◌else◌, ◌↔◌, slice_get, slice_set, String, string_bytes}
 use Rattle.std.specs.declared.option.Option.{Option}
 use Rattle.std.specs.declared.alloc.Global.{Global}
-use Rattle.std.proofs.lemmas.List.{take_all}
 use Rattle.std.proofs.lemmas.Option.{slice_get-get_or}
 use Rattle.gr_desk.specs.declared.port.Port.{Port}
 use Rattle.gr_desk.specs.declared.slot.Slot.{Slot}
@@ -142,11 +141,11 @@ module _ {s t : MemDesk} {port : Port} {n : ℕ} {orderly : Bool} (call : Begins
   }
 
   -- a write that was done
-  pub writes-done : {E : Type 0} {bytes : List ℕ} → (IsTrue orderly ↔ IsOrderlyWrite (told_of s) port)
-      → new ≡ record slot { written = new.written } → new.written.items ≡ slot.written.items ++ bytes → faults ≡ t.faults
-      → Writes {E = E} (told_of s) (told_of done) port (Ok (length bytes)) bytes
-  writes-done {bytes = bytes} order only added same = record {
-    appended = rw (slot-now, slot-was, take_all (length bytes) bytes (omega arith)) added;
+  pub writes-done : {E : Type 0} {n : ℕ} {bytes : List ℕ} → (IsTrue orderly ↔ IsOrderlyWrite (told_of s) port)
+      → new ≡ record slot { written = new.written } → new.written.items ≡ slot.written.items ++ take n bytes → faults ≡ t.faults
+      → Writes {E = E} (told_of s) (told_of done) port (Ok n) bytes
+  writes-done order only added same = record {
+    appended = rw (slot-now, slot-was) added;
     only = rw (slot-now, slot-was, only, files-stay, names-stay) refl;
     others = others-kept;
     stray = strays order;

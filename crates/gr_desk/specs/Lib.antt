@@ -5,6 +5,7 @@ pub mod Calls
 pub mod Runs
 pub mod Untold
 pub mod OpenFiles
+pub mod Made
 pub mod LentFiles
 pub mod Files
 pub mod Slot

@@ -1,5 +1,5 @@
 -- A desk in memory: what it tells, and which of its calls fail.
-use Rattle.std.specs.Prelude.{◌≡◌, ◌==◌, ◌&&◌, ◌+◌, ◌*◌, ◌^◌, ◌-◌, not, if◌then◌else◌, min, ℕ, List, [], Bool, Some, None, find, slice_get, slice_index, slice_set, string_bytes, option_map, String, Vec, replicate, false}
+use Rattle.std.specs.Prelude.{◌≡◌, ◌==◌, ◌&&◌, ◌+◌, ◌*◌, ◌^◌, ◌-◌, not, if◌then◌else◌, min, ℕ, List, [], Bool, Some, None, find, slice_get, slice_index, slice_set, string_bytes, option_map, String, Vec, replicate, false, unwrap_or}
 use Rattle.std.specs.List.{list_any}
 use Rattle.std.specs.declared.option.Option.{Option}
 use Rattle.std.specs.declared.alloc.Global.{Global}
@@ -27,6 +27,10 @@ told_of s = record {
   out_faults = s.faults.out_faults;
 }
 
+-- the bytes that are left to be read at a port
+abbrev pub left_at : MemDesk → Port → List ℕ
+left_at s port = unwrap_or ((told_of s).ports port).rest []
+
 -- a port at which nothing was done
 abbrev pub untouched : Option (List ℕ) → PortTold
 untouched expected = record {
@@ -37,8 +41,9 @@ untouched expected = record {
   state = Some Fresh;
 }
 
--- a desk at which nothing was done, over these files, of which these calls are to fail, and which expects these names
-pub record IsNewDesk (s : MemDesk) (over : List File) (listed : Vec Fail Global) (expecting : List (Port × String Global)) : Type 0 where
+-- a desk at which nothing was done, over these files, of which these calls are to fail, which expects these names, and
+-- whose reads and writes move at most so many bytes
+pub record IsNewDesk (s : MemDesk) (over : List File) (listed : Vec Fail Global) (expecting : List (Port × String Global)) (most : ℕ) : Type 0 where
   pub files : (told_of s).files ≡ bytes_under over
   pub ports : (p : Port) → (told_of s).ports p ≡ untouched (expected_of expecting p)
   pub strayed : (told_of s).strayed ≡ Some false
@@ -47,6 +52,7 @@ pub record IsNewDesk (s : MemDesk) (over : List File) (listed : Vec Fail Global)
   pub failing : s.failing ≡ listed
   pub calls : s.calls ≡ replicate 40 0
   pub starved : s.starved ≡ 0
+  pub step : s.step ≡ most
 
 -- where calls of one kind at one port are counted
 abbrev pub call_place : Port → CallKind → ℕ
@@ -64,10 +70,11 @@ is_nth port kind n f = (number f.port == number port) && (call_number f.call == 
 abbrev pub is_listed : MemDesk → Port → CallKind → Bool
 is_listed s port kind = list_any (is_nth port kind (calls_of s port kind)) s.failing.items
 
--- the call is counted, up to 2 ^ 32, and the list of failing calls stays
+-- the call is counted, up to 2 ^ 32, and the list of failing calls and the step stay
 pub record Counts (before after : MemDesk) (port : Port) (kind : CallKind) : Type 0 where
   pub calls : after.calls ≡ slice_set before.calls (call_place port kind) (min (calls_of before port kind + 1) (2 ^ 32))
   pub failing : after.failing ≡ before.failing
+  pub step : after.step ≡ before.step
 
 -- the count of want of memory after one more call that failed or not; one that is listed wants none
 abbrev pub starved_after : MemDesk → Port → CallKind → Bool → ℕ

@@ -1,6 +1,7 @@
 //! Where the files of a desk are opened and created.
 
 ghost use Rattle.std.specs.Prelude.{ℕ, List, IfOk};
+ghost use Rattle.gr_desk.specs.Made.{KeepsNames, MakesName};
 
 use std::io::{Read, Write};
 use std::rt::Files;
@@ -8,7 +9,8 @@ use std::{fs, io};
 
 /// Opens and creates files by their names.
 ///
-/// That a file is of such a call is for the store alone to say, so nobody else can have a file for an opened one.
+/// That a file is of such a call, and which names were created, is for the store alone to say. So nobody else can have
+/// a file for an opened one, or create one that the store doesn't count.
 pub trait FileStore {
     type File: Read + Write + Drop;
 
@@ -18,13 +20,18 @@ pub trait FileStore {
     /// The file was created under this name.
     ghost created: { Self.File → List ℕ → Type 0 };
 
-    /// A file to read from, at its start.
-    fn open(&self, name: &str) -> io::Result<Self::File>
-        ensures { IfOk result (λ f. opened f name.now) };
+    /// These names were created, in order.
+    ghost made: { Self → List (List ℕ) → Type 0 };
 
-    /// An empty file to write to, whatever was there before.
-    fn create(&self, name: &str) -> io::Result<Self::File>
-        ensures { IfOk result (λ f. created f name.now) };
+    /// A file to read from, at its start.
+    fn open(&mut self, name: &str) -> io::Result<Self::File>
+        ensures file { IfOk result (λ f. opened f name.now) }
+        ensures names { KeepsNames made self.old self.new };
+
+    /// An empty file to write to, whatever was there before. One that fails creates none.
+    fn create(&mut self, name: &str) -> io::Result<Self::File>
+        ensures file { IfOk result (λ f. created f name.now) }
+        ensures names { MakesName made self.old self.new name.now result };
 }
 
 /// The files of a runtime, which say nothing of how they came.
@@ -35,11 +42,13 @@ impl<R: Files> FileStore for R {
 
     ghost created = { λ file name. Unit };
 
-    fn open(&self, name: &str) -> io::Result<R::File> {
+    ghost made = { λ store names. Unit };
+
+    fn open(&mut self, name: &str) -> io::Result<R::File> {
         fs::open(self, name)
     }
 
-    fn create(&self, name: &str) -> io::Result<R::File> {
+    fn create(&mut self, name: &str) -> io::Result<R::File> {
         fs::create(self, name)
     }
 }

@@ -29,6 +29,7 @@ mod reading;
 mod real;
 mod slot;
 mod state;
+mod step;
 mod whole;
 
 pub use desk::Desk;

@@ -1,11 +1,11 @@
 //! A desk in memory.
 
-ghost use Rattle.std.specs.Prelude.{◌≡◌, ◌≢◌, ◌<◌, ◌+◌, ◌-◌, ◌^◌, ◌↔◌, ◌||◌, not, min, length, [], IsTrue, is_none, is_err, IsErr, OnOk, IfOk, IfSome, string_bytes, option_map, find, ◌==◌, if◌then◌else◌};
+ghost use Rattle.std.specs.Prelude.{◌≡◌, ◌≢◌, ◌<◌, ◌≤◌, ◌+◌, ◌-◌, ◌^◌, ◌↔◌, ◌||◌, not, min, length, [], IsTrue, is_none, is_err, IsErr, OnOk, IfOk, IfSome, string_bytes, option_map, find, ◌==◌, if◌then◌else◌};
 ghost use Rattle.gr_desk.specs.Ports.{number};
 ghost use Rattle.std.specs.Io.{ReadsAtMost, WritesAtMost};
 ghost use Rattle.gr_desk.specs.Calls.{Opens, Creates, Reads, Writes, IsOrderlyOpen, IsOrderlyCreate, IsOrderlyRead, IsOrderlyWrite};
 ghost use Rattle.gr_desk.specs.Files.{file_number, bytes_under};
-ghost use Rattle.gr_desk.specs.Memory.{told_of, is_listed, expected_of, IsNewDesk, Counts, starved_after};
+ghost use Rattle.gr_desk.specs.Memory.{told_of, is_listed, expected_of, IsNewDesk, Counts, starved_after, left_at};
 
 use crate::desk::Desk;
 use crate::fail::{CallKind, Fail};
@@ -15,12 +15,14 @@ use crate::port::Port;
 use crate::reading::find_file;
 use crate::slot::Slot;
 use crate::state::State;
+use crate::step::Step;
 use std::alloc::Global;
 
 /// The calls of one kind at one port are counted up to this number, which no `Fail` names.
 const CALLS_COUNTED: u64 = 1 << 32;
 
-/// A desk over named bytes in memory, which tells all that it does.
+/// A desk over named bytes in memory, which tells all that it does. A read or a write moves as much as it can, but for
+/// at most a step of bytes.
 ///
 /// Its calls fail where they are listed, where an `open` names no file, and where a `create` or a `write` finds no
 /// memory; no other call does.
@@ -32,6 +34,7 @@ pub struct MemDesk {
     names: Vec<(Port, String)>,
     slots: [Slot; 10],
     calls: [u64; 40],
+    step: Step,
     strayed: bool,
     faults: FaultCounts,
     starved: u64,
@@ -40,7 +43,7 @@ pub struct MemDesk {
 impl MemDesk {
     /// A desk over these files, of which the listed calls fail. It expects no name.
     pub fn new(alloc: Global, files: Vec<(String, Vec<u8>)>, failing: Vec<Fail>) -> MemDesk
-        ensures { IsNewDesk result files.items failing [] }
+        ensures { IsNewDesk result files.items failing [] (2 ^ 64 - 1) }
     {
         MemDesk::expecting(alloc, files, failing, Vec::new(alloc))
     }
@@ -52,7 +55,34 @@ impl MemDesk {
         failing: Vec<Fail>,
         names: Vec<(Port, String)>,
     ) -> MemDesk
-        ensures { IsNewDesk result files.items failing names.items }
+        ensures { IsNewDesk result files.items failing names.items (2 ^ 64 - 1) }
+    {
+        MemDesk::expecting_by_steps(alloc, files, failing, names, usize::MAX)
+    }
+
+    /// A desk as in `new`, whose reads and writes each move at most `step` bytes.
+    pub fn with_step(
+        alloc: Global,
+        files: Vec<(String, Vec<u8>)>,
+        failing: Vec<Fail>,
+        step: usize,
+    ) -> MemDesk
+        requires { 1 ≤ step }
+        ensures { IsNewDesk result files.items failing [] step }
+    {
+        MemDesk::expecting_by_steps(alloc, files, failing, Vec::new(alloc), step)
+    }
+
+    /// A desk as in `expecting`, whose reads and writes each move at most `step` bytes.
+    pub fn expecting_by_steps(
+        alloc: Global,
+        files: Vec<(String, Vec<u8>)>,
+        failing: Vec<Fail>,
+        names: Vec<(Port, String)>,
+        step: usize,
+    ) -> MemDesk
+        requires { 1 ≤ step }
+        ensures { IsNewDesk result files.items failing names.items step }
     {
         MemDesk {
             alloc,
@@ -72,6 +102,7 @@ impl MemDesk {
                 Slot::fresh(alloc),
             ],
             calls: [0; 40],
+            step: Step::new(step),
             strayed: false,
             faults: FaultCounts::none(),
             starved: 0,
@@ -234,6 +265,7 @@ impl Desk for MemDesk {
     fn read(&mut self, port: Port, buf: &mut [u8]) -> Result<usize, Failed>
         ensures bound { ReadsAtMost result buf.new }
         ensures does { Reads (told_of self.old) (told_of self.new) port result buf.new }
+        ensures moved { IfOk result (λ n. n ≡ min (length (left_at self.old port)) (min self.old.step (length buf.new))) }
         ensures exact { is_err result ≡ is_listed self.old port CallKind.Read }
         ensures counted { Counts self.old self.new port CallKind.Read }
         ensures starved { self.new.starved ≡ self.old.starved }
@@ -242,14 +274,15 @@ impl Desk for MemDesk {
         if self.begin(port, CallKind::Read, orderly) {
             return Err(self.faults.count_in());
         }
-        Ok(self.slots[port.number()].read(&self.files, buf))
+        let most = self.step.of(buf.len());
+        Ok(self.slots[port.number()].read(&self.files, buf, most))
     }
 
     fn write(&mut self, port: Port, bytes: &[u8]) -> Result<usize, Failed>
         ensures bound { WritesAtMost result bytes.now }
         ensures some { 0 < length bytes.now → OnOk result (result ≢ Ok 0) }
         ensures does { Writes (told_of self.old) (told_of self.new) port result bytes.now }
-        ensures whole { IfOk result (λ n. n ≡ length bytes.now) }
+        ensures moved { IfOk result (λ n. n ≡ min self.old.step (length bytes.now)) }
         ensures listed { IsTrue (is_listed self.old port CallKind.Write) → IsErr result }
         ensures counted { Counts self.old self.new port CallKind.Write }
         ensures starved { self.new.starved ≡ starved_after self.old port CallKind.Write (is_err result) }
@@ -258,8 +291,9 @@ impl Desk for MemDesk {
         if self.begin(port, CallKind::Write, orderly) {
             return Err(self.faults.count_out());
         }
-        if self.slots[port.number()].write(bytes) {
-            return Ok(bytes.len());
+        let count = self.step.of(bytes.len());
+        if self.slots[port.number()].write(&bytes[..count]) {
+            return Ok(count);
         }
         self.starved = one_more_if(true, self.starved);
         Err(self.faults.count_out())

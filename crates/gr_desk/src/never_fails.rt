@@ -43,7 +43,8 @@ impl Desk for NeverFails {
     }
 
     fn read(&mut self, port: Port, buf: &mut [u8]) -> Result<usize, Failed> {
-        Ok(self.readings[port.number()].read(&self.files, buf))
+        let room = buf.len();
+        Ok(self.readings[port.number()].read(&self.files, buf, room))
     }
 
     fn write(&mut self, _port: Port, bytes: &[u8]) -> Result<usize, Failed> {

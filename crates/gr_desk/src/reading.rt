@@ -1,6 +1,6 @@
 //! Named bytes in memory, and how far one of them was read.
 
-ghost use Rattle.std.specs.Prelude.{◌≡◌, ◌<◌, ◌≤◌, ◌+◌, ◌^◌, ◌++◌, [], length, take};
+ghost use Rattle.std.specs.Prelude.{◌≡◌, ◌<◌, ◌≤◌, ◌+◌, ◌^◌, ◌++◌, [], length, min, take};
 ghost use Rattle.gr_desk.specs.Files.{bytes_at, file_number, left_of};
 
 /// The number of the first file of that name.
@@ -50,14 +50,16 @@ impl Reading {
         }
     }
 
-    /// Moves what is left into `buf` as far as there is room, and answers how many bytes that were.
-    pub(crate) fn read(&mut self, files: &[(String, Vec<u8>)], buf: &mut [u8]) -> usize
+    /// Moves at most `most` bytes of what is left into the front of `buf`, and answers how many bytes that were.
+    pub(crate) fn read(&mut self, files: &[(String, Vec<u8>)], buf: &mut [u8], most: usize) -> usize
+        requires { most ≤ length buf.old }
         ensures bound { result ≤ length buf.new }
+        ensures moved { result ≡ min (length (left_of files.now self.old)) most }
         ensures taken { left_of files.now self.old ≡ take result buf.new ++ left_of files.now self.new }
-        ensures end { result ≡ 0 → 0 < length buf.new → left_of files.now self.new ≡ [] }
+        ensures end { result ≡ 0 → 0 < most → left_of files.now self.new ≡ [] }
     {
         let left = self.left(files);
-        let count = left.len().min(buf.len());
+        let count = left.len().min(most);
         buf[..count].copy_from_slice(&left[..count]);
         self.at += count;
         count

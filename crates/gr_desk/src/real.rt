@@ -6,6 +6,7 @@ ghost use Rattle.std.specs.Io.KnownBytes.{Keeps, ReadConsumes, WriteAppends};
 ghost use Rattle.gr_desk.specs.declared.port.Port.TheVariants.{Report};
 ghost use Rattle.gr_desk.specs.Calls.{Opens, Creates, Reads, Writes};
 ghost use Rattle.gr_desk.specs.OpenFiles.{file_at, told_at, GivesFile, KeepsFiles};
+ghost use Rattle.gr_desk.specs.Made.{KeepsNames, MakesName};
 ghost use Rattle.gr_desk.specs.Untold.{untold};
 
 use crate::desk::Desk;
@@ -23,8 +24,8 @@ use std::rt::Files;
 /// One file may be open at each port but the report. A `write` that takes nothing of some bytes counts as failed, and
 /// so does any call at a port that has no file.
 #[derive(Drop)]
-pub struct RealDesk<'a, S: FileStore, W: Write + Drop> {
-    store: &'a S,
+pub struct RealDesk<S: FileStore + Drop, W: Write + Drop> {
+    store: S,
     files: OpenFiles<S::File>,
     report: W,
     faults: FaultCounts,
@@ -72,7 +73,7 @@ fn write_to<W: Write>(writer: &mut W, bytes: &[u8]) -> Result<usize, Failed>
     }
 }
 
-impl<'a, R: Files + Print> RealDesk<'a, R, Printer<'a, R>> {
+impl<'a, R: Files + Print> RealDesk<&'a R, Printer<'a, R>> {
     /// A desk over the runtime's files, with no file open, whose report is standard output.
     pub fn new(rt: &'a R) -> Self
         ensures files { (p : Port) → file_at result.files p ≡ None }
@@ -83,9 +84,10 @@ impl<'a, R: Files + Print> RealDesk<'a, R, Printer<'a, R>> {
     }
 }
 
-impl<'a, S: FileStore, W: Write + Drop> RealDesk<'a, S, W> {
+impl<S: FileStore + Drop, W: Write + Drop> RealDesk<S, W> {
     /// A desk with no file open, whose report goes to this writer.
-    pub fn over(store: &'a S, report: W) -> Self
+    pub fn over(store: S, report: W) -> Self
+        ensures store { result.store ≡ store }
         ensures files { (p : Port) → file_at result.files p ≡ None }
         ensures report { result.report ≡ report }
         ensures in_faults { result.faults.in_faults ≡ 0 }
@@ -100,12 +102,13 @@ impl<'a, S: FileStore, W: Write + Drop> RealDesk<'a, S, W> {
     }
 }
 
-impl<'a, S: FileStore, W: Write + Drop> Desk for RealDesk<'a, S, W> {
+impl<S: FileStore + Drop, W: Write + Drop> Desk for RealDesk<S, W> {
     ghost told = { λ s. untold s.faults };
 
     fn open(&mut self, port: Port, name: &str) -> Result<(), Failed>
         ensures does { Opens (untold self.old.faults) (untold self.new.faults) port name.now result }
         ensures file { GivesFile self.old.files self.new.files port (λ f. S.opened f name.now) result }
+        ensures names { KeepsNames S.made self.old.store self.new.store }
         ensures report { self.new.report ≡ self.old.report }
     {
         match self.store.open(name) {
@@ -120,6 +123,7 @@ impl<'a, S: FileStore, W: Write + Drop> Desk for RealDesk<'a, S, W> {
     fn create(&mut self, port: Port, name: &str) -> Result<(), Failed>
         ensures does { Creates (untold self.old.faults) (untold self.new.faults) port name.now result }
         ensures file { GivesFile self.old.files self.new.files port (λ f. S.created f name.now) result }
+        ensures names { MakesName S.made self.old.store self.new.store name.now result }
         ensures report { self.new.report ≡ self.old.report }
     {
         // The report is no file: nothing of that name is to be emptied.
@@ -141,6 +145,7 @@ impl<'a, S: FileStore, W: Write + Drop> Desk for RealDesk<'a, S, W> {
         ensures bytes { ReadConsumes (told_at S.File.remaining self.old.files port) (told_at S.File.remaining self.new.files port) result buf.new }
         ensures no_file { IsNone (file_at self.old.files port) → IsErr result }
         ensures files { KeepsFiles self.old.files self.new.files port }
+        ensures store { self.new.store ≡ self.old.store }
         ensures report { self.new.report ≡ self.old.report }
     {
         match read_file(self.files.at_mut(port), buf) {
@@ -158,6 +163,7 @@ impl<'a, S: FileStore, W: Write + Drop> Desk for RealDesk<'a, S, W> {
         ensures bytes { port ≢ Report → WriteAppends (told_at S.File.contents self.old.files port) (told_at S.File.contents self.new.files port) result bytes.now }
         ensures no_file { port ≢ Report → IsNone (file_at self.old.files port) → IsErr result }
         ensures files { KeepsFiles self.old.files self.new.files port }
+        ensures store { self.new.store ≡ self.old.store }
     {
         let written = match port {
             Port::Report => write_to(&mut self.report, bytes),

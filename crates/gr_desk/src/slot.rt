@@ -1,6 +1,6 @@
 //! One port of a desk in memory.
 
-ghost use Rattle.std.specs.Prelude.{◌≡◌, ◌<◌, ◌≤◌, ◌++◌, [], length, take, IsTrue, false, is_some, IfSome, IfNone};
+ghost use Rattle.std.specs.Prelude.{◌≡◌, ◌<◌, ◌≤◌, ◌++◌, [], length, min, take, IsTrue, false, is_some, IfSome, IfNone};
 ghost use Rattle.gr_desk.specs.Files.{left_of};
 ghost use Rattle.gr_desk.specs.Slot.{IsUntouched, IsCreated, opened_slot};
 
@@ -62,14 +62,16 @@ impl Slot {
         true
     }
 
-    /// Moves what is left to be read into `buf` as far as there is room, and answers how many bytes that were.
-    pub(crate) fn read(&mut self, files: &[(String, Vec<u8>)], buf: &mut [u8]) -> usize
+    /// Moves at most `most` bytes of what is left to be read into the front of `buf`, and answers how many bytes that were.
+    pub(crate) fn read(&mut self, files: &[(String, Vec<u8>)], buf: &mut [u8], most: usize) -> usize
+        requires { most ≤ length buf.old }
         ensures bound { result ≤ length buf.new }
+        ensures moved { result ≡ min (length (left_of files.now self.old.reading)) most }
         ensures taken { left_of files.now self.old.reading ≡ take result buf.new ++ left_of files.now self.new.reading }
-        ensures end { result ≡ 0 → 0 < length buf.new → left_of files.now self.new.reading ≡ [] }
+        ensures end { result ≡ 0 → 0 < most → left_of files.now self.new.reading ≡ [] }
         ensures only { self.new ≡ record self.old { reading = self.new.reading } }
     {
-        self.reading.read(files, buf)
+        self.reading.read(files, buf, most)
     }
 
     /// Appends bytes, where there is memory for them.

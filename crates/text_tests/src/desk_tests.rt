@@ -1,6 +1,6 @@
 //! What no clause of `gr_desk` says: worked examples, each public call once on its way to an answer, and real files.
 
-ghost use Rattle.std.specs.Prelude.{◌<◌, ◌^◌};
+ghost use Rattle.std.specs.Prelude.{◌<◌, ◌≤◌, ◌^◌};
 
 use gr_desk::{
     CallKind, Desk, Failed, MemDesk, NeverFails, Port, PortFault, RealDesk, read_port, write_all,
@@ -31,6 +31,25 @@ fn failing(rt: &HostRuntime, port: Port, call: CallKind, nth: u32) -> Result<Mem
 
 fn plain(rt: &HostRuntime) -> Result<MemDesk, AllocError> {
     Ok(MemDesk::new(rt.alloc(), files(rt.alloc())?, Vec::new(rt.alloc())))
+}
+
+// The desk over one file of 7 bytes by steps, of which the nth read of it and the nth write of its copy fail.
+fn by_steps(rt: &HostRuntime, step: usize, nth: u32) -> Result<MemDesk, AllocError>
+    requires { 1 ≤ step }
+{
+    let alloc = rt.alloc();
+    let mut failing = Vec::new(alloc);
+    failing.push(gr_desk::Fail {
+        port: Port::In,
+        call: CallKind::Read,
+        nth,
+    })?;
+    failing.push(gr_desk::Fail {
+        port: Port::RoutesOut,
+        call: CallKind::Write,
+        nth,
+    })?;
+    Ok(MemDesk::with_step(alloc, one_file(alloc, b"one net")?, failing, step))
 }
 
 fn read_whole<D: Desk>(
@@ -92,7 +111,8 @@ fn a_create_that_fails_keeps_what_was_written(rt: HostRuntime) -> Result<(), Fai
     Ok(())
 }
 
-// A desk in memory takes all bytes of a write, so that each text is one call, and the listed one is the text's number.
+// A desk in memory without steps takes all bytes of a write, so that each text is one call, and the listed one is the text's
+// number.
 #[test]
 fn a_text_is_one_write_and_one_that_fails_writes_nothing(rt: HostRuntime) -> Result<(), Fail> {
     for nth in 0..2 {
@@ -104,6 +124,40 @@ fn a_text_is_one_write_and_one_that_fails_writes_nothing(rt: HostRuntime) -> Res
         assert!(rt;
             desk.written(Port::Report) == b"nets 1\nnets 1\n".as_slice() && desk.starved() == 0
         );
+    }
+    Ok(())
+}
+
+#[test]
+fn by_steps_a_call_moves_a_step_and_a_text_comes_whole(rt: HostRuntime) -> Result<(), Fail> {
+    let text = b"one net".as_slice();
+    for step in 1..4 {
+        let mut desk = by_steps(&rt, step, 100)?;
+        let mut room = [0u8; 16];
+        desk.open(Port::In, "a.gr")?;
+        assert!(rt; desk.read(Port::In, &mut room)? == step, "a read by {step}");
+        assert!(rt;
+            desk.write(Port::Report, text)? == step,
+            "a write by {step}"
+        );
+        let read = read_whole(rt.alloc(), &mut desk, "a.gr", 7)?;
+        assert!(rt; read.as_slice() == text, "read by {step}");
+        write_whole(&mut desk, "a.routes", text)?;
+        assert!(rt; desk.written(Port::RoutesOut) == text, "written by {step}");
+    }
+    Ok(())
+}
+
+// The third read of 7 bytes is one by steps of 6 or less, since the last one finds none; the third write is one by
+// steps of 3 or less.
+#[test]
+fn by_steps_a_listed_call_is_counted_as_it_comes(rt: HostRuntime) -> Result<(), Fail> {
+    for step in 1..9 {
+        let mut desk = by_steps(&rt, step, 2)?;
+        let read = read_whole(rt.alloc(), &mut desk, "a.gr", 7);
+        assert!(rt; read.is_err() == (step <= 6), "read by {step}");
+        let written = write_whole(&mut desk, "a.routes", b"one net");
+        assert!(rt; written.is_err() == (step <= 3), "written by {step}");
     }
     Ok(())
 }
