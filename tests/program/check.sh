@@ -968,6 +968,20 @@ made 'routes without a certificate' a.routes "$examples/one_net.routes"
 expect_unheard 'a report that can not be written' 7 route one_net.gr a.routes a.cert
 made 'routes without a report' a.routes "$examples/one_net.routes"
 made 'a certificate without a report' a.cert "$examples/one_net.cert"
+
+# a file that the run has opened or made is not made anew
+cp one_net.gr own.gr
+expect 'routes that are the design under another spelling' 7 'refused 7' route own.gr ./own.gr a.cert
+made 'a design that no routes of another spelling replaced' own.gr "$examples/one_net.gr"
+cp one_net.gr own.gr
+ln -s own.gr linked.gr
+expect 'routes that are the design through a link' 7 'refused 7' route own.gr linked.gr a.cert
+made 'a design that no linked routes replaced' own.gr "$examples/one_net.gr"
+rm linked.gr
+unmade 'no certificate where the routes are the design' a.cert
+expect 'a certificate that is the routes under another spelling' 7 'refused 7' route one_net.gr a.routes ./a.routes
+made 'routes that no certificate replaced' a.routes "$examples/one_net.routes"
+
 expect_unheard 'a refusal that can not be said: no command' 2 route
 expect_unheard 'a refusal that can not be said: a missing file' 6 route missing.gr a.routes a.cert
 

@@ -6,6 +6,7 @@ pub mod Runs
 pub mod Untold
 pub mod OpenFiles
 pub mod Made
+pub mod KnownFiles
 pub mod LentFiles
 pub mod Files
 pub mod Slot

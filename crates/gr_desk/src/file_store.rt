@@ -3,9 +3,8 @@
 ghost use Rattle.std.specs.Prelude.{ℕ, List, IfOk};
 ghost use Rattle.gr_desk.specs.Made.{KeepsNames, MakesName};
 
+use std::io;
 use std::io::{Read, Write};
-use std::rt::Files;
-use std::{fs, io};
 
 /// Opens and creates files by their names.
 ///
@@ -32,23 +31,4 @@ pub trait FileStore {
     fn create(&mut self, name: &str) -> io::Result<Self::File>
         ensures file { IfOk result (λ f. created f name.now) }
         ensures names { MakesName made self.old self.new name.now result };
-}
-
-/// The files of a runtime, which say nothing of how they came.
-impl<R: Files> FileStore for R {
-    type File = R::File;
-
-    ghost opened = { λ file name. Unit };
-
-    ghost created = { λ file name. Unit };
-
-    ghost made = { λ store names. Unit };
-
-    fn open(&mut self, name: &str) -> io::Result<R::File> {
-        fs::open(self, name)
-    }
-
-    fn create(&mut self, name: &str) -> io::Result<R::File> {
-        fs::create(self, name)
-    }
 }

@@ -15,6 +15,7 @@ use crate::fault_counts::FaultCounts;
 use crate::file_store::FileStore;
 use crate::open_files::OpenFiles;
 use crate::port::Port;
+use crate::runtime_files::RuntimeFiles;
 use std::io;
 use std::io::{Printer, Read, Write};
 use std::rt::Files;
@@ -73,14 +74,15 @@ fn write_to<W: Write>(writer: &mut W, bytes: &[u8]) -> Result<usize, Failed>
     }
 }
 
-impl<'a, R: Files + Print> RealDesk<&'a R, Printer<'a, R>> {
-    /// A desk over the runtime's files, with no file open, whose report is standard output.
+impl<'a, R: Files + Print> RealDesk<RuntimeFiles<'a, R>, Printer<'a, R>> {
+    /// A desk over the runtime's files, with no file open, whose report is standard output. A file that it opened or
+    /// created is not created anew, under whatever name.
     pub fn new(rt: &'a R) -> Self
         ensures files { (p : Port) → file_at result.files p ≡ None }
         ensures in_faults { result.faults.in_faults ≡ 0 }
         ensures out_faults { result.faults.out_faults ≡ 0 }
     {
-        RealDesk::over(rt, io::writer(rt))
+        RealDesk::over(RuntimeFiles::new(rt), io::writer(rt))
     }
 }
 

@@ -3,11 +3,13 @@
 ghost use Rattle.std.specs.Prelude.{◌<◌, ◌≤◌, ◌^◌};
 
 use gr_desk::{
-    CallKind, Desk, Failed, MemDesk, NeverFails, Port, PortFault, RealDesk, read_port, write_all,
+    CallKind, Desk, Failed, MemDesk, NeverFails, Port, PortFault, RealDesk, RuntimeFiles,
+    read_port, write_all,
 };
 use std::alloc::{AllocError, Global};
 use std::fmt::Display;
 use std::io::ErrorKind;
+use std::os::unix::fs::symlink;
 use std::test::Fail;
 use std::{fs, io};
 
@@ -192,23 +194,60 @@ fn a_hundred_thousand_bytes_are_written_and_read(rt: HostRuntime) -> Result<(), 
 // not opened, although one of its name is open at the port.
 #[test]
 fn files_and_standard_output_are_reached(rt: HostRuntime) -> Result<(), Fail> {
-    let mut desk = RealDesk::new(&rt);
     let long = vec![in rt.alloc(); b'x'; 100_000]?;
     for text in [long.as_slice(), b"one net\n", b"!"] {
+        let mut desk = RealDesk::new(&rt);
         write_whole(&mut desk, "desk_test.txt", text)?;
         let read = read_whole(rt.alloc(), &mut desk, "desk_test.txt", 100_000)?;
         assert!(rt; read.as_slice() == text);
     }
+    let mut desk = RealDesk::new(&rt);
+    desk.open(Port::In, "desk_test.txt")?;
     write_all(&mut desk, Port::Report, b"one net\n")?;
     fs::remove_file(&rt, "desk_test.txt")?;
     assert!(rt; desk.open(Port::In, "desk_test.txt").is_err());
     Ok(())
 }
 
+// What was opened is whole after each of its names was refused, and what was made is not made anew. A device may be.
+#[test]
+fn a_file_that_was_opened_or_made_is_not_made_anew(rt: HostRuntime) -> Result<(), Fail> {
+    write_whole(&mut RealDesk::new(&rt), "design_test.txt", b"one net\n")?;
+    symlink(&rt, "design_test.txt", "soft_test.txt")?;
+    fs::hard_link(&rt, "design_test.txt", "hard_test.txt")?;
+    let mut desk = RealDesk::new(&rt);
+    desk.open(Port::In, "design_test.txt")?;
+    for name in [
+        "design_test.txt",
+        "./design_test.txt",
+        "soft_test.txt",
+        "hard_test.txt",
+    ] {
+        assert!(rt; desk.create(Port::RoutesOut, name).is_err(), "at {name}");
+    }
+    let read = read_port(rt.alloc(), &mut desk, Port::In, 100)?;
+    assert!(rt; read.as_slice() == b"one net\n".as_slice());
+    write_whole(&mut desk, "made_test.txt", b"!")?;
+    assert!(rt; desk.create(Port::CertOut, "./made_test.txt").is_err());
+    let read = read_whole(rt.alloc(), &mut desk, "made_test.txt", 100)?;
+    assert!(rt; read.as_slice() == b"!".as_slice());
+    desk.create(Port::CertOut, "/dev/null")?;
+    desk.create(Port::MapOut, "/dev/null")?;
+    for name in [
+        "design_test.txt",
+        "soft_test.txt",
+        "hard_test.txt",
+        "made_test.txt",
+    ] {
+        fs::remove_file(&rt, name)?;
+    }
+    Ok(())
+}
+
 // A device's own fault is the desk's: a folder opens and then fails to be read, and a full device takes nothing.
 #[test]
 fn a_device_that_fails_is_a_failed_call(rt: HostRuntime) -> Result<(), Fail> {
-    let mut desk = RealDesk::over(&rt, io::writer(&Closed));
+    let mut desk = RealDesk::over(RuntimeFiles::new(&rt), io::writer(&Closed));
     desk.open(Port::CertIn, ".")?;
     assert!(rt; read_port(rt.alloc(), &mut desk, Port::CertIn, 100).is_err());
     desk.create(Port::CertOut, "/dev/full")?;
