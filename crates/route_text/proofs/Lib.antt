@@ -7,3 +7,4 @@ pub mod ReadBackBlocks
 pub mod Places
 pub mod NamedPieces
 pub mod ReadBack
+pub mod Apart

@@ -25,3 +25,4 @@ pub mod ReadLimits
 pub mod BlockPieces
 pub mod Written
 pub mod ReadBack
+pub mod Standing

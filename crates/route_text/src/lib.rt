@@ -28,6 +28,7 @@ mod block_list;
 mod block_ref;
 mod blocks;
 mod laws;
+mod nearby;
 mod net;
 mod parts;
 mod point;

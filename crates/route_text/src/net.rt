@@ -1,6 +1,7 @@
 //! The text of one net.
 
-ghost use Rattle.std.specs.Prelude.{◌≡◌, All, filter, flat_map};
+ghost use Rattle.std.specs.Prelude.{◌≡◌, ◌<◌, All, filter, flat_map, length, slice_index_or};
+ghost use Rattle.grid_base.specs.declared.piece.Piece.{Piece};
 ghost use Rattle.grid_base.specs.Lines.{is_along};
 ghost use Rattle.grid_base.specs.Numbers.{IsPiece};
 ghost use Rattle.grid_graph.specs.Grids.{size_of};
@@ -39,23 +40,37 @@ fn put_runs<D: Desk>(pen: &mut Pen<'_, D>, grid: &Grid, tree: &Tree, axis: Axis)
     ensures same_desk { HasSameDesk pen.old pen.new }
     ensures puts { Puts (pen_told D.told pen.old) (pen_told D.told pen.new) (flat_map (segment_text grid.now) (runs (size_of grid.now) (filter (is_along axis) tree.now))) }
 {
-    for piece in tree.pieces() {
-        put_run(pen, grid, tree, axis, *piece);
+    let pieces = tree.pieces();
+    for at in 0..pieces.len() {
+        let piece = pieces[at];
+        put_run(pen, grid, tree, axis, at, piece);
     }
 }
 
-/// Puts the run along the axis that begins with the piece, if one does.
-fn put_run<D: Desk>(pen: &mut Pen<'_, D>, grid: &Grid, tree: &Tree, axis: Axis, piece: Piece)
+/// Puts the run along the axis that begins with the piece at this place of the set, if one does.
+fn put_run<D: Desk>(
+    pen: &mut Pen<'_, D>,
+    grid: &Grid,
+    tree: &Tree,
+    axis: Axis,
+    at: usize,
+    piece: Piece,
+)
     requires pieces { All (IsPiece (size_of grid.now)) tree.now }
     requires rising { IsRising tree.now }
+    requires within { at < length tree.now }
+    requires here { (other : Piece) → slice_index_or tree.now at other ≡ piece }
     requires piece { IsPiece (size_of grid.now) piece }
     ensures same_desk { HasSameDesk pen.old pen.new }
     ensures puts { Puts (pen_told D.told pen.old) (pen_told D.told pen.new) (run_text grid.now (filter (is_along axis) tree.now) (is_along axis piece) piece) }
 {
+    if !is_along(piece, axis) {
+        return;
+    }
     let size = grid.size();
     let (start, _) = size.ends_of(piece);
-    if is_along(piece, axis) && begins_run(&size, tree, axis, start) {
-        put_segment(pen, grid, start, run_end(&size, tree, axis, start));
+    if begins_run(&size, tree, axis, at, start) {
+        put_segment(pen, grid, start, run_end(&size, tree, axis, at, start));
     }
 }
 

@@ -2,7 +2,15 @@ use Rattle.std.proofs.Common.{◌<◌, ◌≤◌, ◌∙◌, sym, arith}
 use Rattle.std.proofs.lemmas.Bool.{lt-ltb}
 use Rattle.grid_base.specs.Lines.{stride}
 use Rattle.tree_set.proofs.RunEnds.{begins_run-low, begins_run-tested}
+use Rattle.route_text.proofs.Apart.{behind_step}
 use Rattle.route_text.proofs.runs.begins_run.Goals as goal
+
+pub holds_before-requires-clause-behind : goal.holds_before-requires-clause-behind
+holds_before-requires-clause-behind c other =
+    let s = c.args.size.now in
+    let axis = c.args.axis in
+    let high : stride axis s ≤ c.args.start.0 = omega (arith, c.step-step.ensures, c.if-start-step.false) in
+    rw (c.along.ensures, c.step-step.ensures, c.requires.here other) (behind_step s axis c.args.start.0 high)
 
 pub returns-then-start-step : goal.returns-then-start-step
 returns-then-start-step c =
@@ -12,4 +20,4 @@ returns-then-start-step c =
 pub returns-else-start-step : goal.returns-else-start-step
 returns-else-start-step c =
     let high : stride c.args.axis c.args.size.now ≤ c.args.start.0 = omega (arith, c.step-step.ensures, c.if-start-step.false) in
-    begins_run-tested c.args.size.now c.args.axis c.args.tree.now c.args.start.0 c.contains.result high (rw (c.along.ensures, c.step-step.ensures) at c.contains.ensures.member)
+    begins_run-tested c.args.size.now c.args.axis c.args.tree.now c.args.start.0 c.holds_before.result high (rw (c.along.ensures, c.step-step.ensures) at c.holds_before.ensures)
