@@ -755,7 +755,25 @@ awk 'BEGIN {
 "$program" batches.gr one.routes --rounds 4 --passes 1 >one.report
 expect 'routes of 20,000 nets by four workers' 0 "$(cat one.report)" batches.gr new.routes --rounds 4 --passes 1 --workers 4
 made 'the routes that one worker finds' new.routes one.routes
-rm -f batches.gr one.routes one.report
+rm -f one.routes one.report
+
+# The bound of so many nets is worked out by several threads at once: as many as two are seen, where there are two processors.
+"$room/grouter" route batches.gr many.routes many.cert --phases 1 --rounds 0 >"$room/said"
+"$room/grouter" judge batches.gr many.routes many.cert >"$room/said" &
+judging=$!
+threads=1
+while grep -q '^State:[[:space:]]*[^ZX]' "/proc/$judging/status" 2>/dev/null; do
+    seen=$(ls "/proc/$judging/task" 2>/dev/null | wc -l)
+    [ "$seen" -le "$threads" ] || threads=$seen
+    [ "$threads" -lt 2 ] || break
+done
+wait "$judging"
+got=$?
+: >"$room/complained"
+{ [ "$threads" -ge 2 ] || [ "$(nproc)" -lt 2 ]; } || echo 'one thread alone' >"$room/complained"
+cp "$room/said" "$room/wanted"
+judge 'a bound by several threads' 0
+rm -f batches.gr many.routes many.cert
 expect 'an objection to given routes' 1 'no 47 0' detour.gr cut_off.routes new.routes
 usage='refused 2
 usage: reroute IN [ROUTES] NEW'
