@@ -1,5 +1,6 @@
 pub mod Accepted
 pub mod EcoFacts
+pub mod Edges
 pub mod FirstPins
 pub mod Indices
 pub mod NetLoads

@@ -9,7 +9,7 @@ use crate::opening::{count_terminals, loaded_router};
 use crate::wiring::{Wish, wired};
 use edit_text::{Edit, Pin};
 use grid_base::NoMemory;
-use grid_graph::{Design, Ground, NetSpec};
+use grid_graph::{Design, Ground, NetSpec, UnreachableNet};
 use std::alloc::Global;
 use std::marker::Model;
 use tree_set::Tree;
@@ -40,7 +40,7 @@ impl Eco {
     ghost use Rattle.std.specs.List.{remove};
     ghost use Rattle.grid_base.specs.Lists.{At};
     ghost use Rattle.grid_graph.specs.declared.net_spec.NetSpec.{NetSpec as NetSpecOf};
-    ghost use Rattle.grid_graph.specs.Grounds.{IsGround};
+    ghost use Rattle.grid_graph.specs.Grounds.{IsGround, IsCutOff};
     ghost use Rattle.grid_graph.specs.Limits.{max_nets, max_pins};
     ghost use Rattle.grid_graph.specs.Nets.{IsNet};
     ghost use Rattle.tree_set.specs.Routings.{ArePieces};
@@ -48,6 +48,7 @@ impl Eco {
     ghost use Rattle.edit_text.specs.declared.edit.Edit.TheVariants as edit;
     ghost use Rattle.grid_graph.specs.Grids.{edge_numbers, size_of};
     ghost use Rattle.tree_set.specs.Loads.{load};
+    ghost use Rattle.tree_set.specs.Measures.{wirelength};
     ghost use Rattle.eco_route.specs.EcoStates.{AreSetsOf};
     ghost use Rattle.eco_route.specs.EcoSteps.{IsEcoStep, IsDropStep, IsAddStep, IsChangeStep};
     ghost use Rattle.eco_route.specs.RoutedDesigns.{IsRewired, IsUnchanged};
@@ -117,10 +118,29 @@ impl Eco {
     /// The load of each edge number as it now stands.
     pub fn loads(&self) -> &[u64]
         ensures long { length result.now ≡ edge_numbers self.now.design.grid }
-        ensures loads { (e : ℕ) → e < edge_numbers self.now.design.grid → slice_index result.now e ≡ load self.now.design.grid self.now.design.nets self.now.sets e }
+        ensures loads { (e : ℕ) → slice_index result.now e ≡ load self.now.design.grid self.now.design.nets self.now.sets e }
     {
         let edges = 2 * self.design.grid.size().vertices() as usize;
         &self.router.loads()[..edges]
+    }
+
+    /// The number of pieces of all sets as they now stand.
+    pub fn wirelength(&self) -> u64
+        ensures { result ≡ wirelength self.now.sets }
+    {
+        let edges = 2 * self.design.grid.size().vertices() as usize;
+        self.router.loads()[edges]
+    }
+
+    /// The ground of the net at this place of the list. The error is a net that no ground joins.
+    pub fn ground_of(&self, place: usize) -> Result<Ground, UnreachableNet>
+        requires { place < length self.now.design.nets }
+        ensures found { (n : NetSpecOf) → At self.now.design.nets place n → IfOk result (IsGround self.now.design.grid n.terminals) }
+        ensures cause { (n : NetSpecOf) → At self.now.design.nets place n → IfErr result (λ e. IsCutOff self.now.design.grid n e.id e.terminal) }
+    {
+        let design = &self.design;
+        self.router
+            .ground_of(&design.grid, &design.nets.list()[place])
     }
 
     /// The place of the net with this id.

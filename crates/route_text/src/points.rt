@@ -1,6 +1,7 @@
 //! Points and segments as text.
 
 ghost use Rattle.std.specs.Prelude.{◌≡◌};
+ghost use Rattle.std.specs.Fmt.{signed_decimal};
 ghost use Rattle.grid_base.specs.Numbers.{IsVertex};
 ghost use Rattle.grid_graph.specs.Grids.{size_of};
 ghost use Rattle.gr_desk.specs.Pens.{Puts, pen_told, HasSameDesk};
@@ -19,12 +20,23 @@ pub fn put_point<D: Desk>(pen: &mut Pen<'_, D>, grid: &Grid, v: Vertex)
 {
     let place = grid.size().place_of(v);
     pen.put(b"(");
-    pen.put_number(x_of(grid, place.col));
+    put_position(pen, x_of(grid, place.col));
     pen.put(b",");
-    pen.put_number(y_of(grid, place.row));
+    put_position(pen, y_of(grid, place.row));
     pen.put(b",");
     pen.put_number(place.layer + 1);
     pen.put(b")");
+}
+
+/// Puts a position. Most are short numbers, which are put faster.
+fn put_position<D: Desk>(pen: &mut Pen<'_, D>, position: i128)
+    ensures same_desk { HasSameDesk pen.old pen.new }
+    ensures puts { Puts (pen_told D.told pen.old) (pen_told D.told pen.new) (signed_decimal position) }
+{
+    match i64::try_from(position) {
+        Ok(short) => pen.put_number(short),
+        Err(_) => pen.put_number(position),
+    }
 }
 
 /// Puts a segment from one vertex to another, on a line of its own.
