@@ -4,7 +4,7 @@
 #
 #   tests/program/devices.sh [GROUTER [UNAVOIDABLE [REROUTE [CONGESTION_MAP]]]]
 #
-# By hand, outside the gate: some TIME. It reads 2^30 bytes four times, and takes up to 3 GiB of memory for that. Without words it
+# By hand, outside the gate: some two minutes. It reads 2^30 bytes four times, and takes up to 3 GiB of memory for that. Without words it
 # takes the programs that `rt ci` left in crates/*/out. It prints a line for each case, then how many passed, failed and were left
 # out, and fails where one did. A case is left out where the system has no such device, or gives it to root alone.
 #
@@ -254,35 +254,33 @@ limit() {
     left "$output: the front of its text within the limit" out.csv "$whole" front
     said ''
     # shellcheck disable=SC2046,SC3045
-    { (ulimit -f 40 && ulimit -c 0 && exec "$program" $(with out.csv)) </dev/null >"$room/said" 2>"$room/complained"; } 2>/dev/null
-    got=$?
+    got=$(exec 2>/dev/null; (ulimit -f 40 && ulimit -c 0 && exec "$program" $(with out.csv)) </dev/null >"$room/said" 2>"$room/complained"; echo $?)
     judge "$output: such a limit, and its signal" $((128 + 25))
     beside "$output: such a limit, and its signal"
     left "$output: the front of its text at the signal" out.csv "$whole" front
 }
 for_outputs limit
 
-# with few files open at once the run is whole, or an input or an output can't be opened; none is half written
+# With few files open at once the run is whole, or an input or an output can't be opened; what is made is whole.
 few_files() {
     for many in 4 5 6 7; do
-        # shellcheck disable=SC2046,SC3045
-        (ulimit -n $many && exec "$program" $(with out.csv)) </dev/null >"$room/said" 2>"$room/complained"
+        title="$output: no more than $((many - 3)) open files beside the three of the shell"
+        # shellcheck disable=SC2046
+        set -- $(with out.csv)
+        # shellcheck disable=SC3045
+        (ulimit -n $many && exec "$program" "$@") </dev/null >"$room/said" 2>"$room/complained"
         got=$?
         case $got in
-        0)
-            cp "$whole.report" "$room/wanted"
-            cmp -s out.csv "$whole" || got=1
-            wanted_status=0
-            ;;
-        *)
-            wanted_status=7
-            [ $got -ne 6 ] || wanted_status=6
-            said "refused $wanted_status"
-            [ ! -e out.csv ] || got="100$got"
-            ;;
+        0) cp "$whole.report" "$room/wanted" ;;
+        6) said 'refused 6' ;;
+        *) said 'refused 7' ;;
         esac
-        judge "$output: $((many - 3)) open files and the three of the shell" $wanted_status
-        rm -f out.csv side.routes side.cert
+        case $got in
+        0 | 6) judge "$title" $got ;;
+        *) judge "$title" 7 ;;
+        esac
+        [ ! -e out.csv ] || left "$title: what it made" out.csv "$whole"
+        rm -f side.routes side.cert
     done
 }
 for_outputs few_files
@@ -303,6 +301,15 @@ closed_report() {
     got=$?
     judge "$output: no standard output" 7
     left "$output: whole, without standard output" out.csv "$whole"
+    rm -f side.routes side.cert
+    # the files get the numbers of what is closed
+    # shellcheck disable=SC2046
+    "$program" $(with out.csv) <&- >&- 2>&-
+    got=$?
+    : >"$room/said"
+    : >"$room/complained"
+    judge "$output: nothing that a program is given by the shell" 7
+    left "$output: whole, without all these" out.csv "$whole"
     rm -f side.routes side.cert
     # shellcheck disable=SC2046
     "$program" $(with out.csv) <&- >"$room/said" 2>&-
@@ -654,10 +661,10 @@ beyond 0
 overflow 0
 wirelength 2
 peak 1/2'
-for name in 'é ü.gr' "$(printf 'two\nlines.gr')" "a'\"\\.gr" '*' ' ' '~'; do
-    cp one_net.gr "./$name"
-    expect "a design and routes with the name $(echo "$name" | tr '\n' ' ')" 0 "$measured" measure "$name" one_net.routes
-    rm -f "./$name"
+for file in 'é ü.gr' "$(printf 'two\nlines.gr')" "a'\"\\.gr" '*' ' ' '~'; do
+    cp one_net.gr "./$file"
+    expect "a design with the name $(echo "$file" | tr '\n' ' ')" 0 "$measured" measure "$file" one_net.routes
+    rm -f "./$file"
 done
 
 # ---- what all runs left

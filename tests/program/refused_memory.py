@@ -240,13 +240,13 @@ def main():
     programs = dict(zip(PROGRAMS, built + [f"{TOP}/crates/{name}/out/{name}" for name in PROGRAMS[len(built):]]))
     runs = failed = 0
     with tempfile.TemporaryDirectory() as folder:
-        for program in programs.values():
-            require_seen(program)
+        lines = [(line, outputs) for line, outputs in LINES if asked.only in line]
+        for name in sorted({line.split()[0] for line, _ in lines}):
+            require_seen(programs[name])
         room = Room(folder, programs)
-        for line, outputs in LINES:
-            if asked.only in line:
-                made, wrong = try_line(room, line, outputs, asked.most)
-                runs, failed = runs + made, failed + wrong
+        for line, outputs in lines:
+            made, wrong = try_line(room, line, outputs, asked.most)
+            runs, failed = runs + made, failed + wrong
     print(f"{runs} runs, {runs - failed} passed, {failed} failed")
     return 1 if failed else 0
 
