@@ -1,13 +1,14 @@
 -- Price lists with what they show.
-use Rattle.std.specs.Prelude.{ℕ, Option, IfSome}
+use Rattle.std.specs.Prelude.{ℕ, ◌≡◌, ◌≤◌, List, Option, IfSome}
 use Rattle.dual_bound.specs.Bounds.{BoundsDesign}
 use Rattle.dual_bound.specs.DesignBounds.{IsBoundOrNone}
 use Rattle.dual_bound.specs.LeastOverflow.{ShowsOverflow}
 use Rattle.dual_bound.specs.Prices.{free_budget}
 use Rattle.edge_prices.specs.Weights.{AreEdgePrices}
 use Rattle.grid_graph.specs.declared.design.Design.{Design}
+use Rattle.unavoidable_cli.specs.declared.finding.Finding.{Finding}
 use Rattle.unavoidable_cli.specs.declared.shown_list.ShownList.{ShownList}
-use Rattle.unavoidable_cli.specs.Findings.{IsUnavoidable}
+use Rattle.unavoidable_cli.specs.Findings.{IsAbove, IsUnavoidable}
 
 -- a price list of the design, with the bound of the design at these prices, whatever wirelength is to be kept at no price, and
 -- the overflow that they show of every routing
@@ -17,3 +18,11 @@ pub record IsShownList (d : Design) (list : ShownList) : Type 0 where
   pub bounds : IfSome list.shown.bound (λ f. (most : Option ℕ) → BoundsDesign d most f.num f.den)
   pub overflow : ShowsOverflow d list.prices.now list.shown.overflow
   pub unavoidable : IsUnavoidable d list.shown.overflow
+
+-- what is found is no less than what the price list shows: neither the bound of the new certificate nor the overflow
+pub record ShowsNoLess (prices : List ℕ) (f : Finding) : Type 0 where
+  pub list : ShownList
+  pub of_prices : list.prices.now ≡ prices
+  pub shown : IsShownList f.design list
+  pub bound : ¬ IsAbove list.shown.bound f.new.bound
+  pub overflow : list.shown.overflow ≤ f.overflow

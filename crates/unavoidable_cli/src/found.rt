@@ -8,7 +8,7 @@ ghost use Rattle.route_judge.specs.Judgements.{IsJudged, StatesBound};
 ghost use Rattle.route_judge.specs.Limits.{AreBlocks};
 ghost use Rattle.route_judge.specs.Orders.{AreRoutes};
 ghost use Rattle.unavoidable_cli.specs.Findings.{IsFinding, IsNoneOrShown, IsOverflowOfBlocks};
-ghost use Rattle.unavoidable_cli.specs.ShownLists.{IsShownList};
+ghost use Rattle.unavoidable_cli.specs.ShownLists.{IsShownList, ShowsNoLess};
 
 use crate::finding::Finding;
 use crate::improved::improve;
@@ -56,8 +56,46 @@ fn cut_of(alloc: Global, design: &Design, list: ShownList<'_>) -> Result<Vec<Pri
     priced_edges(alloc, &design.grid, list.prices)
 }
 
-/// What is found of a design, and of blocks with so much overflow and a certificate that are accepted: two price lists are made,
-/// and each serves where it shows more.
+/// What two price lists show of a design, and of blocks with so much overflow and a certificate that are accepted: each list
+/// serves where it shows more.
+fn finding_by<R: Threads + Sync>(
+    rt: &R,
+    alloc: Global,
+    grounded: GroundedDesign,
+    blocks: &BlockList,
+    cert: Cert,
+    overflow: u64,
+    cuts: &HotCuts,
+) -> Result<Finding, NoMemory>
+    requires grounds { AreGrounds grounded.design.grid grounded.design.nets grounded.grounds.items }
+    requires cert { IsCertWithin cert }
+    requires judged { IsJudged grounded.design grounded.grounds.items blocks.now cert None }
+    requires bounds { StatesBound grounded.design cert }
+    requires overflow { IsOverflowOfBlocks grounded.design blocks.now overflow }
+    requires for_bound { AreEdgePrices grounded.design.grid cuts.now.for_bound.items }
+    requires for_overflow { AreEdgePrices grounded.design.grid cuts.now.for_overflow.items }
+    ensures finding { IfOk result (IsFinding grounded.grounds.items blocks.now cert) }
+    ensures design { IfOk result (λ finding. finding.design ≡ grounded.design) }
+    ensures first { IfOk result (ShowsNoLess cuts.now.for_bound.items) }
+    ensures second { IfOk result (ShowsNoLess cuts.now.for_overflow.items) }
+{
+    let GroundedDesign { design, grounds } = grounded;
+    let (first, second) = shown_lists(rt, alloc, &design, grounds.as_slice(), cuts)?;
+    let most = best_for_overflow(first, second);
+    let cut = cut_of(alloc, &design, most)?;
+    let better = improve(alloc, &design, cert, best_for_bound(first, second))?;
+    Ok(Finding {
+        design,
+        new: better.cert,
+        bottleneck: better.edges,
+        overflow: most.shown.overflow,
+        cut,
+        routes: overflow,
+    })
+}
+
+/// What is found of a design, and of blocks with so much overflow and a certificate that are accepted, by two price lists on the
+/// fullest tile edges of their routes.
 pub(crate) fn finding_of<R: Threads + Sync>(
     rt: &R,
     alloc: Global,
@@ -75,18 +113,7 @@ pub(crate) fn finding_of<R: Threads + Sync>(
     ensures finding { IfOk result (IsFinding grounded.grounds.items blocks.now cert) }
     ensures design { IfOk result (λ finding. finding.design ≡ grounded.design) }
 {
-    let GroundedDesign { design, grounds } = grounded;
-    let cuts = cuts_of(alloc, &design, grounds.as_slice(), blocks)?;
-    let (first, second) = shown_lists(rt, alloc, &design, grounds.as_slice(), &cuts)?;
-    let most = best_for_overflow(first, second);
-    let cut = cut_of(alloc, &design, most)?;
-    let better = improve(alloc, &design, cert, best_for_bound(first, second))?;
-    Ok(Finding {
-        design,
-        new: better.cert,
-        bottleneck: better.edges,
-        overflow: most.shown.overflow,
-        cut,
-        routes: overflow,
-    })
+    let grounds = grounded.grounds.as_slice();
+    let cuts = cuts_of(alloc, &grounded.design, grounds, blocks)?;
+    finding_by(rt, alloc, grounded, blocks, cert, overflow, &cuts)
 }
