@@ -9,4 +9,6 @@
 #[cfg(test)]
 mod call_tests;
 #[cfg(test)]
+mod cut_tests;
+#[cfg(test)]
 mod runs;
