@@ -12,3 +12,7 @@ mod call_tests;
 mod cut_tests;
 #[cfg(test)]
 mod runs;
+#[cfg(test)]
+mod schedule;
+#[cfg(test)]
+mod schedule_tests;
