@@ -5,7 +5,8 @@ use std::alloc::Global;
 use std::test::Fail;
 use test_rows::number_of;
 
-fn port_of(word: &str) -> Option<Port> {
+/// The port of this name.
+pub fn port_of(word: &str) -> Option<Port> {
     match word {
         "In" => Some(Port::In),
         "RoutesIn" => Some(Port::RoutesIn),
@@ -31,18 +32,27 @@ fn call_of(word: &str) -> Option<CallKind> {
     }
 }
 
+/// The one call that fails: the `nth` of this kind at this port, counted from 0.
+pub fn failing_call(
+    alloc: Global,
+    port: &str,
+    call: &str,
+    nth: u32,
+) -> Result<Vec<FailedCall>, Fail> {
+    let port = port_of(port).ok_or("a port")?;
+    let call = call_of(call).ok_or("a call")?;
+    let mut failing = Vec::new(alloc);
+    failing.push(FailedCall { port, call, nth })?;
+    Ok(failing)
+}
+
 /// The call that a field names by its port and its kind, and maybe by how many such calls go before it: none where the field
 /// is empty.
 pub fn failing_of(alloc: Global, field: &'static str) -> Result<Vec<FailedCall>, Fail> {
-    let mut failing = Vec::new(alloc);
     if field.is_empty() {
-        return Ok(failing);
+        return Ok(Vec::new(alloc));
     }
     let (port, call) = field.split_once(' ').ok_or("a call that fails")?;
     let (call, nth) = call.split_once(' ').unwrap_or((call, "0"));
-    let port = port_of(port).ok_or("a port")?;
-    let call = call_of(call).ok_or("a call")?;
-    let nth = number_of(nth)?;
-    failing.push(FailedCall { port, call, nth })?;
-    Ok(failing)
+    failing_call(alloc, port, call, number_of(nth)?)
 }

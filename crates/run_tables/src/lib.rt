@@ -24,6 +24,6 @@ mod calls;
 mod left;
 mod told;
 
-pub use calls::failing_of;
+pub use calls::{failing_call, failing_of, port_of};
 pub use left::{Left, left_agrees, left_of};
-pub use told::{Told, desk_of, told_of, words_of};
+pub use told::{Told, desk_by_steps, desk_of, told_of, words_of};

@@ -1,5 +1,7 @@
 //! What a paragraph tells of a run.
 
+ghost use Rattle.std.specs.Prelude.{◌≤◌};
+
 use crate::calls::failing_of;
 use gr_desk::{Fail as FailedCall, MemDesk, Port};
 use std::alloc::{AllocError, Global};
@@ -86,6 +88,19 @@ pub fn desk_of(
     failing: Vec<FailedCall>,
     names: &[(Port, &str)],
 ) -> Result<MemDesk, AllocError> {
+    desk_by_steps(alloc, texts, failing, names, usize::MAX)
+}
+
+/// The same desk, whose reads and writes each move at most `step` bytes.
+pub fn desk_by_steps(
+    alloc: Global,
+    texts: Vec<Vec<u8>>,
+    failing: Vec<FailedCall>,
+    names: &[(Port, &str)],
+    step: usize,
+) -> Result<MemDesk, AllocError>
+    requires { 1 ≤ step }
+{
     let mut files = Vec::new(alloc);
     for (name, text) in FILES.iter().zip(texts) {
         files.push((String::from_str(alloc, name)?, text))?;
@@ -94,5 +109,5 @@ pub fn desk_of(
     for (port, name) in names {
         expected.push((*port, String::from_str(alloc, name)?))?;
     }
-    Ok(MemDesk::expecting(alloc, files, failing, expected))
+    Ok(MemDesk::expecting_by_steps(alloc, files, failing, expected, step))
 }

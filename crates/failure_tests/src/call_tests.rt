@@ -1,0 +1,195 @@
+//! Runs of which one call of the desk fails: every call that a run makes, each in a run of its own.
+
+ghost use Rattle.std.specs.Prelude.{◌≤◌};
+
+use crate::runs::{LEFT_AT, Run, after, are_same, place_of, run_of, text_at};
+use routing_stages::OpenGate;
+use run_tables::{Left, failing_call};
+use std::alloc::Global;
+use std::test::Fail;
+use std::thread::Threads;
+use test_rows::{agree, paragraphs_of};
+
+/// The ports, and the calls at each.
+const PORTS: &str = "In RoutesIn CertIn EditsIn RoutesOut CertOut DesignOut GuideOut MapOut Report";
+
+const CALLS: &str = "Open Create Read Write";
+
+/// The runs, and the status of each where no call fails. The last ones are refused: for the routes, for the design, and for the
+/// words.
+const RUNS: &str = "route a.gr a.routes a.cert
+ROW
+In RoutesOut CertOut
+0
+
+measure a.gr a.routes
+ROW|a 0;(5,5,1)-(25,5,1);!;
+In RoutesIn
+0
+
+judge a.gr a.routes a.cert
+ROW|a 0;(5,5,1)-(25,5,1);!;|grouter certificate 1;nets 1;forced 0;overflow 0;wirelength 2;peak 1/2;bound 1/2;prices 2;12758;12758;
+In RoutesIn CertIn
+0
+
+make made.gr --nets 2 --seed 7 --rows 2 --cols 2 --layers 2
+-
+DesignOut
+0
+
+unavoidable a.gr a.routes a.cert new.cert
+CUT|a 0;(5,5,1)-(15,5,1);!;b 1;(5,5,1)-(15,5,1);!;c 2;(5,15,1)-(15,15,1);!;|grouter certificate 1;nets 3;forced 0;overflow 2;wirelength 3;peak 2/1;bound 3/10;prices 4;1;1;1;1;
+In RoutesIn CertIn CertOut
+0
+
+measure a.gr a.routes
+ROW|
+In RoutesIn
+1
+
+route a.gr a.routes a.cert
+ROW 51 52 0
+In
+5
+
+measure a.gr
+ROW
+-
+2";
+
+/// How many calls of a kind a whole run makes at a port of which it moves so many bytes: it reads until nothing is left, and
+/// writes until nothing is left to be written.
+fn calls_of(port: &str, call: &str, bytes: usize, step: usize) -> usize
+    requires { 1 ≤ step }
+{
+    match call {
+        "Open" if port.ends_with("In") => 1,
+        "Read" if port.ends_with("In") => bytes.div_ceil(step).saturating_add(1),
+        "Create" if port.ends_with("Out") => 1,
+        "Write" if !port.ends_with("In") => bytes.div_ceil(step),
+        _ => 0,
+    }
+}
+
+/// How many calls of a kind a whole run makes at a port: none but at the report and where a name of its words belongs.
+fn calls_in(told: &Run, whole: &Left, port: &str, call: &str, step: usize) -> usize
+    requires { 1 ≤ step }
+{
+    let place = place_of(told.ports, port);
+    if port == "Report" || place < told.ports.split_whitespace().count() {
+        let bytes = match told.texts.get(place) {
+            Some(text) if port.ends_with("In") => text.len(),
+            _ => text_at(whole, port).len(),
+        };
+        calls_of(port, call, bytes, step)
+    } else {
+        0
+    }
+}
+
+/// The status of a run of which a call at this port fails.
+fn status_of<'a>(whole: &'a Left, port: &str) -> &'a str {
+    if port.ends_with("In") {
+        "6"
+    } else if port == "Report" && whole.status.as_str() != "0" {
+        whole.status.as_str()
+    } else {
+        "7"
+    }
+}
+
+/// Whether a run of which a call failed at a port left what it has to leave at another one. Ports before that one, in the order
+/// of work, have their whole texts, that one has a part of its text, and those behind it have nothing. The report tells the
+/// status, unless the call failed there.
+fn is_left(told: &Run, whole: &Left, left: &Left, failed: &str, port: &str) -> bool {
+    let (text, part) = (text_at(whole, port), text_at(left, port));
+    if port == failed {
+        return text.starts_with(part) && part.len() < text.len();
+    }
+    match port {
+        "Report" if failed.ends_with("In") => part == b"refused 6\n".as_slice(),
+        "Report" => part == b"refused 7\n".as_slice(),
+        _ if place_of(told.ports, port) < place_of(told.ports, failed) => part == text,
+        _ => part.is_empty(),
+    }
+}
+
+/// Whether a run of which a call failed at a port left what it has to leave.
+fn is_left_by(told: &Run, whole: &Left, left: &Left, failed: &str) -> bool {
+    for port in LEFT_AT.split_whitespace() {
+        if !is_left(told, whole, left, failed, port) {
+            return false;
+        }
+    }
+    true
+}
+
+/// Fails where a run ends otherwise than it has to, if each of its calls of this kind at this port fails, one in each run. Then the
+/// desk expects no name behind that of the port, so that a run strays which opens or creates one.
+fn calls_agree<R: Threads + Sync>(
+    rt: &R,
+    alloc: Global,
+    told: &Run,
+    whole: &Left,
+    step: usize,
+    port: &str,
+    call: &str,
+) -> Result<(), Fail>
+    requires { 1 ≤ step }
+{
+    let line = told.line;
+    let count = calls_in(told, whole, port, call, step) as u32;
+    for nth in 0..count {
+        let failing = failing_call(alloc, port, call, nth)?;
+        let names = place_of(told.ports, port).saturating_add(1);
+        let left = after(rt, alloc, told, failing, names, step, &OpenGate)?;
+        agree(line, left.status.as_str(), status_of(whole, port))?;
+        if !is_left_by(told, whole, &left, port) {
+            return Err(Fail::new(format_args!("{line}: {port} {call} {nth}")));
+        }
+    }
+    let failing = failing_call(alloc, port, call, count)?;
+    let left = after(rt, alloc, told, failing, usize::MAX, step, &OpenGate)?;
+    if are_same(&left, whole) {
+        Ok(())
+    } else {
+        Err(Fail::new(format_args!("{line}: {port} {call} {count}")))
+    }
+}
+
+/// Fails where a run ends otherwise than it has to, if one of its calls fails.
+fn failures_agree<R: Threads + Sync>(
+    rt: &R,
+    alloc: Global,
+    told: &Run,
+    step: usize,
+) -> Result<(), Fail>
+    requires { 1 ≤ step }
+{
+    let whole = after(
+        rt,
+        alloc,
+        told,
+        Vec::new(alloc),
+        usize::MAX,
+        step,
+        &OpenGate,
+    )?;
+    agree(told.line, whole.status.as_str(), told.rest)?;
+    for port in PORTS.split(' ') {
+        for call in CALLS.split(' ') {
+            calls_agree(rt, alloc, told, &whole, step, port, call)?;
+        }
+    }
+    Ok(())
+}
+
+#[test]
+fn every_call_that_fails_ends_its_run(rt: HostRuntime) -> Result<(), Fail> {
+    for paragraph in paragraphs_of(rt.alloc(), RUNS)? {
+        let told = run_of(rt.alloc(), paragraph)?;
+        failures_agree(&rt, rt.alloc(), &told, 1)?;
+        failures_agree(&rt, rt.alloc(), &told, 4096)?;
+    }
+    Ok(())
+}
