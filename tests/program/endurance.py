@@ -114,8 +114,10 @@ def try_one(grouter, words, files, end):
     if routed is None:
         return False
     judged = run([grouter, "judge", *files], end)
-    measured = judged and run([grouter, "measure", design, routes], end)
-    if not measured:
+    if judged is None:
+        return False
+    measured = run([grouter, "measure", design, routes], end)
+    if measured is None:
         return False
     if "yes" not in judged:
         raise Failed(f"the verdict is no yes: {judged}")

@@ -78,7 +78,7 @@ CROWDED_ROW|e0 e2;e0 e2;e0 e2;|edits 1 drop 1|done| 0 2/ e0 e2; e0 e2;/ 4 0 4 0 
 CROWDED_ROW|e0 e2;e0 e2;e0 e2;|edits 2 drop 1 add d 1 2 1 5 5 1 25 5 1|done| 0 2 1/ e0 e2; e0 e2; e0 e2;/ 6 0 6 0 0 0
 CROWDED_ROW|e0 e2;e0 e2;e0 e2;|edits 1 change 1 2 3 5 5 1 15 5 1|done| 0 1 2/ e0 e2; e0; e0 e2;/ 8 0 4 0 0 0
 CROWDED_ROW|e0 e2;e0 e2;e0 e2;|edits 1 change 0 0 1|done| 0 1 2/; e0 e2; e0 e2;/ 4 0 4 0 0 0
-# the first pin outside, below the first layer and above the last, and too wide
+# an unknown id, one that is there, the first pin outside, below the first layer and above the last, and too wide
 CROWDED_ROW|e0 e2;e0 e2;e0 e2;|edits 1 drop 9|62 0 9| 0 1 2/ e0 e2; e0 e2; e0 e2;/ 6 0 6 0 0 0
 CROWDED_ROW|e0 e2;e0 e2;e0 e2;|edits 2 drop 1 change 1 0 1|62 1 1| 0 2/ e0 e2; e0 e2;/ 4 0 4 0 0 0
 CROWDED_ROW|e0 e2;e0 e2;e0 e2;|edits 1 add d 2 0 1|63 0 2| 0 1 2/ e0 e2; e0 e2; e0 e2;/ 6 0 6 0 0 0
@@ -89,6 +89,9 @@ CROWDED_ROW|e0 e2;e0 e2;e0 e2;|edits 1 add d 3 2 1023 5 5 1 5 5 0|65 0 1| 0 1 2/
 CROWDED_ROW|e0 e2;e0 e2;e0 e2;|edits 2 drop 2 change 1 2 1 5 5 2 5 5 0|65 1 0| 0 1/ e0 e2; e0 e2;/ 4 0 4 0 0 0
 CROWDED_ROW|e0 e2;e0 e2;e0 e2;|edits 1 add d 3 1 1023 5 5 1|67 0| 0 1 2/ e0 e2; e0 e2; e0 e2;/ 6 0 6 0 0 0
 CROWDED_ROW|e0 e2;e0 e2;e0 e2;|edits 2 drop 2 change 1 1 1023 5 5 1|67 1| 0 1/ e0 e2; e0 e2;/ 4 0 4 0 0 0
+# a pin in a second row, to which no edge leads
+CROWDED_ROW 7 8 2|e0 e2;e0 e2;e0 e2;|edits 1 add d 3 3 1 5 5 1 15 5 1 5 15 1|68 0 2| 0 1 2/ e0 e2; e0 e2; e0 e2;/ 6 0 6 0 0 0 0 0 0 0 0 0
+CROWDED_ROW 7 8 2|e0 e2;e0 e2;e0 e2;|edits 2 drop 2 change 1 2 1 5 5 1 5 15 1|68 1 1| 0 1/ e0 e2; e0 e2;/ 4 0 4 0 0 0 0 0 0 0 0 0
 CROWDED_ROW|e0 e2;e0 e2;e0 e2;|edits 1 add d 3 2 1022 5 5 1 15 5 1|done| 0 1 2 3/ e0 e2; e0 e2; e0 e2; e0;/ 1029 0 6 0 0 0";
 
 #[test]

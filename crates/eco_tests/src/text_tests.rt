@@ -56,6 +56,7 @@ edits 0|
 edits 1 drop 1|drop 1,
 edits 2 drop 1 add d 1 2 1 5 5 1 25 5 1|drop 1,add 1 1 1 5 5 1; 25 5 1;,
 edits 1 change 4294967295 0 1023|change 4294967295 1023,
+edits 01 drop 007|drop 7,
 edits 1 add edits 0 1 0 -1099511627776 1099511627776 +7|add 5 0 0 -1099511627776 1099511627776 7;,
 # a token that is missing
 |61 0
@@ -75,6 +76,9 @@ edits 1 change 1 0 1024|61 19
 edits 1 change 1 16777217 1|61 17
 edits 1 change 1 1 1 1099511627777 0 1|61 21
 edits 1 change 1 1 1 0 0 1.0|61 25
+# in the second edit
+edits 2 drop 1 drop|61 19
+edits 2 drop 1 change 1 1 1024|61 26
 # a token behind the last edit
 edits 0 drop|61 8
 edits 1 drop 1 2|61 15";
