@@ -138,7 +138,9 @@ fn calls_agree<R: Threads + Sync>(
     requires { 1 ≤ step }
 {
     let line = told.line;
-    let count = calls_in(told, whole, port, call, step) as u32;
+    let Ok(count) = u32::try_from(calls_in(told, whole, port, call, step)) else {
+        return Err(Fail::new("more calls than can be counted"));
+    };
     for nth in 0..count {
         let failing = failing_call(alloc, port, call, nth)?;
         let names = place_of(told.ports, port).saturating_add(1);
