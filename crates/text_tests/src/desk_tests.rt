@@ -9,7 +9,6 @@ use gr_desk::{
 use std::alloc::{AllocError, Global};
 use std::fmt::Display;
 use std::io::ErrorKind;
-use std::os::unix::fs::symlink;
 use std::test::Fail;
 use std::{fs, io};
 
@@ -206,41 +205,6 @@ fn files_and_standard_output_are_reached(rt: HostRuntime) -> Result<(), Fail> {
     write_all(&mut desk, Port::Report, b"one net\n")?;
     fs::remove_file(&rt, "desk_test.txt")?;
     assert!(rt; desk.open(Port::In, "desk_test.txt").is_err());
-    Ok(())
-}
-
-// What was opened is whole after each of its names was refused, and what was made is not made anew. A device may be.
-#[test]
-fn a_file_that_was_opened_or_made_is_not_made_anew(rt: HostRuntime) -> Result<(), Fail> {
-    write_whole(&mut RealDesk::new(&rt), "design_test.txt", b"one net\n")?;
-    symlink(&rt, "design_test.txt", "soft_test.txt")?;
-    fs::hard_link(&rt, "design_test.txt", "hard_test.txt")?;
-    let mut desk = RealDesk::new(&rt);
-    desk.open(Port::In, "design_test.txt")?;
-    for name in [
-        "design_test.txt",
-        "./design_test.txt",
-        "soft_test.txt",
-        "hard_test.txt",
-    ] {
-        assert!(rt; desk.create(Port::RoutesOut, name).is_err(), "at {name}");
-    }
-    let read = read_port(rt.alloc(), &mut desk, Port::In, 100)?;
-    assert!(rt; read.as_slice() == b"one net\n".as_slice());
-    write_whole(&mut desk, "made_test.txt", b"!")?;
-    assert!(rt; desk.create(Port::CertOut, "./made_test.txt").is_err());
-    let read = read_whole(rt.alloc(), &mut desk, "made_test.txt", 100)?;
-    assert!(rt; read.as_slice() == b"!".as_slice());
-    desk.create(Port::CertOut, "/dev/null")?;
-    desk.create(Port::MapOut, "/dev/null")?;
-    for name in [
-        "design_test.txt",
-        "soft_test.txt",
-        "hard_test.txt",
-        "made_test.txt",
-    ] {
-        fs::remove_file(&rt, name)?;
-    }
     Ok(())
 }
 
