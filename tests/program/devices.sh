@@ -389,8 +389,8 @@ said 'refused 3 11 0 grid'
 judge 'an empty pipe' 3
 "$program" route /dev/stdin out.csv side.cert <&- >"$room/said" 2>"$room/complained"
 got=$?
-said 'refused 6'
-judge 'standard input that is closed' 6
+said 'refused 3 11 0 grid'
+judge 'standard input that is closed' 3
 
 mkfifo pipe.csv
 piped() {

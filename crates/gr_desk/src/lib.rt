@@ -26,6 +26,7 @@ mod memory;
 mod never_fails;
 mod open_files;
 mod pen;
+mod placeholders;
 mod port;
 mod reading;
 mod real;
