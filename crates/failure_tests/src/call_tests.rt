@@ -2,9 +2,10 @@
 
 ghost use Rattle.std.specs.Prelude.{◌≤◌};
 
-use crate::runs::{LEFT_AT, Run, after, are_same, place_of, run_of, text_at};
+use crate::few_exits::few_exits;
+use crate::runs::{LEFT_AT, Run, after, are_same, place_of, run_of, text_at, text_read};
 use routing_stages::OpenGate;
-use run_tables::{Left, failing_call};
+use run_tables::{Left, failing_call, left_agrees};
 use std::alloc::Global;
 use std::test::Fail;
 use std::thread::Threads;
@@ -15,47 +16,99 @@ const PORTS: &str = "In RoutesIn CertIn EditsIn RoutesOut CertOut DesignOut Guid
 
 const CALLS: &str = "Open Create Read Write";
 
-/// The runs, and the status of each where no call fails. The last ones are refused: for the routes, for the design, and for the
-/// words.
+/// The runs, and what each leaves where no call fails, as far as it is known on paper. The last ones are refused: for the routes, for the
+/// design, for an edit, and for the words.
 const RUNS: &str = "route a.gr a.routes a.cert
 ROW
 In RoutesOut CertOut
 0
+nets 1;forced 0;rounded 0;rounds 0;overflow 0;wirelength 2;peak 1/2;bound 1/2;
+a 0;(5,5,1)-(25,5,1);!;
+grouter certificate 1;nets 1;forced 0;overflow 0;wirelength 2;peak 1/2;bound 1/2;prices 2;12758;12758;
 
 measure a.gr a.routes
 ROW|a 0;(5,5,1)-(25,5,1);!;
 In RoutesIn
 0
+nets 1;forced 0;beyond 0;overflow 0;wirelength 2;peak 1/2;
 
 judge a.gr a.routes a.cert
 ROW|a 0;(5,5,1)-(25,5,1);!;|grouter certificate 1;nets 1;forced 0;overflow 0;wirelength 2;peak 1/2;bound 1/2;prices 2;12758;12758;
 In RoutesIn CertIn
 0
+yes;nets 1;forced 0;beyond 0;overflow 0;wirelength 2;peak 1/2;bound 1/2;
 
 make made.gr --nets 2 --seed 7 --rows 2 --cols 2 --layers 2
 -
 DesignOut
 0
+made 2 nets;
+-
+-
+?
+
+trial 7 --nets 1 --cols 2 --rows 2 --layers 2
+-
+-
+0
+nets 1;forced 0;rounded 0;rounds 0;overflow 0;wirelength 7;peak 1/4;bound 3/16;judge yes;
+
+guide a.gr a.routes a.guide
+ROW|a 0;(5,5,1)-(25,5,1);!;
+In RoutesIn GuideOut
+0
+guides 1;
+-
+-
+-
+a 0;(;0 0 30 10 1;);
+
+eco a.gr a.routes a.edits b.routes
+ROW|a 0;(5,5,1)-(25,5,1);!;||edits 1 add b 1 2 1 5 5 1 15 5 1;
+In RoutesIn EditsIn RoutesOut
+0
+nets 2;forced 0;kept 1;routed 1;overflow 0;wirelength 3;peak 1/1;
+a 0;(5,5,1)-(25,5,1);!;b 1;(5,5,1)-(15,5,1);!;
+
+climb a.gr a.routes a.cert b.cert --turns 2
+SQUARE|a 0;(5,5,1)-(15,5,1);(15,5,1)-(15,15,1);!;|grouter certificate 1;nets 1;forced 0;overflow 0;wirelength 2;peak 1/1;bound 5234/11613;prices 4;12758;10468;12758;10468;
+In RoutesIn CertIn CertOut
+0
+turn 2;bound 1/2;
+-
+grouter certificate 1;nets 1;forced 0;overflow 0;wirelength 2;peak 1/1;bound 1/2;prices 4;12758;12758;12758;12758;
 
 unavoidable a.gr a.routes a.cert new.cert
 CUT|a 0;(5,5,1)-(15,5,1);!;b 1;(5,5,1)-(15,5,1);!;c 2;(5,15,1)-(15,15,1);!;|grouter certificate 1;nets 3;forced 0;overflow 2;wirelength 3;peak 2/1;bound 3/10;prices 4;1;1;1;1;
 In RoutesIn CertIn CertOut
 0
+bound 3/2;bottleneck 2;(5,5,1)-(15,5,1) 32768;(5,15,1)-(15,15,1) 32768;overflow 2;cut 2;(5,5,1)-(15,5,1) 32768;(5,15,1)-(15,15,1) 32768;routes 2;
+-
+grouter certificate 1;nets 3;forced 0;overflow 2;wirelength 3;peak 2/1;bound 3/2;prices 4;32768;0;0;32768;
 
 measure a.gr a.routes
 ROW|
 In RoutesIn
 1
+no 43 0;
 
 route a.gr a.routes a.cert
 ROW 51 52 0
 In
 5
+refused 5 4 0 1;
+
+eco a.gr a.routes a.edits b.routes
+ROW|a 0;(5,5,1)-(25,5,1);!;||edits 1 drop 9;
+In RoutesIn EditsIn
+9
+refused 9 62 0 9;
 
 measure a.gr
 ROW
 -
-2";
+2
+refused 2;usage: grouter route|measure|judge|make|trial|eco|climb|guide;";
 
 /// How many calls of a kind a whole run makes at a port of which it moves so many bytes: it reads until nothing is left, and
 /// writes until nothing is left to be written.
@@ -77,9 +130,9 @@ fn calls_in(told: &Run, whole: &Left, port: &str, call: &str, step: usize) -> us
 {
     let place = place_of(told.ports, port);
     if port == "Report" || place < told.ports.split_whitespace().count() {
-        let bytes = match told.texts.get(place) {
-            Some(text) if port.ends_with("In") => text.len(),
-            _ => text_at(whole, port).len(),
+        let bytes = match text_read(told, port) {
+            Some(text) => text.len(),
+            None => text_at(whole, port).len(),
         };
         calls_of(port, call, bytes, step)
     } else {
@@ -177,7 +230,7 @@ fn failures_agree<R: Threads + Sync>(
         step,
         &OpenGate,
     )?;
-    agree(told.line, whole.status.as_str(), told.rest)?;
+    left_agrees(alloc, told.line, &whole, told.rest)?;
     for port in PORTS.split(' ') {
         for call in CALLS.split(' ') {
             calls_agree(rt, alloc, told, &whole, step, port, call)?;
@@ -194,4 +247,11 @@ fn every_call_that_fails_ends_its_run(rt: HostRuntime) -> Result<(), Fail> {
         failures_agree(&rt, rt.alloc(), &told, 4096)?;
     }
     Ok(())
+}
+
+#[test]
+fn every_call_of_the_worked_example_that_fails_ends_its_run(rt: HostRuntime) -> Result<(), Fail> {
+    let told = few_exits(rt.alloc())?;
+    failures_agree(&rt, rt.alloc(), &told, 1)?;
+    failures_agree(&rt, rt.alloc(), &told, 4096)
 }

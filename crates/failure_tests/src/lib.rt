@@ -11,6 +11,8 @@ mod call_tests;
 #[cfg(test)]
 mod cut_tests;
 #[cfg(test)]
+mod few_exits;
+#[cfg(test)]
 mod runs;
 #[cfg(test)]
 mod schedule;

@@ -17,6 +17,9 @@ use unavoidable_cli::run_unavoidable;
 /// The ports of the texts that a run leaves, in their order.
 pub const LEFT_AT: &str = "Report RoutesOut CertOut DesignOut GuideOut MapOut";
 
+/// The ports of the texts that a paragraph has, in their order.
+const READ_AT: &str = "In RoutesIn CertIn EditsIn";
+
 /// A run that a paragraph tells.
 #[derive(Drop)]
 pub struct Run {
@@ -24,7 +27,7 @@ pub struct Run {
     pub line: &'static str,
     /// The ports of the names among them.
     pub ports: &'static str,
-    /// The texts of the files that it reads, as far as it comes.
+    /// The texts of the design, the routes, the certificate and the edits, up to the last one that it reads, as far as it comes.
     pub texts: Vec<Vec<u8>>,
     /// The lines of the paragraph behind these.
     pub rest: &'static str,
@@ -35,7 +38,7 @@ pub fn run_of(alloc: Global, paragraph: &'static str) -> Result<Run, Fail> {
     let mut told = told_of(alloc, paragraph)?;
     let (ports, rest) = told.wanted.split_once('\n').unwrap_or((told.wanted, ""));
     let ports = if ports == "-" { "" } else { ports };
-    told.texts.truncate(inputs_of(ports));
+    told.texts.truncate(texts_for(ports));
     Ok(Run {
         line: told.line,
         ports,
@@ -44,8 +47,27 @@ pub fn run_of(alloc: Global, paragraph: &'static str) -> Result<Run, Fail> {
     })
 }
 
+/// How many texts a paragraph has up to that of the last port that is read from.
+fn texts_for(ports: &str) -> usize {
+    let mut texts: usize = 0;
+    for port in ports.split_whitespace() {
+        if port.ends_with("In") {
+            texts = place_of(READ_AT, port).saturating_add(1);
+        }
+    }
+    texts
+}
+
+/// The text that a run reads at a port, where there is one.
+pub fn text_read<'a>(told: &'a Run, port: &str) -> Option<&'a [u8]> {
+    match told.texts.get(place_of(READ_AT, port)) {
+        Some(text) => Some(text.as_slice()),
+        None => None,
+    }
+}
+
 /// How many of the ports are read from: the first ones.
-fn inputs_of(ports: &str) -> usize {
+pub fn inputs_of(ports: &str) -> usize {
     let mut inputs: usize = 0;
     for port in ports.split_whitespace() {
         if port.ends_with("In") {

@@ -1,4 +1,4 @@
-//! Runs of `route` whose workers wait for each other, on a drawn design of 200 nets.
+//! Runs of `route` whose workers wait for each other, on a drawn design and on ones whose parts are known on paper.
 
 use crate::runs::{Run, after, text_at};
 use crate::schedule::{Schedule, order_of};
@@ -7,12 +7,16 @@ use run_tables::Left;
 use std::alloc::Global;
 use std::test::Fail;
 use std::thread::Threads;
-use test_rows::{agree, four_fields, number_of, rows_of};
+use test_rows::{agree, four_fields, number_of, numbers_of, rows_of, three_fields};
+use worked_designs::design_text;
 
-/// The text of the design.
-fn made<R: Threads + Sync>(rt: &R, alloc: Global) -> Result<Vec<u8>, Fail> {
+/// How many phases there are where the words don't say it.
+const PHASES: u64 = 4;
+
+/// The text of a drawn design with 201 nets.
+fn drawn<R: Threads + Sync>(rt: &R, alloc: Global) -> Result<Vec<u8>, Fail> {
     let run = Run {
-        line: "make made.gr --seed 7",
+        line: "make made.gr --seed 7 --nets 201",
         ports: "DesignOut",
         texts: Vec::new(alloc),
         rest: "",
@@ -29,12 +33,24 @@ fn made<R: Threads + Sync>(rt: &R, alloc: Global) -> Result<Vec<u8>, Fail> {
     Ok(Vec::from_slice(alloc, text_at(&left, "DesignOut"))?)
 }
 
-/// The gate of a row, and its words.
-fn gate_of(row: &'static str) -> Result<(Schedule, &'static str), Fail> {
-    let (order, workers, last, words) = four_fields(row)?;
+/// The text of the row with so many nets, each from end to end. There is one way, and its edges have room for two nets, so where there
+/// are more each has a turn in every phase and in every round.
+fn crowded(alloc: Global, nets: u32) -> Result<Vec<u8>, Fail> {
+    let mut text = design_text(alloc, "ROW 119 144 ")?;
+    text.extend_from_slice(nets.to_string(alloc)?.as_bytes())?;
+    for k in 0..nets {
+        text.extend_from_slice(format!(in alloc; "\nn {k} 2 1 5 5 1 25 5 1")?.as_bytes())?;
+    }
+    text.extend_from_slice(b"\n0\n")?;
+    Ok(text)
+}
+
+/// The gate of an order, for the workers with these last turns.
+fn gate_of(alloc: Global, order: &str, lasts: &'static str, whole: u64) -> Result<Schedule, Fail> {
     let order = order_of(order).ok_or("an order")?;
-    let gate = Schedule::new(order, number_of(workers)?, number_of(last)?);
-    Ok((gate, words))
+    let lasts = numbers_of(alloc, lasts)?;
+    let gate = Schedule::new(order, lasts.as_slice(), PHASES, whole);
+    Ok(gate.ok_or("fewer workers")?)
 }
 
 /// What the words leave of the design, whose workers come to the gate. Fails where the judge doesn't say yes.
@@ -78,40 +94,57 @@ fn routed<R: Threads + Sync>(
     }
 }
 
-/// An order, how many workers there are, the last turn of each in a phase, and the words.
-const SCHEDULES: &str = "first behind second|2|99|route a.gr a.routes a.cert --workers 2
-first behind second|4|49|route a.gr a.routes a.cert --workers 4
-second behind first|2|99|route a.gr a.routes a.cert --workers 2
-second behind first|4|49|route a.gr a.routes a.cert --workers 4
-one by one|2|99|route a.gr a.routes a.cert --workers 2
-one by one|4|49|route a.gr a.routes a.cert --workers 4
-stretches|2|99|route a.gr a.routes a.cert --workers 2
-stretches|4|49|route a.gr a.routes a.cert --workers 4";
+/// An order, the last turn of each worker in a phase, and the words.
+const SCHEDULES: &str = "first behind second|99 100|route a.gr a.routes a.cert --workers 2
+first behind second|49 49 49 50|route a.gr a.routes a.cert --workers 4
+second behind first|99 100|route a.gr a.routes a.cert --workers 2
+second behind first|49 49 49 50|route a.gr a.routes a.cert --workers 4
+one by one|99 100|route a.gr a.routes a.cert --workers 2
+one by one|49 49 49 50|route a.gr a.routes a.cert --workers 4
+stretches|99 100|route a.gr a.routes a.cert --workers 2
+stretches|49 49 49 50|route a.gr a.routes a.cert --workers 4";
 
-/// There is repair in each of these runs.
+/// There is repair in each of these runs, of as many nets as it may be.
 #[test]
 fn whatever_workers_wait_for_the_routes_are_accepted(rt: HostRuntime) -> Result<(), Fail> {
-    let design = made(&rt, rt.alloc())?;
+    let design = drawn(&rt, rt.alloc())?;
     for row in rows_of(rt.alloc(), SCHEDULES)? {
-        let (gate, words) = gate_of(row)?;
+        let (order, lasts, words) = three_fields(row)?;
+        let gate = gate_of(rt.alloc(), order, lasts, PHASES)?;
         let left = routed(&rt, rt.alloc(), design.as_slice(), words, &gate)?;
         let report = str::from_utf8(text_at(&left, "Report"))?;
         assert!(rt; gate.was_kept() && gate.was_called_in_turn(), "{row}");
+        assert!(rt; gate.has_seen_whole() && gate.has_seen_more(), "{row}");
         assert!(rt; !report.contains("\nrounds 0\n"), "{row}");
     }
     Ok(())
 }
 
-/// Four workers in four phases, and no repair.
-const MEETING: &str = "together|4|49|route a.gr a.routes a.cert --workers 4 --rounds 0";
+/// How many nets there are, the last turn of each worker in a phase and in a round, how many rounds there are, and the words. The parts
+/// of four workers begin at the places 0, 50, 100 and 150 of 201 nets, at 0, 50, 101 and 151 of 202, and at 0, 50, 101 and 152 of
+/// 203. So of any two workers one has a turn more than the other for some number of nets.
+const PARTS: &str = "201|49 49 49 50|2|route a.gr a.routes a.cert --workers 4 --rounds 2
+202|49 50 49 50|1|route a.gr a.routes a.cert --workers 4 --rounds 1
+203|49 50 50 50|1|route a.gr a.routes a.cert --workers 4 --rounds 1
+201|99 100|1|route a.gr a.routes a.cert --workers 2 --rounds 1
+201|49 49 49 50|0|route a.gr a.routes a.cert --workers 4 --rounds 0";
 
-/// All four are in their turns at once. Each has 50 turns in each phase, which count from 0.
+/// All workers are in their turns at once, in the phases and in the rounds, and each has its own turns, which count from 0.
 #[test]
-fn four_workers_meet_and_count_their_turns(rt: HostRuntime) -> Result<(), Fail> {
-    let design = made(&rt, rt.alloc())?;
-    let (gate, words) = gate_of(MEETING)?;
-    routed(&rt, rt.alloc(), design.as_slice(), words, &gate)?;
-    assert!(rt; gate.was_kept() && gate.was_called_in_turn());
-    assert!(rt; gate.has_seen_all(4, 800));
+fn all_workers_meet_and_count_their_turns(rt: HostRuntime) -> Result<(), Fail> {
+    for row in rows_of(rt.alloc(), PARTS)? {
+        let (nets, lasts, rounds, words) = four_fields(row)?;
+        let design = crowded(rt.alloc(), number_of(nets)?)?;
+        let rounds: u64 = number_of(rounds)?;
+        let whole = PHASES.wrapping_add(rounds);
+        let gate = gate_of(rt.alloc(), "together", lasts, whole)?;
+        routed(&rt, rt.alloc(), design.as_slice(), words, &gate)?;
+        assert!(rt;
+            gate.met_in_phases() && gate.met_in_rounds() == (rounds > 0),
+            "{row}"
+        );
+        assert!(rt; gate.was_called_in_turn(), "{row}");
+        assert!(rt; gate.has_seen_whole() && !gate.has_seen_more(), "{row}");
+    }
     Ok(())
 }
