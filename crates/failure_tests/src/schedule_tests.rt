@@ -10,13 +10,13 @@ use std::thread::Threads;
 use test_rows::{agree, four_fields, number_of, numbers_of, rows_of, three_fields};
 use worked_designs::design_text;
 
-/// How many phases there are where the words don't say it.
-const PHASES: u64 = 4;
+/// How many phases there are in each run, as its words say.
+const PHASES: u64 = 2;
 
 /// The text of a drawn design with 201 nets.
 fn drawn<R: Threads + Sync>(rt: &R, alloc: Global) -> Result<Vec<u8>, Fail> {
     let run = Run {
-        line: "make made.gr --seed 7 --nets 201",
+        line: "make made.gr --seed 7 --nets 201 --cols 12 --rows 12",
         ports: "DesignOut",
         texts: Vec::new(alloc),
         rest: "",
@@ -95,14 +95,14 @@ fn routed<R: Threads + Sync>(
 }
 
 /// An order, the last turn of each worker in a phase, and the words.
-const SCHEDULES: &str = "first behind second|99 100|route a.gr a.routes a.cert --workers 2
-first behind second|49 49 49 50|route a.gr a.routes a.cert --workers 4
-second behind first|99 100|route a.gr a.routes a.cert --workers 2
-second behind first|49 49 49 50|route a.gr a.routes a.cert --workers 4
-one by one|99 100|route a.gr a.routes a.cert --workers 2
-one by one|49 49 49 50|route a.gr a.routes a.cert --workers 4
-stretches|99 100|route a.gr a.routes a.cert --workers 2
-stretches|49 49 49 50|route a.gr a.routes a.cert --workers 4";
+const SCHEDULES: &str = "first behind second|99 100|route a.gr a.routes a.cert --workers 2 --phases 2 --rounds 1
+first behind second|49 49 49 50|route a.gr a.routes a.cert --workers 4 --phases 2 --rounds 1
+second behind first|99 100|route a.gr a.routes a.cert --workers 2 --phases 2 --rounds 1
+second behind first|49 49 49 50|route a.gr a.routes a.cert --workers 4 --phases 2 --rounds 1
+one by one|99 100|route a.gr a.routes a.cert --workers 2 --phases 2 --rounds 1
+one by one|49 49 49 50|route a.gr a.routes a.cert --workers 4 --phases 2 --rounds 1
+stretches|99 100|route a.gr a.routes a.cert --workers 2 --phases 2 --rounds 1
+stretches|49 49 49 50|route a.gr a.routes a.cert --workers 4 --phases 2 --rounds 1";
 
 /// There is repair in each of these runs, of as many nets as it may be.
 #[test]
@@ -123,11 +123,11 @@ fn whatever_workers_wait_for_the_routes_are_accepted(rt: HostRuntime) -> Result<
 /// How many nets there are, the last turn of each worker in a phase and in a round, how many rounds there are, and the words. The parts
 /// of four workers begin at the places 0, 50, 100 and 150 of 201 nets, at 0, 50, 101 and 151 of 202, and at 0, 50, 101 and 152 of
 /// 203. So of any two workers one has a turn more than the other for some number of nets.
-const PARTS: &str = "201|49 49 49 50|2|route a.gr a.routes a.cert --workers 4 --rounds 2
-202|49 50 49 50|1|route a.gr a.routes a.cert --workers 4 --rounds 1
-203|49 50 50 50|1|route a.gr a.routes a.cert --workers 4 --rounds 1
-201|99 100|1|route a.gr a.routes a.cert --workers 2 --rounds 1
-201|49 49 49 50|0|route a.gr a.routes a.cert --workers 4 --rounds 0";
+const PARTS: &str = "201|49 49 49 50|3|route a.gr a.routes a.cert --workers 4 --phases 2 --rounds 3
+202|49 50 49 50|2|route a.gr a.routes a.cert --workers 4 --phases 2 --rounds 2
+203|49 50 50 50|2|route a.gr a.routes a.cert --workers 4 --phases 2 --rounds 2
+201|99 100|2|route a.gr a.routes a.cert --workers 2 --phases 2 --rounds 2
+201|49 49 49 50|0|route a.gr a.routes a.cert --workers 4 --phases 2 --rounds 0";
 
 /// All workers are in their turns at once, in the phases and in the rounds, and each has its own turns, which count from 0.
 #[test]
