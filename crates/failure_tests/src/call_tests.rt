@@ -16,8 +16,8 @@ const PORTS: &str = "In RoutesIn CertIn EditsIn RoutesOut CertOut DesignOut Guid
 
 const CALLS: &str = "Open Create Read Write";
 
-/// The runs, and what each leaves where no call fails, as far as it is known on paper. The last ones are refused: for the routes, for the
-/// design, for an edit, and for the words.
+/// The runs, and what each leaves where no call fails, as far as it is known on paper. The last ones are refused: for the
+/// routes, for the design, for an edit, and for the words.
 const RUNS: &str = "route a.gr a.routes a.cert
 ROW
 In RoutesOut CertOut

@@ -8,9 +8,9 @@ use std::test::Fail;
 use std::thread::Threads;
 use test_rows::{agree, four_fields, paragraphs_of, rows_of, text_of, three_fields, two_numbers};
 
-/// A run, and what becomes of it where the last of its texts is cut: between which two lengths the text ends, the status, and what
-/// the report begins with, or what it is where a line end stands behind it; there `@` is the length. With status 0 the run ends as that
-/// on the whole text, unless a fourth field has its routes.
+/// A run, and what becomes of it where the last of its texts is cut: between which two lengths the text ends, the status, and
+/// what the report begins with, or what it is where a line end stands behind it; there `@` is the length. With status 0 the run
+/// ends as that on the whole text, unless a fourth field has its routes.
 ///
 /// Each length was found by hand. A design may end behind its last net. A cut number is still a number and a cut word none, so a
 /// text is refused for a word, a number or a mark that is missing or cut: up to the last one. The last price may be cut to any of
@@ -18,9 +18,9 @@ use test_rows::{agree, four_fields, paragraphs_of, rows_of, text_of, three_field
 /// half of what their capacities cost, and a budget of 4 pieces for 2 as well. In the last one the 8 pieces of the budget cost 80,
 /// the edge with room for 4 costs 60, and the net 50 of these 140; where the edge's price is 1 and not 15, it costs 22 of 84.
 ///
-/// Of edits a cut word is refused where it begins, and what is missing at the text's length. The first text ends in the id of the net that
-/// goes, of which the first digit is the id of another one; the second in a layer, of which the first digit is no layer, and it has a sign
-/// that is no number when its digit is cut off.
+/// Of edits a cut word is refused where it begins, and what is missing at the text's length. The first text ends in the id of
+/// the net that goes, of which the first digit is the id of another one; the second in a layer, of which the first digit is no
+/// layer, and it has a sign that is no number when its digit is cut off.
 const CUTS: &str = "route a.gr a.routes a.cert
 ROW
 In RoutesOut CertOut

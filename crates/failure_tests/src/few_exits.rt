@@ -158,8 +158,8 @@ prices 33
 3518
 ";
 
-/// What is left where no call fails: the status, what is found, and a certificate. In every mixture the three edges have 16 of 12, and
-/// in every routing 4 too much.
+/// What is left where no call fails: the status, what is found, and a certificate. In every mixture the three edges have 16 of
+/// 12, and in every routing 4 too much.
 const LEFT: &str = "0
 bound 4/3;bottleneck 3;(15,15,1)-(25,15,1) 32768;(35,25,1)-(45,25,1) 32768;(25,25,2)-(25,35,2) 32768;overflow 4;cut 3;(15,15,1)-(25,15,1) 32768;(35,25,1)-(45,25,1) 32768;(25,25,2)-(25,35,2) 32768;routes 4;
 -

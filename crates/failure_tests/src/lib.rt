@@ -1,8 +1,8 @@
 //! The tests of what goes wrong, and of what may go one way or another: each call of a run that fails, texts that end early, and
 //! workers that wait for each other.
 //!
-//! It stands on `router_cli` and `unavoidable_cli` for the runs, on `run_tables` for what a table tells of one, on `worked_designs` for
-//! designs, and on `routing_stages` for gates. Nothing stands on it.
+//! It stands on `router_cli` and `unavoidable_cli` for the runs, on `run_tables` for what a table tells of one, on
+//! `worked_designs` for designs, and on `routing_stages` for gates. Nothing stands on it.
 
 #![tactic(auto)]
 

@@ -108,8 +108,9 @@ impl Gate for Schedule {
 }
 
 impl Schedule {
-    /// A gate that nobody came to, for as many workers as there are last turns. Each has a part in each of so many phases and, behind
-    /// them, in rounds. Its first `whole` parts are of all nets and end with that turn; how long the others are isn't known.
+    /// A gate that nobody came to, for as many workers as there are last turns. Each has a part in each of so many phases and,
+    /// behind them, in rounds. Its first `whole` parts are of all nets and end with that turn; how long the others are isn't
+    /// known.
     pub fn new(order: Order, lasts: &[u64], phases: u64, whole: u64) -> Option<Schedule> {
         let workers = u32::try_from(lasts.len()).ok()?;
         Some(Schedule {

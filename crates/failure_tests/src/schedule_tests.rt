@@ -33,8 +33,8 @@ fn drawn<R: Threads + Sync>(rt: &R, alloc: Global) -> Result<Vec<u8>, Fail> {
     Ok(Vec::from_slice(alloc, text_at(&left, "DesignOut"))?)
 }
 
-/// The text of the row with so many nets, each from end to end. There is one way, and its edges have room for two nets, so where there
-/// are more each has a turn in every phase and in every round.
+/// The text of the row with so many nets, each from end to end. There is one way, and its edges have room for two nets, so
+/// where there are more each has a turn in every phase and in every round.
 fn crowded(alloc: Global, nets: u32) -> Result<Vec<u8>, Fail> {
     let mut text = design_text(alloc, "ROW 119 144 ")?;
     text.extend_from_slice(nets.to_string(alloc)?.as_bytes())?;
@@ -95,7 +95,8 @@ fn routed<R: Threads + Sync>(
 }
 
 /// An order, the last turn of each worker in a phase, and the words.
-const SCHEDULES: &str = "first behind second|99 100|route a.gr a.routes a.cert --workers 2 --phases 2 --rounds 1
+const SCHEDULES: &str =
+    "first behind second|99 100|route a.gr a.routes a.cert --workers 2 --phases 2 --rounds 1
 first behind second|49 49 49 50|route a.gr a.routes a.cert --workers 4 --phases 2 --rounds 1
 second behind first|99 100|route a.gr a.routes a.cert --workers 2 --phases 2 --rounds 1
 second behind first|49 49 49 50|route a.gr a.routes a.cert --workers 4 --phases 2 --rounds 1
@@ -120,9 +121,9 @@ fn whatever_workers_wait_for_the_routes_are_accepted(rt: HostRuntime) -> Result<
     Ok(())
 }
 
-/// How many nets there are, the last turn of each worker in a phase and in a round, how many rounds there are, and the words. The parts
-/// of four workers begin at the places 0, 50, 100 and 150 of 201 nets, at 0, 50, 101 and 151 of 202, and at 0, 50, 101 and 152 of
-/// 203. So of any two workers one has a turn more than the other for some number of nets.
+/// How many nets there are, the last turn of each worker in a phase and in a round, how many rounds there are, and the words.
+/// The parts of four workers begin at the places 0, 50, 100 and 150 of 201 nets, at 0, 50, 101 and 151 of 202, and at 0, 50,
+/// 101 and 152 of 203. So of any two workers one has a turn more than the other for some number of nets.
 const PARTS: &str = "201|49 49 49 50|3|route a.gr a.routes a.cert --workers 4 --phases 2 --rounds 3
 202|49 50 49 50|2|route a.gr a.routes a.cert --workers 4 --phases 2 --rounds 2
 203|49 50 50 50|2|route a.gr a.routes a.cert --workers 4 --phases 2 --rounds 2
