@@ -3,15 +3,17 @@
 
     tests/program/refused_memory.py [--most N] [--only TEXT] [GROUTER [UNAVOIDABLE [REROUTE [CONGESTION_MAP]]]]
 
-By hand, outside the gate: some twenty minutes on a processor of its own, of which the runs of `trial` take ten; with --most 300 some
-five. Without words it takes the programs that `rt ci` left in crates/*/out; --only runs the lines alone that have TEXT in them. It wants `cc` and `nm`: tests/program/refuse_memory.c is
+By hand, outside the gate: some fifteen minutes on a processor of its own; with --most 300 some five, and with --most 100000, where
+each call of `trial` is refused alone too, an hour. Without words it takes the programs that `rt ci` left in crates/*/out; --only runs the lines alone that have TEXT in them. It wants `cc` and `nm`: tests/program/refuse_memory.c is
 built, and preloaded into each run.
 
 A line of the table below is first run whole, and then with its first call for memory refused, its second one, and so on, until a
 run comes to its end without a refusal. That is done twice: the call alone is refused, and nothing stands under the names of the
 outputs; and all later calls are refused too, and the outputs are files that were there before. Then the starts of threads are
 refused in the same two ways. Where a line has more than N calls (3000 for both ways), the first and the last tenth of N are
-refused, and others at equal distances. Of each run it is asked that
+refused, and others at equal distances. A line without outputs is run once for each way of refusing calls, and goes on in a process of
+its own from each call that is refused; there all calls are refused with all later ones, and alone those at equal distances, at most N
+for both ways. Of each run it is asked that
 
 - it ends with 8, or with the status of the whole run, or with 7 where that is 0; by no signal, and within a minute (one that takes
   longer is named, and run once more);
@@ -123,7 +125,7 @@ class Room:
                 found[entry.name] = file.read()
         return found
 
-    def run(self, words, before, **refused):
+    def run(self, words, before, seconds=SECONDS, **refused):
         """One run, with BEFORE under each of some names. What it made are the files that are no inputs."""
         self.counts[:] = bytes(32)
         for name in before:
@@ -131,7 +133,7 @@ class Room:
                 file.write(BEFORE)
         name, *words = words.split()
         ended = subprocess.run([self.programs[name], *words], cwd=self.files, stdin=subprocess.DEVNULL, capture_output=True, close_fds=False,
-                               env=dict(self.env, **{key: str(value) for key, value in refused.items()}), timeout=SECONDS)
+                               env=dict(self.env, **{key: str(value) for key, value in refused.items()}), timeout=seconds)
         calls, calls_refused, threads, threads_refused = struct.unpack("4Q", self.counts[:])
         texts = self.texts()
         made = {name: text for name, text in texts.items() if name not in self.inputs}
@@ -143,6 +145,24 @@ class Room:
                 file.write(self.inputs[name])
         assert not changed, f"inputs were changed: {' '.join(changed)}"
         return Run(ended.returncode, ended.stdout, ended.stderr, made, calls, threads, calls_refused + threads_refused)
+
+    def parted(self, words, each, later):
+        """One run of a line without outputs from which a process is parted at each call whose number is a multiple of EACH: the
+        numbers of these calls, and how the processes ended to which they were refused."""
+        forks = self.tally + ".forks"
+        run = self.run(words, [], None, REFUSE_FORKS=forks, REFUSE_EACH=each, **later)
+        assert not run.made, f"there are {' '.join(sorted(run.made))}"
+        with open(forks, "rb") as file:
+            told = file.read()
+        os.remove(forks)
+        found, at = [], 0
+        while at < len(told):
+            number, status, length = struct.unpack_from("3Q", told, at)
+            at += 24 + length
+            assert status != 2**64 - 1, f"call {number} comes beside other threads"
+            found.append((number, Run(os.waitstatus_to_exitcode(status), told[at - length:at], b"", {}, 0, 0, 1)))
+        assert [number for number, _ in found] == list(range(each, run.calls + 1, each)), "calls are left out"
+        return found
 
     def in_time(self, words, before, **refused):
         """One run, or its second one where the first takes too long: the machine may have been busy."""
@@ -219,9 +239,15 @@ def try_line(room, words, outputs, most):
         is_sample = is_sample or count > most // 2
         names = [word for word in words.split() if word.startswith("out.")] if later else []
         spoke = 0
-        for number in numbers(count, most // 2):
+        all_later = {"REFUSE_LATER": 1} if later else {}
+        if kind == "memory" and not outputs:
+            each = 1 if later else max(1, -(-count // (most // 2)))
+            attempts = ((number, lambda: run) for number, run in room.parted(words, each, all_later))
+        else:
+            attempts = ((number, lambda: room.in_time(words, names, **{variable: number}, **all_later)) for number in numbers(count, most // 2))
+        for number, attempt in attempts:
             try:
-                run = room.in_time(words, names, **{variable: number}, **({"REFUSE_LATER": 1} if later else {}))
+                run = attempt()
                 if not run.refused and number > count and run.status == whole.status:
                     break
                 ended[run.status] += 1

@@ -3,11 +3,11 @@
 use std::fs;
 use std::rt::Files;
 
-/// The file that is opened, to read alone: it can be opened everywhere, and no write to it succeeds.
-const NOTHING: &str = "/dev/null";
+/// What is opened, to read alone. A folder is there everywhere, and no read and no write of it succeeds.
+const FOLDER: &str = "/";
 
-/// Three files, as many as there are standard streams. The system gives a file that is opened the least number that is
-/// free. So where input, output or error was closed before the run, its number is that of one of these.
+/// A folder that is open three times, as often as there are standard streams. The system gives what is opened the least
+/// number that is free. So where input, output or error was closed before the run, its number is that of the folder.
 #[derive(Drop)]
 pub(crate) struct Placeholders<F> {
     _first: Option<F>,
@@ -16,12 +16,12 @@ pub(crate) struct Placeholders<F> {
 }
 
 impl<F> Placeholders<F> {
-    /// Three files of this runtime, as far as it has them.
+    /// The folder, opened by this runtime as often as it does so.
     pub fn open<R: Files<File = F>>(rt: &R) -> Placeholders<F> {
         Placeholders {
-            _first: fs::open(rt, NOTHING).ok(),
-            _second: fs::open(rt, NOTHING).ok(),
-            _third: fs::open(rt, NOTHING).ok(),
+            _first: fs::open(rt, FOLDER).ok(),
+            _second: fs::open(rt, FOLDER).ok(),
+            _third: fs::open(rt, FOLDER).ok(),
         }
     }
 }
