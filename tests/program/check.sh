@@ -1000,6 +1000,33 @@ unmade 'no certificate where the routes are the design' a.cert
 expect 'a certificate that is the routes under another spelling' 7 'refused 7' route one_net.gr a.routes ./a.routes
 made 'routes that no certificate replaced' a.routes "$examples/one_net.routes"
 
+# no file is made anew that standard output goes to, and none gets the number of a standard stream that is closed
+cp one_net.gr own.gr
+printf '%s\n' 'refused 7' | cat one_net.gr - >"$room/whole"
+# shellcheck disable=SC2094
+"$program" make own.gr --nets 2 </dev/null >>own.gr 2>"$room/complained"
+got=$?
+: >"$room/wanted"
+: >"$room/said"
+judge 'a design in the place of standard output' 7
+made 'a report that no design lies on' own.gr "$room/whole"
+"$program" route one_net.gr a.routes a.cert </dev/null >&- 2>"$room/complained"
+got=$?
+: >"$room/wanted"
+: >"$room/said"
+judge 'a report without standard output' 7
+made 'its routes, without the report' a.routes "$examples/one_net.routes"
+made 'its certificate, without the report' a.cert "$examples/one_net.cert"
+"$program" make /dev/stderr --nets 2 </dev/null >"$room/said" 2>&-
+got=$?
+printf '%s\n' 'refused 7' >"$room/wanted"
+: >"$room/complained"
+judge 'a design to a standard error that is closed' 7
+"$program" measure one_net.gr /dev/stdin <&- >"$room/said" 2>"$room/complained"
+got=$?
+printf '%s\n' 'refused 6' >"$room/wanted"
+judge 'routes from a standard input that is closed' 6
+
 expect_unheard 'a refusal that can not be said: no command' 2 route
 expect_unheard 'a refusal that can not be said: a missing file' 6 route missing.gr a.routes a.cert
 

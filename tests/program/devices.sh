@@ -262,9 +262,10 @@ limit() {
 }
 for_outputs limit
 
-# With few files open at once the run is whole, or an input or an output can't be opened; what is made is whole.
+# With few files open at once the run is whole, or an input or an output can't be opened; what is made is whole. Three are held where
+# standard streams might be closed.
 few_files() {
-    for many in 4 5 6 7; do
+    for many in 4 6 7 8 9 10; do
         title="$output: no more than $((many - 3)) open files beside the three of the shell"
         # shellcheck disable=SC2046
         set -- $(with out.csv)
@@ -389,8 +390,15 @@ said 'refused 3 11 0 grid'
 judge 'an empty pipe' 3
 "$program" route /dev/stdin out.csv side.cert <&- >"$room/said" 2>"$room/complained"
 got=$?
-said 'refused 3 11 0 grid'
-judge 'standard input that is closed' 3
+said 'refused 6'
+judge 'standard input that is closed' 6
+for stream in /dev/stderr /dev/fd/2; do
+    "$program" make $stream </dev/null >"$room/said" 2>&-
+    got=$?
+    : >"$room/complained"
+    said 'refused 7'
+    judge "a design to $stream, which is closed" 7
+done
 
 mkfifo pipe.csv
 piped() {

@@ -54,6 +54,8 @@ LINES = [
     ("grouter route one_net.gr out.routes out.cert", ["out.routes", "out.cert"]),
     # the only net has the only route, so two workers write the same each time; each splits its share of the loads
     ("grouter route one_net.gr out.routes out.cert --workers 2", ["out.routes", "out.cert"]),
+    # neither have its nets another one, and each is routed again in every round
+    ("grouter route crowded.gr out.routes out.cert --workers 2", ["out.routes", "out.cert"]),
     ("grouter route detour.gr out.routes out.cert --phases 1", ["out.routes", "out.cert"]),
     ("grouter route three_layers.gr out.routes out.cert --budget 10", ["out.routes", "out.cert"]),
     ("grouter route few_exits.gr out.routes out.cert", ["out.routes", "out.cert"]),
@@ -110,6 +112,10 @@ class Room:
         shutil.copytree(f"{TOP}/examples", self.files)
         with open(os.path.join(self.files, "wrong.edits"), "w", encoding="ascii") as edits:
             edits.write("edits 3 drop 1 drop 2 change 7 0 1")
+        with open(os.path.join(self.files, "one_net.gr"), encoding="ascii") as text:
+            header = text.read().partition("num net")[0]
+        with open(os.path.join(self.files, "crowded.gr"), "w", encoding="ascii") as text:
+            text.write(header + "num net 5\n" + "".join(f"n {net} 2 1\n5 5 1\n25 5 1\n" for net in range(5)) + "0\n")
         self.inputs = self.texts()
         self.tally = os.path.join(room, "tally")
         with open(self.tally, "wb") as tally:

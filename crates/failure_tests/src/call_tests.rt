@@ -246,6 +246,6 @@ fn every_call_that_fails_ends_its_run(rt: HostRuntime) -> Result<(), Fail> {
 #[test]
 fn every_call_of_the_worked_example_that_fails_ends_its_run(rt: HostRuntime) -> Result<(), Fail> {
     let told = few_exits(rt.alloc())?;
-    failures_agree(&rt, rt.alloc(), &told, 64)?;
+    failures_agree(&rt, rt.alloc(), &told, 1)?;
     failures_agree(&rt, rt.alloc(), &told, 4096)
 }

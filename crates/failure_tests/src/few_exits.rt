@@ -163,7 +163,7 @@ prices 33
 const LEFT: &str = "0
 bound 4/3;bottleneck 3;(15,15,1)-(25,15,1) 32768;(35,25,1)-(45,25,1) 32768;(25,25,2)-(25,35,2) 32768;overflow 4;cut 3;(15,15,1)-(25,15,1) 32768;(35,25,1)-(45,25,1) 32768;(25,25,2)-(25,35,2) 32768;routes 4;
 -
-?";
+grouter certificate 1;nets 8;forced 0;overflow 4;wirelength 59;peak 3/2;bound 4/3;prices 33;0;0;0;0;0;0;32768;0;0;0;0;32768;0;0;0;0;0;0;0;0;0;0;0;0;0;0;0;0;0;0;32768;0;0;";
 
 /// The run of `unavoidable` on it.
 pub fn few_exits(alloc: Global) -> Result<Run, Fail> {

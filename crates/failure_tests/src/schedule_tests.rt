@@ -7,16 +7,22 @@ use run_tables::Left;
 use std::alloc::Global;
 use std::test::Fail;
 use std::thread::Threads;
-use test_rows::{agree, four_fields, number_of, numbers_of, rows_of, three_fields};
+use test_rows::{agree, four_fields, number_of, numbers_of, rows_of};
 use worked_designs::design_text;
 
 /// How many phases there are in each run, as its words say.
 const PHASES: u64 = 2;
 
-/// The text of a drawn design with 201 nets.
-fn drawn<R: Threads + Sync>(rt: &R, alloc: Global) -> Result<Vec<u8>, Fail> {
+/// A design of 201 nets with so little room that repair is of no use where four workers come.
+const CROWDED: &str = "make made.gr --seed 7 --nets 201 --cols 12 --rows 12";
+
+/// A design of 101 nets, of whose overflow repair by two workers takes the most away.
+const ROOMY: &str = "make made.gr --seed 7 --nets 101";
+
+/// The text of a drawn design.
+fn drawn<R: Threads + Sync>(rt: &R, alloc: Global, line: &'static str) -> Result<Vec<u8>, Fail> {
     let run = Run {
-        line: "make made.gr --seed 7 --nets 201 --cols 12 --rows 12",
+        line,
         ports: "DesignOut",
         texts: Vec::new(alloc),
         rest: "",
@@ -94,29 +100,44 @@ fn routed<R: Threads + Sync>(
     }
 }
 
-/// An order, the last turn of each worker in a phase, and the words.
+/// How many nets there are, an order, the last turn of each worker in a phase, and the words. Two workers route the design of 101
+/// nets, and four that of 201.
 const SCHEDULES: &str =
-    "first behind second|99 100|route a.gr a.routes a.cert --workers 2 --phases 2 --rounds 1
-first behind second|49 49 49 50|route a.gr a.routes a.cert --workers 4 --phases 2 --rounds 1
-second behind first|99 100|route a.gr a.routes a.cert --workers 2 --phases 2 --rounds 1
-second behind first|49 49 49 50|route a.gr a.routes a.cert --workers 4 --phases 2 --rounds 1
-one by one|99 100|route a.gr a.routes a.cert --workers 2 --phases 2 --rounds 1
-one by one|49 49 49 50|route a.gr a.routes a.cert --workers 4 --phases 2 --rounds 1
-stretches|99 100|route a.gr a.routes a.cert --workers 2 --phases 2 --rounds 1
-stretches|49 49 49 50|route a.gr a.routes a.cert --workers 4 --phases 2 --rounds 1";
+    "101|first behind second|49 50|route a.gr a.routes a.cert --workers 2 --phases 2 --rounds 4
+201|first behind second|49 49 49 50|route a.gr a.routes a.cert --workers 4 --phases 2 --rounds 1
+101|second behind first|49 50|route a.gr a.routes a.cert --workers 2 --phases 2 --rounds 4
+201|second behind first|49 49 49 50|route a.gr a.routes a.cert --workers 4 --phases 2 --rounds 1
+101|one by one|49 50|route a.gr a.routes a.cert --workers 2 --phases 2 --rounds 4
+201|one by one|49 49 49 50|route a.gr a.routes a.cert --workers 4 --phases 2 --rounds 1
+101|stretches|49 50|route a.gr a.routes a.cert --workers 2 --phases 2 --rounds 4
+201|stretches|49 49 49 50|route a.gr a.routes a.cert --workers 4 --phases 2 --rounds 1";
 
-/// There is repair in each of these runs, of as many nets as it may be.
+/// The number behind a name of a report.
+fn number_behind(report: &str, name: &'static str) -> Result<u64, Fail> {
+    let (_, behind) = report.split_once(name).ok_or(name)?;
+    let (number, _) = behind.split_once('\n').ok_or(name)?;
+    match number.parse::<u64>() {
+        Ok(number) => Ok(number),
+        Err(_) => Err(Fail::new(name)),
+    }
+}
+
+/// There is repair in each of these runs. With two workers it takes overflow away, so what the judge accepts was repaired.
 #[test]
 fn whatever_workers_wait_for_the_routes_are_accepted(rt: HostRuntime) -> Result<(), Fail> {
-    let design = drawn(&rt, rt.alloc())?;
+    let crowded = drawn(&rt, rt.alloc(), CROWDED)?;
+    let roomy = drawn(&rt, rt.alloc(), ROOMY)?;
     for row in rows_of(rt.alloc(), SCHEDULES)? {
-        let (order, lasts, words) = three_fields(row)?;
+        let (nets, order, lasts, words) = four_fields(row)?;
+        let design = if nets == "101" { &roomy } else { &crowded };
         let gate = gate_of(rt.alloc(), order, lasts, PHASES)?;
         let left = routed(&rt, rt.alloc(), design.as_slice(), words, &gate)?;
         let report = str::from_utf8(text_at(&left, "Report"))?;
         assert!(rt; gate.was_kept() && gate.was_called_in_turn(), "{row}");
         assert!(rt; gate.has_seen_whole() && gate.has_seen_more(), "{row}");
         assert!(rt; !report.contains("\nrounds 0\n"), "{row}");
+        let repaired = number_behind(report, "\noverflow ")? < number_behind(report, "\nrounded ")?;
+        assert!(rt; repaired || nets == "201", "{row}");
     }
     Ok(())
 }
