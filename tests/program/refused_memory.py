@@ -248,6 +248,7 @@ def try_line(room, words, outputs, most):
         all_later = {"REFUSE_LATER": 1} if later else {}
         if kind == "memory" and not outputs:
             each = 1 if later else max(1, -(-count // (most // 2)))
+            names = []
             attempts = ((number, lambda: run) for number, run in room.parted(words, each, all_later))
         else:
             attempts = ((number, lambda: room.in_time(words, names, **{variable: number}, **all_later)) for number in numbers(count, most // 2))
