@@ -1,7 +1,7 @@
 #!/usr/bin/env python3
 """Times `measure`, and `eco` on drawn edits, for a design and routes of it.
 
-    tests/measures/edits_speed.py DESIGN ROUTES [--counts N ..] [--runs N] [--reach N] [--seed N] [--grouter PROGRAM]
+    bench/edits_speed.py DESIGN ROUTES [--counts N ..] [--runs N] [--reach N] [--seed N] [--grouter PROGRAM]
 
 The edits are of drawn nets, a third each drops, adds and changes. A changed net gets its own pins, moved together by up to
 --reach tiles (3) along each axis, and an added net the pins of a drawn net, moved so; pins stay on the grid. No edit is refused
@@ -11,13 +11,10 @@ where the design has layers with edges along x and along y, since closed edges a
 import argparse
 import os
 import random
-import subprocess
 import tempfile
 
 from change_design import read
-
-TOP = os.path.dirname(os.path.dirname(os.path.dirname(os.path.abspath(__file__))))
-
+from runs import accepted, built
 
 class Edits:
     """Draws edits of a design's nets, one after another."""
@@ -58,15 +55,8 @@ class Edits:
 
 def timed(runs, *words):
     """The least user seconds of some runs, and the memory of the last in MiB."""
-    seconds = []
-    for _ in range(runs):
-        child = subprocess.Popen(words, stdout=subprocess.PIPE, env=dict(os.environ, MALLOC_MMAP_THRESHOLD_='131072'))
-        said = child.stdout.read().decode()
-        _, status, used = os.wait4(child.pid, 0)
-        child.returncode = os.waitstatus_to_exitcode(status)
-        assert child.returncode == 0, f'status {child.returncode} of {" ".join(words)}: {said}'
-        seconds.append(used.ru_utime)
-    return min(seconds), used.ru_maxrss / 1024
+    done = [accepted(*words) for _ in range(runs)]
+    return min(one.user for one in done), done[-1].memory
 
 
 def main():
@@ -77,7 +67,7 @@ def main():
     words.add_argument('--runs', type=int, default=3)
     words.add_argument('--reach', type=int, default=3)
     words.add_argument('--seed', type=int, default=1)
-    words.add_argument('--grouter', default=f'{TOP}/crates/grouter/out/grouter')
+    words.add_argument('--grouter', default=built('grouter'))
     asked = words.parse_args()
     measured, _ = timed(asked.runs, asked.grouter, 'measure', asked.design, asked.routes)
     with tempfile.TemporaryDirectory() as room:

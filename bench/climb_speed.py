@@ -1,7 +1,7 @@
 #!/usr/bin/env python3
 """Routes a design, and times `climb` and `unavoidable` on its routes and its certificate.
 
-    tests/measures/climb_speed.py DESIGN [--turns N ..] [--route WORD ..] [--grouter PROGRAM] [--unavoidable PROGRAM]
+    bench/climb_speed.py DESIGN [--turns N ..] [--route WORD ..] [--grouter PROGRAM] [--unavoidable PROGRAM]
 
 `route` runs with its default options, or with those behind --route, which come last and have a `+` for each `--` (`--route +budget
 850000 +workers 4`). Then come `climb` with each number of --turns (4 and 16) and `unavoidable`, each from the certificate of
@@ -10,25 +10,16 @@ the bound, the seconds on the clock, those of the processor in user mode, and th
 """
 import argparse
 import os
-import subprocess
 import tempfile
-import time
 from fractions import Fraction
 
-TOP = os.path.dirname(os.path.dirname(os.path.dirname(os.path.abspath(__file__))))
+from runs import accepted, built
 
 
 def timed(*words):
     """What a run says, as names with their values, and its seconds and memory as the ends of a line."""
-    begin = time.monotonic()
-    child = subprocess.Popen(words, stdout=subprocess.PIPE, env=dict(os.environ, MALLOC_MMAP_THRESHOLD_='131072'))
-    said = child.stdout.read().decode()
-    _, status, used = os.wait4(child.pid, 0)
-    clock = time.monotonic() - begin
-    child.returncode = os.waitstatus_to_exitcode(status)
-    assert child.returncode == 0, f'status {child.returncode} of {" ".join(words)}: {said}'
-    named = dict(line.split(' ', 1) for line in said.splitlines() if ' ' in line)
-    return named, f'{clock:.1f} | {used.ru_utime:.1f} | {used.ru_maxrss / 1024:.0f}'
+    done = accepted(*words)
+    return done.named(), f'{done.clock:.1f} | {done.user:.1f} | {done.memory:.0f}'
 
 
 def shown(bound):
@@ -39,8 +30,8 @@ def main():
     words = argparse.ArgumentParser(description=__doc__, formatter_class=argparse.RawDescriptionHelpFormatter)
     words.add_argument('design')
     words.add_argument('--turns', nargs='+', type=int, default=[4, 16])
-    words.add_argument('--grouter', default=f'{TOP}/crates/grouter/out/grouter')
-    words.add_argument('--unavoidable', default=f'{TOP}/crates/unavoidable/out/unavoidable')
+    words.add_argument('--grouter', default=built('grouter'))
+    words.add_argument('--unavoidable', default=built('unavoidable'))
     words.add_argument('--route', nargs='*', default=[])
     asked = words.parse_args()
     options = ['--' + word[1:] if word.startswith('+') else word for word in asked.route]

@@ -1,7 +1,7 @@
 #!/usr/bin/env python3
 """Writes a design with other nets, to measure what these cost.
 
-    tests/measures/change_design.py IN OUT [--widths LOW HIGH] [--least W] [--merge K] [--forced K] [--seed N]
+    bench/change_design.py IN OUT [--widths LOW HIGH] [--least W] [--merge K] [--forced K] [--seed N]
 
 --widths draws the width of each net from LOW to HIGH. --least sets the minimum width of all layers. --merge makes one net of
 the pins of K that stand behind one another. --forced takes the capacity of all edges at the first tile of K nets, spread over

@@ -1,7 +1,7 @@
 #!/usr/bin/env python3
 """Writes a certificate with other prices, to measure what these cost `judge`.
 
-    tests/measures/hostile_prices.py DESIGN CERT OUT KIND [--seed N]
+    bench/hostile_prices.py DESIGN CERT OUT KIND [--seed N]
 
 CERT is a certificate of the design's routes. OUT states a bound of 0, which no prices refuse, so `judge` says yes to it where
 it does to CERT. KIND is one of those listed below; `all` prints their names.

@@ -1,7 +1,7 @@
 #!/usr/bin/env python3
 """Times how `measure` reads design texts: those of files, and texts of up to 2^30 bytes that come through a pipe.
 
-    tests/measures/reading_speed.py [--mib N] [--only KIND ..] [--design FILE ..] [--grouter PROGRAM]
+    bench/reading_speed.py [--mib N] [--only KIND ..] [--design FILE ..] [--grouter PROGRAM]
 
 Of each file, and of each kind of long text below, the design is read and its nets' grounds are found; ROUTES are empty, so a design
 with nets is answered by `no 41 0 1` or the like. It prints a line of a table for each: the bytes, the status, the first line that was
@@ -18,9 +18,9 @@ said, the seconds of the processor, by the GiB too, and the most memory. N is ho
 """
 import argparse
 import os
-import subprocess
 
-TOP = os.path.dirname(os.path.dirname(os.path.dirname(os.path.abspath(__file__))))
+from runs import built, run
+
 MIB = 1 << 20
 HEADER = b"""grid 100 100 1
 vertical capacity 2
@@ -89,20 +89,23 @@ KINDS = {
 }
 
 
-def measured(program, design, text, size):
-    """Runs `measure` on a file or on what the parts of a text are, of which no more than `size` bytes are sent."""
-    child = subprocess.Popen([program, "measure", design, "/dev/null"], stdin=subprocess.PIPE, stdout=subprocess.PIPE,
-                             env=dict(os.environ, MALLOC_MMAP_THRESHOLD_="131072"))
-    sent = 0
+def front(text, size):
+    """The parts of a text, of which no more than so many bytes are sent."""
     for part in text:
-        part = part[:size - sent]
-        sent += len(part)
-        child.stdin.write(part)
-    child.stdin.close()
-    said = child.stdout.read().decode().partition("\n")[0]
-    _, status, used = os.wait4(child.pid, 0)
-    child.returncode = os.waitstatus_to_exitcode(status)
-    return sent or os.path.getsize(design), child.returncode, said, used.ru_utime + used.ru_stime, used.ru_maxrss / 1024
+        yield part[:size]
+        size -= len(part[:size])
+
+
+def measured(program, design, text, size):
+    """Runs `measure` on a file or on what the parts of a text are: the bytes, and the run."""
+    sent = []
+
+    def parts():
+        for part in front(text, size):
+            sent.append(len(part))
+            yield part
+    done = run(program, "measure", design, "/dev/null", parts=parts() if text else ())
+    return sum(sent) or os.path.getsize(design), done
 
 
 def main():
@@ -110,7 +113,7 @@ def main():
     words.add_argument("--mib", type=int, default=1024)
     words.add_argument("--only", nargs="*", choices=KINDS)
     words.add_argument("--design", nargs="*", default=[])
-    words.add_argument("--grouter", default=f"{TOP}/crates/grouter/out/grouter")
+    words.add_argument("--grouter", default=built("grouter"))
     asked = words.parse_args()
     size = asked.mib * MIB
     runs = [(os.path.basename(design), design, ()) for design in asked.design]
@@ -118,8 +121,9 @@ def main():
     runs += [(kind, "/dev/stdin", KINDS[kind](size, b"0\n")) for kind in kinds]
     print("| text | bytes | status | said | processor seconds | by the GiB | memory, MiB |\n|---|---|---|---|---|---|---|")
     for name, design, text in runs:
-        count, status, said, seconds, memory = measured(asked.grouter, design, text, size)
-        print(f"| {name} | {count:,} | {status} | `{said}` | {seconds:.1f} | {seconds * (1 << 30) / count:.1f} | {memory:.0f} |", flush=True)
+        count, done = measured(asked.grouter, design, text, size)
+        said, by_gib = done.said.partition("\n")[0], done.processor * (1 << 30) / count
+        print(f"| {name} | {count:,} | {done.status} | `{said}` | {done.processor:.1f} | {by_gib:.1f} | {done.memory:.0f} |", flush=True)
 
 
 if __name__ == "__main__":
