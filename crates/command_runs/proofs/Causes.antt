@@ -9,7 +9,9 @@ use Rattle.grid_graph.specs.declared.grid.Grid.{Grid}
 use Rattle.grid_graph.specs.declared.ground.Ground.{Ground}
 use Rattle.grid_graph.specs.declared.ground.Ground.TheVariants.{Open, WithChoked}
 use Rattle.grid_graph.specs.declared.net_spec.NetSpec.{NetSpec}
-use Rattle.grid_graph.specs.Grounds.{AreGrounds, IsGround, JoinsTerminals}
+use Rattle.grid_graph.specs.declared.ground_error.GroundError.{GroundError}
+use Rattle.grid_graph.specs.declared.ground_error.GroundError.TheVariants as ground_errors
+use Rattle.grid_graph.specs.Grounds.{AreGrounds, IsFirstGroundError, IsGround, JoinsTerminals}
 use Rattle.grid_graph.specs.declared.unreachable_net.UnreachableNet.{UnreachableNet}
 use Rattle.gr_desk.specs.Told.{Told}
 use Rattle.ispd_reader.specs.Designs.{IsDesignOfText}
@@ -23,7 +25,7 @@ use Rattle.gr_desk.specs.declared.port.Port.{Port}
 use Rattle.gr_desk.specs.declared.port.Port.TheVariants.{In, RoutesIn, CertIn, EditsIn, RoutesOut, CertOut, DesignOut, GuideOut, MapOut, Report}
 use Rattle.command_runs.specs.Refusals.{IsRefusedAt, IsAcceptedAt, AreUnopened, HasToBeRefused, AreAccepted, HaveAcceptedBytes, IsCause, IsCauseAt}
 use Rattle.command_runs.specs.Sources.{Source, IfTold, ports_of}
-use Rattle.command_runs.specs.Steps.{IsRefusedFor}
+use Rattle.command_runs.specs.Steps.{IsRefusedFor, of_ground_error}
 use Rattle.command_runs.specs.Traces.{InputFailed}
 use Rattle.grid_base.proofs.Lists.{AllZip-at, Contains-rest}
 use Rattle.command_runs.proofs.Bytes.{has-since, of_told}
@@ -194,6 +196,11 @@ design-refused text (Text fault) (inl for) = for
 design-refused text (Unreachable net) (inl for) = for
 design-refused text Unread (inl for) = for
 design-refused text NoMemory (inl for) = tt
+
+-- and what a design without grounds is refused for
+pub design-ungrounded : (text : List ℕ) (d : Design) (e : GroundError) → IsDesignOfText text d → IsFirstGroundError d.grid d.nets e → IsRefusedFor In text (of_ground_error e)
+design-ungrounded text d (ground_errors.Unreachable net) named cause = (d, named, cause)
+design-ungrounded text d ground_errors.NoMemory named cause = tt
 
 -- ---- causes of parts of a run
 

@@ -4,7 +4,9 @@ pub mod Outcomes
 pub mod Traces
 pub mod Bytes
 pub mod Causes
+pub mod Feeding
 pub mod ReadFiles
+pub mod ReadDesigns
 pub mod RefusedRuns
 pub mod MadeFiles
 pub mod FilePorts

@@ -6,6 +6,7 @@ pub use Rattle.grid_graph.specs.Grids
 pub use Rattle.grid_graph.specs.Grounds
 pub use Rattle.ispd_reader.specs.Designs
 pub use Rattle.ispd_reader.specs.Limits
+pub use Rattle.ispd_reader.specs.Readers
 pub use Rattle.route_text.specs.RouteText
 pub use Rattle.tree_set.specs.Routings
 pub mod Sources
@@ -15,6 +16,7 @@ pub mod Refusals
 pub mod Lines
 pub mod Traces
 pub mod Steps
+pub mod FedReaders
 pub mod Outputs
 pub mod CommandRun
 pub mod AnsweredRun

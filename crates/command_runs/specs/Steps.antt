@@ -7,6 +7,7 @@ use Rattle.grid_graph.specs.declared.ground_error.GroundError.{GroundError}
 use Rattle.grid_graph.specs.declared.ground_error.GroundError.TheVariants as ground_errors
 use Rattle.ispd_reader.specs.declared.input_error.InputError.{InputError}
 use Rattle.ispd_reader.specs.declared.input_error.InputError.TheVariants as input_errors
+use Rattle.ispd_reader.specs.declared.input_fault.InputFault.{InputFault}
 use Rattle.ispd_reader.specs.declared.input_fault.InputFault.TheVariants as input_faults
 use Rattle.command_runs.specs.declared.refusal.Refusal.{Refusal}
 use Rattle.command_runs.specs.declared.refusal.Refusal.TheVariants.{NoCommand, Input, Unreachable, Text, Unread, NoMemory}
@@ -52,6 +53,10 @@ too_long_at _ = Text text_faults.TooLong
 -- a file is refused before its text is looked at: it is too long or can't be read, or memory is wanting
 abbrev pub IsBeforeText : Port → Refusal → Type 0
 IsBeforeText port r = (r ≡ too_long_at port) ⊎ ((r ≡ Unread) ⊎ (r ≡ NoMemory))
+
+-- a file is refused for what is read of it: its text has a fault, it can't be read, or memory is wanting
+abbrev pub IsOfReading : Refusal → Type 0
+IsOfReading r = ((fault : InputFault) × (r ≡ Input fault)) ⊎ ((r ≡ Unread) ⊎ (r ≡ NoMemory))
 
 -- what an error of the text is
 abbrev pub of_input_error : InputError → Refusal

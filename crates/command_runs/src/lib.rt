@@ -16,6 +16,7 @@
 
 #![tactic(auto)]
 
+mod design_source;
 mod grounded_design;
 mod lines;
 mod outputs;
@@ -27,6 +28,7 @@ mod sources;
 mod statuses;
 mod text_fault;
 
+pub use design_source::read_design_source;
 pub use grounded_design::GroundedDesign;
 pub use lines::{put_budget, put_fields, put_line};
 pub use outputs::{make_cert, make_routes};

@@ -11,6 +11,7 @@ ghost use Rattle.command_runs.specs.Sources.{HasBytes, IfTold, design_source};
 ghost use Rattle.command_runs.specs.Steps as steps;
 ghost use Rattle.command_runs.specs.Steps.{IsBeforeText, ReadsFile, ReadsSources};
 
+use crate::design_source::read_design_source;
 use crate::grounded_design::GroundedDesign;
 use crate::refusal::Refusal;
 use crate::text_fault::TextFault;
@@ -59,8 +60,7 @@ pub fn grounded(alloc: Global, bytes: &[u8]) -> Result<GroundedDesign, Refusal>
     ensures refused { (r : Refusal) → IsErrOf result r → IsRefusedAt Port.In bytes.now r ⊎ (r ≡ Refusal.NoMemory) }
 {
     let design = read_design(alloc, bytes)?;
-    let grounds = design.grounds()?;
-    Ok(GroundedDesign { design, grounds })
+    Ok(GroundedDesign::of(design)?)
 }
 
 /// The design under the name, with its nets' grounds.
@@ -73,6 +73,6 @@ pub fn read_grounded<D: Desk>(
     ensures grounds { IfOk result (λ g. AreGrounds g.design.grid g.design.nets g.grounds.items) }
     ensures reads { ReadsSources (design_source name.now) (D.told desk.old) (D.told desk.new) result }
 {
-    let bytes = read_source(alloc, desk, Port::In, name)?;
-    grounded(alloc, bytes.as_slice())
+    let design = read_design_source(alloc, desk, name)?;
+    Ok(GroundedDesign::of(design)?)
 }

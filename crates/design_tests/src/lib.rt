@@ -12,6 +12,8 @@ mod design_text_tests;
 #[cfg(test)]
 mod guide_tests;
 #[cfg(test)]
+mod reader_tests;
+#[cfg(test)]
 mod route_text_tests;
 #[cfg(test)]
 mod size_tests;

@@ -17,7 +17,8 @@ const PORTS: &str = "In RoutesIn CertIn EditsIn RoutesOut CertOut DesignOut Guid
 const CALLS: &str = "Open Create Read Write";
 
 /// The runs, and what each leaves where no call fails, as far as it is known on paper. The last ones are refused: for the
-/// routes, for the design, for an edit, and for the words.
+/// routes, for a net of the design, for the design's first word, behind which the rest is read too, for an edit, and for the
+/// words.
 const RUNS: &str = "route a.gr a.routes a.cert
 ROW
 In RoutesOut CertOut
@@ -97,6 +98,12 @@ ROW 51 52 0
 In
 5
 refused 5 4 0 1;
+
+route a.gr a.routes a.cert
+ROW 0 4 gird
+In
+3
+refused 3 11 0 grid;
 
 eco a.gr a.routes a.edits b.routes
 ROW|a 0;(5,5,1)-(25,5,1);!;||edits 1 drop 9;

@@ -1,24 +1,25 @@
 -- Designs that are not near, and what was read of them.
 use Rattle.std.proofs.Common.{◌≡◌, ◌*◌, ℕ, List, [], ◌∷◌, true≢false, refl, sym, ◌∙◌, ap, subst, Ok, Err, Some, inl, inr, pos, ◌+ℤ◌, ◌≤ℤ◌, nat_abs}
-use Rattle.std.specs.Prelude.{◌⊎◌, Result, IfOk, IsErrAnd, is_ok}
+use Rattle.std.specs.Prelude.{Result, IsErrAnd, is_ok}
 use Rattle.gr_desk.specs.declared.port.Port.TheVariants.{In, RoutesIn}
 use Rattle.gr_desk.specs.Told.{Told}
 use Rattle.grid_base.specs.Numbers.{cols, rows}
 use Rattle.grid_graph.specs.declared.design.Design.{Design}
+use Rattle.grid_graph.specs.declared.ground_error.GroundError.{GroundError}
 use Rattle.grid_graph.specs.Borders.{HasBordersInRange}
+use Rattle.grid_graph.specs.Grounds.{AreGrounds, IsFirstGroundError}
 use Rattle.grid_graph.specs.Layouts.{Layout}
 use Rattle.grid_graph.specs.Limits.{max_number}
 use Rattle.ispd_reader.specs.Designs.{IsDesignOfText}
-use Rattle.ispd_reader.specs.declared.input_fault.InputFault.TheVariants as input_faults
 use Rattle.ispd_reader.proofs.Alike.{one_design}
 use Rattle.command_runs.specs.declared.refusal.Refusal.{Refusal}
-use Rattle.command_runs.specs.declared.refusal.Refusal.TheVariants.{Input, Unread, NoMemory}
+use Rattle.command_runs.specs.declared.refusal.Refusal.TheVariants.{Input, Unread}
 use Rattle.command_runs.specs.Refusals.{IsCauseAt, IsRefusedAt}
-use Rattle.command_runs.specs.Sources.{HasBytes, IfTold, design_source}
-use Rattle.command_runs.specs.Steps.{IsBeforeText, ReadsFile, ReadsSources}
+use Rattle.command_runs.specs.Sources.{HasBytes, design_source}
+use Rattle.command_runs.specs.Steps.{IsOfReading, ReadsFile, ReadsSources, of_ground_error}
 use Rattle.command_runs.proofs.Bytes.{of_told, has-since}
-use Rattle.command_runs.proofs.Causes.{design-accepted, design-refused}
-use Rattle.command_runs.proofs.ReadFiles.{file-failed, file-refused, file-text, sources-early, sources-failed, sources-passed, sources-then}
+use Rattle.command_runs.proofs.ReadDesigns.{design-cut_off, design-grounded}
+use Rattle.command_runs.proofs.ReadFiles.{file-failed, sources-early, sources-failed, sources-passed, sources-then}
 use Rattle.judge_cli.proofs.JudgedRuns.{in-apart}
 use Rattle.command_runs.specs.JudgedTexts.{blocks_or_refusal}
 use Rattle.route_judge.specs.Limits.{AreBlocks}
@@ -46,46 +47,51 @@ not_far text d named near far = far.2 (near_alike text d far.0 named far.1 near)
 pub never_far : (name : List ℕ) (told : Told) (d : Design) → HasBytes told.files name (λ bytes. IsDesignOfText bytes d) → HasBordersInRange d.grid → (bytes : List ℕ) → told.files name ≡ Some bytes → ¬ NamesFarDesign bytes
 never_far name told d named near bytes under far = not_far named.bytes d named.is_so near (subst NamesFarDesign (sym (named.are_told bytes under)) far)
 
--- what a file is refused for before its text is looked at
-early_for_far : (name : List ℕ) (a b : Told) (r : Refusal) → IsBeforeText In r → IsCauseAt (record { port = In; name = name }) a b r → IsNotForFar name a r
-early_for_far name a b r (inl long) cause bytes under far =
-    let why = subst (IsCauseAt (record { port = In; name = name }) a b) long cause in
-    let refused = of_told (λ text. IsRefusedAt In text (Input input_faults.TooLong)) why bytes under in
-    let clash : Err input_faults.TooLong ≡ Ok far.1.contents = sym refused ∙ far.1.read in absurd (cc clash)
-early_for_far name a b r (inr other) cause bytes under far = other
+-- what a file is refused for when it is read
+read_for_far : (name : List ℕ) (a b : Told) (r : Refusal) → IsOfReading r → IsCauseAt (record { port = In; name = name }) a b r → IsNotForFar name a r
+read_for_far name a b r (inl (fault, is)) cause bytes under far =
+    let why = subst (IsCauseAt (record { port = In; name = name }) a b) is cause in
+    let refused = of_told (λ text. IsRefusedAt In text (Input fault)) why bytes under in
+    let clash : Err fault ≡ Ok far.1.contents = sym refused ∙ far.1.read in absurd (cc clash)
+read_for_far name a b r (inr other) cause bytes under far = other
 
-pub near-failed : {T : Type 0} (name : List ℕ) (a b : Told) (r : Result T Refusal) (x : Result NearDesign Refusal) (e : Refusal) → r ≡ Err e → IsErrAnd x (λ y. y ≡ e) → IsBeforeText In e
+pub near-failed : {T : Type 0} (name : List ℕ) (a b : Told) (r : Result T Refusal) (x : Result NearDesign Refusal) (e : Refusal) → r ≡ Err e → IsErrAnd x (λ y. y ≡ e) → IsOfReading e
     → ReadsFile (record { port = In; name = name }) a b r → ReadsNear name a b x
 near-failed name a b r (Ok found) e failed answered early read = absurd answered
 near-failed name a b r (Err y) e failed answered early read =
     let same : e ≡ y = sym answered in (
       sources-failed (Err y) e failed answered (file-failed r failed read),
-      subst (IsNotForFar name a) same (early_for_far name a b e early (read.refused e failed)),
+      subst (IsNotForFar name a) same (read_for_far name a b e early (read.refused e failed)),
     )
 
 -- a value is no error
 no_error : {U : Type 0} (u : U) (e : Refusal) → ◌≡◌ {A = Result U Refusal} (Ok u) (Err e) → ⊥
 no_error u e same = true≢false (ap is_ok same)
 
-near_text : {T : Type 0} {v : T} (name : List ℕ) (a b : Told) (text : List ℕ) (g : GroundedDesign) → ReadsFile (record { port = In; name = name }) a b (Ok v)
-    → IfTold a.files name (λ told. text ≡ told) → IsNearDesignOf text (Near g) → ReadsSources {T = Unit {0}} (design_source name) a b (Ok tt)
-near_text name a b text g read same is =
-    file-text {U = Unit {0}} text (Ok tt) read same (λ q wrong. absurd (no_error tt q wrong)) (λ ok. design-accepted text g.design g.grounds.items is.0 is.1)
+-- a design that is not near was read
+pub near-far : {T : Type 0} {v : T} (name : List ℕ) (a b : Told) → ReadsFile (record { port = In; name = name }) a b (Ok v) → ReadsNear name a b (Ok Far)
+near-far {v = v} name a b read = (read.reads, read.quiet (no_error v Unread))
 
-err_text : {T : Type 0} {v : T} (name : List ℕ) (a b : Told) (text : List ℕ) (r : Refusal) → ReadsFile (record { port = In; name = name }) a b (Ok v)
-    → IfTold a.files name (λ told. text ≡ told) → IsRefusedAt In text r ⊎ (r ≡ NoMemory) → ReadsSources {T = Unit {0}} (design_source name) a b (Err r)
-err_text name a b text r read same refused = file-refused {U = Unit {0}} text (Err r) r read same refl (design-refused text r refused)
-
--- what a text is read as
-pub near-read : {T : Type 0} {v : T} (name : List ℕ) (a b : Told) (text : List ℕ) (x : Result NearDesign Refusal) → ReadsFile (record { port = In; name = name }) a b (Ok v)
-    → IfTold a.files name (λ told. text ≡ told) → IfOk x (IsNearDesignOf text) → ((r : Refusal) → x ≡ Err r → IsRefusedAt In text r ⊎ (r ≡ NoMemory))
-    → (NamesFarDesign text → (r : Refusal) → x ≡ Err r → r ≡ NoMemory) → ReadsNear name a b x
-near-read name a b text (Ok (Near g)) read same is refused far = near_text name a b text g read same is
-near-read {v = v} name a b text (Ok Far) read same is refused far = (read.reads, read.quiet (no_error v Unread))
-near-read name a b text (Err r) read same is refused far = (
-  err_text name a b text r read same (refused r refl),
-  λ bytes under of_far. inr (far (subst NamesFarDesign (sym (same bytes under)) of_far) r refl),
+-- a near one whose nets have no grounds
+pub near-cut_off : (name : List ℕ) (a b : Told) (d : Design) (x : Result NearDesign Refusal) (e : GroundError) → ReadsFile (record { port = In; name = name }) a b (Ok d)
+    → HasBytes a.files name (λ bytes. IsDesignOfText bytes d) → HasBordersInRange d.grid → IsFirstGroundError d.grid d.nets e → IsErrAnd x (λ y. y ≡ of_ground_error e)
+    → ReadsNear name a b x
+near-cut_off name a b d (Ok found) e read named near cause answered = absurd answered
+near-cut_off name a b d (Err y) e read named near cause answered = (
+  design-cut_off {T = Unit {0}} (Err y) e read named cause answered,
+  λ bytes under far. absurd (never_far name a d named near bytes under far),
 )
+
+-- and one whose nets have
+pub near-grounded : (name : List ℕ) (a b : Told) (d : Design) (g : GroundedDesign) → ReadsFile (record { port = In; name = name }) a b (Ok d)
+    → HasBytes a.files name (λ bytes. IsDesignOfText bytes d) → g.design ≡ d → AreGrounds g.design.grid g.design.nets g.grounds.items
+    → ReadsNear name a b (Ok (Near g))
+near-grounded name a b d g read named same grounds = sources-passed tt (design-grounded g read named same grounds)
+
+-- what was read is that of the bytes
+pub far-is_near_of : (name : List ℕ) (a : Told) (d : Design) → HasBytes a.files name (λ bytes. IsDesignOfText bytes d) → ¬ HasBordersInRange d.grid
+    → HasBytes a.files name (λ bytes. IsNearDesignOf bytes Far)
+far-is_near_of name a d named far = record { bytes = named.bytes; is_so = (d, named.is_so, far); are_told = named.are_told }
 
 -- ---- and then the routes
 

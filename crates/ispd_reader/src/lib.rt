@@ -2,37 +2,54 @@
 //! design that its tokens name.
 //!
 //! ```text
-//! let design = read_design(alloc, bytes)?;
-//! design.grid.size().vertices();            // the number of tiles over all layers
-//! design.nets.list().len();                 // the number of nets
+//! let design = read_design(alloc, bytes)?;  // a text at once
+//! let mut reader = Reader::new(alloc)?;     // or piece by piece
+//! reader.feed(piece)?;
+//! let design = reader.end()?;
 //! ```
 //!
-//! It stands on `text_scan` for tokens, on `grid_base` for sizes and vertices, and on `grid_graph`
-//! for grids, nets and designs.
+//! It stands on `text_scan` for what tokens and numbers are, on `grid_base` for sizes and vertices,
+//! and on `grid_graph` for grids, nets and designs.
 //!
-//! Promised: `read_design` answers the design that the text names, or what is wrong with it at the
-//! first place in the order of reading; only want of memory is left open.
+//! Promised: a `Reader` ends with the design that the joined pieces name, or with what is wrong with
+//! them at the first place in the order of reading, however the text is cut; `read_design` answers
+//! that of a text at once. Only want of memory is left open.
 
 #![tactic(auto)]
 
 mod adjustment;
-mod adjustments;
+mod adjustment_stage;
+mod adjustments_reader;
+mod body;
+mod cut_token;
 mod fault_fields;
-mod fields;
-mod header;
+mod first_bytes;
+mod header_reader;
+mod header_stage;
+mod header_steps;
 mod input_error;
 mod input_fault;
 mod laws;
-mod layer_numbers;
-mod nets;
-mod pins;
+mod layer_list;
+mod layer_lists;
+mod machine;
+mod machine_stage;
+mod net_numbers;
+mod net_stage;
+mod nets_reader;
+mod numeral;
+mod place_stage;
+mod present_net;
+mod progress;
+mod reader;
 mod reading;
-mod tokens;
+mod values;
 mod wanted;
 
 pub use fault_fields::FaultFields;
 pub use input_error::InputError;
 pub use input_fault::InputFault;
 pub use laws::{designs_of_a_text_are_alike, names_of_a_design};
-pub use reading::{MAX_BYTES, read_design};
+pub use reader::{MAX_BYTES, Reader};
+pub use reading::read_design;
 pub use wanted::Wanted;

@@ -16,4 +16,4 @@ mod named;
 mod texts;
 
 pub use named::{design_of, design_text};
-pub use texts::{LAYERED, STACK, crowd, design, vast};
+pub use texts::{LAYERED, ROW, STACK, crowd, design, vast};

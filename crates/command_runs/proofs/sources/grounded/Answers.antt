@@ -22,10 +22,10 @@ refused_for_grounds text d ground_errors.NoMemory named cause = inr refl
 abbrev IsTextRefusal : List ℕ → Refusal → Type 0
 IsTextRefusal text r = IsRefusedAt In text r ⊎ (r ≡ NoMemory)
 
-pub returns-in_err-grounds-clause-refused : goal.returns-in_err-grounds-clause-refused
-returns-in_err-grounds-clause-refused c = λ r is.
+pub returns-in_err-of-clause-refused : goal.returns-in_err-of-clause-refused
+returns-in_err-of-clause-refused c = λ r is.
     let d = c.in_ok-design.design in
     let named : IsDesignOfText c.args.bytes.now d = c.in_ok-design.ensures.design in
-    let made : of_ground_error c.in_err-grounds.field-0.0 ≡ r = same_refusal c.from_residual-in_err-grounds.result _ r c.from_residual-in_err-grounds.ensures.1 is in
+    let made : of_ground_error c.in_err-of.field-0.0 ≡ r = same_refusal c.from_residual-in_err-of.result _ r c.from_residual-in_err-of.ensures.1 is in
     subst (IsTextRefusal c.args.bytes.now) made
-    (refused_for_grounds c.args.bytes.now d c.in_err-grounds.field-0.0 named c.in_err-grounds.ensures.cause)
+    (refused_for_grounds c.args.bytes.now d c.in_err-of.field-0.0 named c.in_err-of.ensures.cause)
