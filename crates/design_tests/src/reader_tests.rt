@@ -1,6 +1,6 @@
 //! Texts that are fed to a reader in pieces, against the same texts fed at once.
 
-use grid_base::Edge;
+use grid_base::{Edge, NoMemory};
 use grid_graph::{Design, Grid, NetSpec};
 use ispd_reader::{InputError, InputFault, Reader, Wanted, read_design};
 use std::alloc::{AllocError, Global};
@@ -164,11 +164,9 @@ fn a_refusal_comes_as_soon_as_it_is_settled(rt: HostRuntime) -> Result<(), Fail>
 #[test]
 fn a_text_that_is_cut_off_is_refused_at_its_end(rt: HostRuntime) -> Result<(), Fail> {
     let alloc = rt.alloc();
-    let mut reader = Reader::new(alloc)?;
-    for byte in ROW[..139].chunks(1) {
-        assert!(rt; reader.feed(byte).is_ok());
-    }
-    let Err(InputError::Input(fault)) = reader.end() else {
+    assert!(rt; first_refusal(alloc, &ROW[..139])?.is_none());
+    assert!(rt; first_refusal(alloc, ROW)?.is_none());
+    let Err(InputError::Input(fault)) = read_in_pieces(alloc, &ROW[..139], 1) else {
         return Err(Fail::new("no fault"));
     };
     assert!(rt; fault.number() == 11);
@@ -179,35 +177,50 @@ fn a_text_that_is_cut_off_is_refused_at_its_end(rt: HostRuntime) -> Result<(), F
                 wanted: Wanted::Number
             }
     );
-    let mut reader = Reader::new(alloc)?;
-    for byte in ROW.chunks(1) {
-        assert!(rt; reader.feed(byte).is_ok());
-    }
-    assert!(rt; reader.end()?.nets.list().len() == 1);
     Ok(())
+}
+
+/// Whether a piece that is fed so many times is refused so each time.
+fn is_refused_each_time(
+    reader: &mut Reader,
+    piece: &[u8],
+    times: u32,
+    refused: InputError,
+) -> bool {
+    let mut each = true;
+    for _ in 0..times {
+        each = reader.feed(piece).err() == Some(refused) && each;
+    }
+    each
+}
+
+/// Whether a refusal is answered again to pieces that fill the text up to its limit, and `TooLong` behind that. `blanks` are
+/// 2^20 bytes, and `rest` 16 fewer.
+fn stays_refused(alloc: Global, blanks: &[u8], rest: &[u8]) -> Result<bool, NoMemory> {
+    let refused = InputError::Input(InputFault::Syntax {
+        at: 0,
+        wanted: Wanted::Grid,
+    });
+    let too_long = InputError::Input(InputFault::TooLong);
+    let mut reader = Reader::new(alloc)?;
+    let cut = reader.feed(b"gir").is_ok();
+    let whole = is_refused_each_time(&mut reader, b"d ", 1, refused);
+    let nothing = is_refused_each_time(&mut reader, b"", 1, refused);
+    let other = is_refused_each_time(&mut reader, b"grid 3 1 1\n", 1, refused);
+    let most = is_refused_each_time(&mut reader, blanks, 1023, refused);
+    let all = is_refused_each_time(&mut reader, rest, 1, refused);
+    let behind = is_refused_each_time(&mut reader, b" ", 1, too_long);
+    let again = is_refused_each_time(&mut reader, b"", 1, too_long);
+    let end = reader.end().err() == Some(too_long);
+    Ok(cut && whole && nothing && other && most && all && behind && again && end)
 }
 
 /// A refusal stays, whatever follows; and a text that then turns out to be too long is refused for that.
 #[test]
 fn a_refusal_is_answered_again(rt: HostRuntime) -> Result<(), Fail> {
     let alloc = rt.alloc();
-    let refused = InputError::Input(InputFault::Syntax {
-        at: 0,
-        wanted: Wanted::Grid,
-    });
-    let mut reader = Reader::new(alloc)?;
-    assert!(rt; reader.feed(b"gir").is_ok());
-    assert!(rt; reader.feed(b"d ").err() == Some(refused));
-    assert!(rt; reader.feed(b"").err() == Some(refused));
-    assert!(rt; reader.feed(b"grid 3 1 1\n").err() == Some(refused));
     let blanks = " ".repeat(alloc, 1 << 20)?;
-    for _ in 0..1023 {
-        assert!(rt; reader.feed(blanks.as_bytes()).err() == Some(refused));
-    }
-    let rest = &blanks.as_bytes()[16..];
-    assert!(rt; reader.feed(rest).err() == Some(refused));
-    assert!(rt; reader.feed(b" ").err() == Some(InputError::Input(InputFault::TooLong)));
-    assert!(rt; reader.feed(b"").err() == Some(InputError::Input(InputFault::TooLong)));
-    assert!(rt; reader.end().err() == Some(InputError::Input(InputFault::TooLong)));
+    let blanks = blanks.as_bytes();
+    assert!(rt; stays_refused(alloc, blanks, &blanks[16..])?);
     Ok(())
 }
