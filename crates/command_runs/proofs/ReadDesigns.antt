@@ -10,8 +10,8 @@ use Rattle.gr_desk.specs.Told.{Told, PortTold}
 use Rattle.grid_graph.specs.declared.design.Design.{Design}
 use Rattle.grid_graph.specs.declared.ground_error.GroundError.{GroundError}
 use Rattle.grid_graph.specs.Grounds.{AreGrounds, IsFirstGroundError}
-use Rattle.ispd_reader.specs.declared.input_error.InputError.{InputError}
-use Rattle.ispd_reader.specs.declared.input_error.InputError.TheVariants as input_errors
+use Rattle.design_tokens.specs.declared.input_error.InputError.{InputError}
+use Rattle.design_tokens.specs.declared.input_error.InputError.TheVariants as input_errors
 use Rattle.ispd_reader.specs.Designs.{IsDesignOfText, contents_of}
 use Rattle.ispd_reader.specs.Parsing.{Refuses, refusal_in}
 use Rattle.command_runs.specs.declared.grounded_design.GroundedDesign.{GroundedDesign}

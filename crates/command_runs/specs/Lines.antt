@@ -3,7 +3,7 @@ use Rattle.std.specs.Prelude.{ℕ, List, ◌∷◌, [], ◌++◌, flat_map, code
 use Rattle.std.specs.declared.option.Option.{Option}
 use Rattle.edge_prices.specs.declared.budget.Budget.{Budget}
 use Rattle.grid_graph.specs.GroundErrors.{unreachable_number}
-use Rattle.ispd_reader.specs.declared.wanted.Wanted.{Wanted}
+use Rattle.design_tokens.specs.declared.wanted.Wanted.{Wanted}
 use Rattle.ispd_reader.specs.Faults.{input_fault_number, fields_of, wanted_of}
 use Rattle.ispd_reader.specs.Words.{spelling}
 use Rattle.command_runs.specs.declared.refusal.Refusal.{Refusal}

@@ -5,10 +5,10 @@ use Rattle.gr_desk.specs.declared.port.Port.TheVariants.{In}
 use Rattle.gr_desk.specs.Told.{Told}
 use Rattle.grid_graph.specs.declared.ground_error.GroundError.{GroundError}
 use Rattle.grid_graph.specs.declared.ground_error.GroundError.TheVariants as ground_errors
-use Rattle.ispd_reader.specs.declared.input_error.InputError.{InputError}
-use Rattle.ispd_reader.specs.declared.input_error.InputError.TheVariants as input_errors
-use Rattle.ispd_reader.specs.declared.input_fault.InputFault.{InputFault}
-use Rattle.ispd_reader.specs.declared.input_fault.InputFault.TheVariants as input_faults
+use Rattle.design_tokens.specs.declared.input_error.InputError.{InputError}
+use Rattle.design_tokens.specs.declared.input_error.InputError.TheVariants as input_errors
+use Rattle.design_tokens.specs.declared.input_fault.InputFault.{InputFault}
+use Rattle.design_tokens.specs.declared.input_fault.InputFault.TheVariants as input_faults
 use Rattle.command_runs.specs.declared.refusal.Refusal.{Refusal}
 use Rattle.command_runs.specs.declared.refusal.Refusal.TheVariants.{NoCommand, Input, Unreachable, Text, Unread, NoMemory}
 use Rattle.command_runs.specs.declared.text_fault.TextFault.TheVariants as text_faults

@@ -8,9 +8,9 @@ use Rattle.text_scan.specs.Tokens.{Token}
 use Rattle.text_scan.specs.Reading.{tokens_left, past_blanks}
 use Rattle.grid_graph.specs.declared.grid.Grid.{Grid}
 use Rattle.grid_graph.specs.Grids.{capacity}
-use Rattle.ispd_reader.specs.Parsing.{Reading, ◌>>=◌, parts_at}
+use Rattle.design_tokens.specs.Parsing.{Reading, ◌>>=◌, parts_at}
 use Rattle.ispd_reader.specs.Limits.{max_adjustments}
-use Rattle.ispd_reader.specs.Numbers.{count_at}
+use Rattle.design_tokens.specs.Numbers.{count_at}
 use Rattle.ispd_reader.specs.Header.{Extent}
 use Rattle.ispd_reader.specs.Adjustments.{Adjustment, level_where, last_level, adjustment_at, adjustments_at}
 use Rattle.ispd_reader.specs.Adjusted.{IsAdjusted, IsAdjustedBy}

@@ -13,19 +13,19 @@ use Rattle.ispd_reader.specs.declared.adjustments_reader.AdjustmentsReader.{Adju
 use Rattle.ispd_reader.specs.declared.adjustments_reader.AdjustmentsReader.TheVariants as readers
 use Rattle.ispd_reader.specs.declared.place_stage.PlaceStage.{PlaceStage}
 use Rattle.ispd_reader.specs.declared.place_stage.PlaceStage.TheVariants as tiles
-use Rattle.ispd_reader.specs.declared.cut_token.CutToken.{CutToken}
-use Rattle.ispd_reader.specs.declared.input_error.InputError.{InputError}
-use Rattle.ispd_reader.specs.declared.input_error.InputError.TheVariants.{Input, NoMemory}
-use Rattle.ispd_reader.specs.declared.input_fault.InputFault.{InputFault}
-use Rattle.ispd_reader.specs.declared.input_fault.InputFault.TheVariants.{AdjustmentPlace, Syntax}
-use Rattle.ispd_reader.specs.declared.wanted.Wanted.TheVariants as wanted
+use Rattle.design_tokens.specs.declared.cut_token.CutToken.{CutToken}
+use Rattle.design_tokens.specs.declared.input_error.InputError.{InputError}
+use Rattle.design_tokens.specs.declared.input_error.InputError.TheVariants.{Input, NoMemory}
+use Rattle.design_tokens.specs.declared.input_fault.InputFault.{InputFault}
+use Rattle.design_tokens.specs.declared.input_fault.InputFault.TheVariants.{AdjustmentPlace, Syntax}
+use Rattle.design_tokens.specs.declared.wanted.Wanted.TheVariants as wanted
 use Rattle.ispd_reader.specs.Limits.{max_adjustments}
-use Rattle.ispd_reader.specs.Parsing.{Reading, InputRead, ◌>>=◌, parts_at}
-use Rattle.ispd_reader.specs.Numbers.{number_at, number_within, capacity_at, count_at}
+use Rattle.design_tokens.specs.Parsing.{Reading, InputRead, ◌>>=◌, parts_at}
+use Rattle.design_tokens.specs.Numbers.{number_at, number_within, capacity_at, count_at}
 use Rattle.ispd_reader.specs.Header.{Extent}
 use Rattle.ispd_reader.specs.Adjustments.{Adjustment, place_in, step_between, tile_place_at, adjustment_at, adjustments_at}
 use Rattle.ispd_reader.specs.AdjustmentsLeft.{tile_left, with_level, with_tile, with_tiles, adjustment_left, alone, and_owed, adjustments_left, and_more}
-use Rattle.ispd_reader.specs.Steps.{IsNext, ReadsNext, RefusesNext, IsMissing}
+use Rattle.design_tokens.specs.Steps.{IsNext, ReadsNext, RefusesNext, IsMissing}
 use Rattle.ispd_reader.proofs.AdjustSteps.{no_adjustments, some_adjustments}
 
 -- ---- any token

@@ -8,17 +8,17 @@ use Rattle.std.proofs.lemmas.List.{append-nil}
 use Rattle.grid_graph.specs.declared.design.Design.{Design}
 use Rattle.text_scan.specs.Tokens.{is_blank, tokens_from}
 use Rattle.text_scan.specs.Reading.{whole, tokens_left}
-use Rattle.ispd_reader.specs.declared.input_error.InputError.{InputError}
-use Rattle.ispd_reader.specs.declared.input_error.InputError.TheVariants.{Input, NoMemory}
-use Rattle.ispd_reader.specs.declared.input_fault.InputFault.{InputFault}
-use Rattle.ispd_reader.specs.declared.input_fault.InputFault.TheVariants.{TooLong, Syntax}
+use Rattle.design_tokens.specs.declared.input_error.InputError.{InputError}
+use Rattle.design_tokens.specs.declared.input_error.InputError.TheVariants.{Input, NoMemory}
+use Rattle.design_tokens.specs.declared.input_fault.InputFault.{InputFault}
+use Rattle.design_tokens.specs.declared.input_fault.InputFault.TheVariants.{TooLong, Syntax}
 use Rattle.ispd_reader.specs.declared.machine.Machine.{Machine}
 use Rattle.ispd_reader.specs.declared.progress.Progress.{Progress}
-use Rattle.ispd_reader.specs.declared.wanted.Wanted.{Wanted}
+use Rattle.design_tokens.specs.declared.wanted.Wanted.{Wanted}
 use Rattle.ispd_reader.specs.Designs.{Contents, contents_at, contents_of, IsDesignOf, IsDesignOfText}
 use Rattle.ispd_reader.specs.Limits.{max_bytes}
 use Rattle.ispd_reader.specs.MachineLeft.{left_of, AtEnd}
-use Rattle.ispd_reader.specs.Parsing.{Reading, refusal_in, Refuses}
+use Rattle.design_tokens.specs.Parsing.{Reading, refusal_in, Refuses}
 use Rattle.ispd_reader.specs.Readers.{RefusesAll, EndsInBlank, HasReached, HasGoneOn, IsOver, IsAnswered}
 use Rattle.ispd_reader.proofs.MachineEnds.{at_end}
 use Rattle.ispd_reader.proofs.NeverTooLong.{says_too_long, never_too_long}

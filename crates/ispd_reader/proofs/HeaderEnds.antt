@@ -1,9 +1,9 @@
 -- What a reader of the header is where no token is left.
 use Rattle.ispd_reader.specs.declared.header_reader.HeaderReader.{HeaderReader}
-use Rattle.ispd_reader.specs.declared.wanted.Wanted.{Wanted}
+use Rattle.design_tokens.specs.declared.wanted.Wanted.{Wanted}
 use Rattle.ispd_reader.specs.HeaderLeft.{header_left}
 use Rattle.ispd_reader.specs.HeaderStages.{wanted_at}
-use Rattle.ispd_reader.specs.Steps.{IsMissing}
+use Rattle.design_tokens.specs.Steps.{IsMissing}
 use Rattle.ispd_reader.proofs.HeaderMisses.{stage_misses}
 
 -- a word is missing

@@ -9,10 +9,10 @@ use Rattle.ispd_reader.specs.declared.header_stage.HeaderStage.TheVariants.{Size
 use Rattle.ispd_reader.specs.declared.header_stage.SizeStage.TheVariants.{Grid, Cols, Rows, Layers}
 use Rattle.ispd_reader.specs.declared.header_stage.ListStage.TheVariants.{FirstWord, SecondWord, Value}
 use Rattle.ispd_reader.specs.declared.header_stage.LayoutStage.TheVariants.{Left, Lower, Width, Height}
-use Rattle.ispd_reader.specs.declared.input_fault.InputFault.TheVariants.{Syntax}
+use Rattle.design_tokens.specs.declared.input_fault.InputFault.TheVariants.{Syntax}
 use Rattle.ispd_reader.specs.declared.layer_lists.LayerLists.{LayerLists}
-use Rattle.ispd_reader.specs.declared.wanted.Wanted.TheVariants as wanted
-use Rattle.ispd_reader.specs.Parsing.{Reading}
+use Rattle.design_tokens.specs.declared.wanted.Wanted.TheVariants as wanted
+use Rattle.design_tokens.specs.Parsing.{Reading}
 use Rattle.ispd_reader.specs.Header.{extent_at, origin_at, tile_size_at}
 use Rattle.ispd_reader.specs.HeaderStages.{stage_left, wanted_at, IsStage}
 use Rattle.ispd_reader.specs.LayerLists.{first_word, second_word}

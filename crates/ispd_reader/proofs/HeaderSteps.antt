@@ -2,27 +2,27 @@
 use Rattle.std.proofs.Common.{◌≡◌, ℕ, ℤ, suc, ◌+◌, ◌-◌, ◌<◌, List, [], ◌∷◌, ◌++◌, length, slice_index, Option, None, Some, Result, Ok, Err, refl, sym, ap, ◌∙◌, arith}
 use Rattle.std.specs.Prelude.{IfSome, IsErrAnd}
 use Rattle.std.specs.Option.{option_map, ok_or}
-use Rattle.ispd_reader.specs.declared.input_fault.InputFault.TheVariants.{Syntax, GridSize, CapacityLimit, WidthLimit}
+use Rattle.design_tokens.specs.declared.input_fault.InputFault.TheVariants.{Syntax, GridSize, CapacityLimit, WidthLimit}
 use Rattle.ispd_reader.specs.Views.{extent_of_size}
 use Rattle.text_scan.specs.Reading.{tokens_left}
 use Rattle.text_scan.proofs.InTurn.{begins, goes_on, passes_on, left_behind}
 use Rattle.text_scan.proofs.Parts.{with_parts}
-use Rattle.ispd_reader.specs.declared.cut_token.CutToken.{CutToken}
-use Rattle.ispd_reader.specs.declared.input_error.InputError.{InputError}
-use Rattle.ispd_reader.specs.declared.input_fault.InputFault.{InputFault}
+use Rattle.design_tokens.specs.declared.cut_token.CutToken.{CutToken}
+use Rattle.design_tokens.specs.declared.input_error.InputError.{InputError}
+use Rattle.design_tokens.specs.declared.input_fault.InputFault.{InputFault}
 use Rattle.ispd_reader.specs.declared.layer_list.LayerList.{LayerList}
 use Rattle.ispd_reader.specs.declared.layer_list.LayerList.TheVariants.{Vertical, Horizontal, Widths, Spacings, Vias}
-use Rattle.ispd_reader.specs.Parsing.{Reading, InputRead, refusal_in, parts_at}
-use Rattle.ispd_reader.specs.Numbers.{word_at, number_at, number_within, capacity_at, width_at, spacing_at, side_at}
+use Rattle.design_tokens.specs.Parsing.{Reading, InputRead, refusal_in, parts_at}
+use Rattle.design_tokens.specs.Numbers.{word_at, number_at, number_within, capacity_at, width_at, spacing_at, side_at}
 use Rattle.ispd_reader.specs.Header.{Header, extent_of, capacities_at, widths_at, spacings_at, vias_at}
 use Rattle.ispd_reader.specs.HeaderTails.{layers_left, height_left, with_tile, with_vertical, with_horizontal, with_widths, with_spacings, with_vias, list_left, second_left, values_left}
 use Rattle.ispd_reader.specs.LayerLists.{first_word, second_word}
-use Rattle.ispd_reader.specs.Steps.{IsNext, ReadsNext, RefusesNext, TakesNext, TakesOrEnds}
+use Rattle.design_tokens.specs.Steps.{IsNext, ReadsNext, RefusesNext, TakesNext, TakesOrEnds}
 use Rattle.ispd_reader.specs.HeaderStages.{stage_left, TakesStage}
 use Rattle.ispd_reader.specs.LayersRead.{AreRead, header_with}
 use Rattle.ispd_reader.specs.declared.header_stage.HeaderStage.{HeaderStage}
-use Rattle.ispd_reader.specs.declared.wanted.Wanted.{Wanted}
-use Rattle.ispd_reader.specs.declared.wanted.Wanted.TheVariants as wanted
+use Rattle.design_tokens.specs.declared.wanted.Wanted.{Wanted}
+use Rattle.design_tokens.specs.declared.wanted.Wanted.TheVariants as wanted
 use Rattle.grid_graph.specs.Limits.{max_capacity, max_demand}
 use Rattle.ispd_reader.specs.declared.layer_lists.LayerLists.{LayerLists}
 use Rattle.text_scan.specs.declared.number.Number.{Number}

@@ -1,7 +1,6 @@
 pub mod AdjustSteps
 pub mod AdjustmentStages
 pub mod Alike
-pub mod CutTokens
 pub mod Fed
 pub mod HeaderEnds
 pub mod HeaderMisses
@@ -14,8 +13,6 @@ pub mod NetTokens
 pub mod NetsEnds
 pub mod NeverTooLong
 pub mod NextNumbers
-pub mod NextTokens
-pub mod Numerals
 pub mod Pieces
 pub mod Ranges
 pub mod Whole

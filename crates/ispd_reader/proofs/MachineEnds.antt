@@ -9,16 +9,16 @@ use Rattle.ispd_reader.specs.declared.body.Body.{Body}
 use Rattle.ispd_reader.specs.declared.machine.Machine.{Machine}
 use Rattle.ispd_reader.specs.declared.machine_stage.MachineStage.{MachineStage}
 use Rattle.ispd_reader.specs.declared.machine_stage.MachineStage.TheVariants as stages
-use Rattle.ispd_reader.specs.declared.wanted.Wanted.{Wanted}
-use Rattle.ispd_reader.specs.declared.wanted.Wanted.TheVariants as wanted
-use Rattle.ispd_reader.specs.Parsing.{Reading}
+use Rattle.design_tokens.specs.declared.wanted.Wanted.{Wanted}
+use Rattle.design_tokens.specs.declared.wanted.Wanted.TheVariants as wanted
+use Rattle.design_tokens.specs.Parsing.{Reading}
 use Rattle.ispd_reader.specs.Header.{Extent}
 use Rattle.ispd_reader.specs.Adjustments.{Adjustment}
 use Rattle.ispd_reader.specs.AdjustmentsLeft.{adjustments_left}
 use Rattle.ispd_reader.specs.MachineLeft.{left_of, Stands, AtEnd}
 use Rattle.ispd_reader.specs.MachineStages.{left_at_stage}
 use Rattle.ispd_reader.specs.NetsLeft.{has_all_nets}
-use Rattle.ispd_reader.specs.Steps.{IsMissing}
+use Rattle.design_tokens.specs.Steps.{IsMissing}
 use Rattle.ispd_reader.specs.Views.{extent_of_size, header_of}
 use Rattle.ispd_reader.proofs.AdjustmentStages.{number_is_missing, may_end}
 use Rattle.ispd_reader.proofs.HeaderEnds.{header_missing}

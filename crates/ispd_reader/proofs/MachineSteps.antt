@@ -11,13 +11,13 @@ use Rattle.grid_graph.specs.Grids.{size_of, layout_of, capacity, first_capacity}
 use Rattle.grid_graph.specs.Layouts.{Layout}
 use Rattle.ispd_reader.specs.declared.adjustments_reader.AdjustmentsReader.{AdjustmentsReader}
 use Rattle.ispd_reader.specs.declared.body.Body.{Body}
-use Rattle.ispd_reader.specs.declared.cut_token.CutToken.{CutToken}
+use Rattle.design_tokens.specs.declared.cut_token.CutToken.{CutToken}
 use Rattle.ispd_reader.specs.declared.header_reader.HeaderReader.{HeaderReader}
-use Rattle.ispd_reader.specs.declared.input_error.InputError.{InputError}
-use Rattle.ispd_reader.specs.declared.input_fault.InputFault.{InputFault}
+use Rattle.design_tokens.specs.declared.input_error.InputError.{InputError}
+use Rattle.design_tokens.specs.declared.input_fault.InputFault.{InputFault}
 use Rattle.ispd_reader.specs.declared.machine_stage.MachineStage.TheVariants as stages
 use Rattle.ispd_reader.specs.declared.nets_reader.NetsReader.{NetsReader}
-use Rattle.ispd_reader.specs.Parsing.{Reading, InputRead, ◌>>=◌}
+use Rattle.design_tokens.specs.Parsing.{Reading, InputRead, ◌>>=◌}
 use Rattle.ispd_reader.specs.Header.{Header, header_at}
 use Rattle.ispd_reader.specs.HeaderLeft.{header_left}
 use Rattle.ispd_reader.specs.Nets.{Net, nets_at}
@@ -28,7 +28,7 @@ use Rattle.ispd_reader.specs.AdjustmentsLeft.{alone, and_more, adjustments_left,
 use Rattle.ispd_reader.specs.BodyLeft.{with_nets_read, after_header, body_left, HasCapacities, IsReadyBody, BodyMovesOn}
 use Rattle.ispd_reader.specs.Designs.{Contents, contents_at}
 use Rattle.ispd_reader.specs.MachineStages.{left_at_stage, StageMovesOn}
-use Rattle.ispd_reader.specs.Steps.{RefusesNext, TakesNext}
+use Rattle.design_tokens.specs.Steps.{RefusesNext, TakesNext}
 use Rattle.ispd_reader.specs.Views.{extent_of_size, header_of}
 use Rattle.ispd_reader.specs.NetsSoFar.{AreNetsOf}
 use Rattle.ispd_reader.proofs.AdjustmentStages.{refused_left}

@@ -10,12 +10,12 @@ use Rattle.text_scan.specs.Reading.{whole, first_token}
 use Rattle.text_scan.proofs.Reading.{first_token_is_word}
 use Rattle.text_scan.proofs.Parts.{IfOk-then, IfOk-behind, IfOk-where_false}
 use Rattle.grid_graph.specs.declared.design.Design.{Design}
-use Rattle.ispd_reader.specs.declared.input_fault.InputFault.TheVariants.{Syntax}
-use Rattle.ispd_reader.specs.declared.wanted.Wanted.TheVariants as wanted
+use Rattle.design_tokens.specs.declared.input_fault.InputFault.TheVariants.{Syntax}
+use Rattle.design_tokens.specs.declared.wanted.Wanted.TheVariants as wanted
 use Rattle.grid_graph.specs.Limits.{max_nets, max_pins}
 use Rattle.ispd_reader.specs.Limits.{max_bytes}
-use Rattle.ispd_reader.specs.Parsing.{Reading}
-use Rattle.ispd_reader.specs.Numbers.{wanted_token, word_at, name_at, count_at}
+use Rattle.design_tokens.specs.Parsing.{Reading}
+use Rattle.design_tokens.specs.Numbers.{wanted_token, word_at, name_at, count_at}
 use Rattle.ispd_reader.specs.Header.{Header, header_at}
 use Rattle.ispd_reader.specs.Nets.{Net, id_at, net_width_at, pins_at, net_at, more_nets_at, nets_at}
 use Rattle.ispd_reader.specs.Adjustments.{adjustments_at}

@@ -13,25 +13,25 @@ use Rattle.grid_base.specs.declared.vertex.Vertex.{Vertex}
 use Rattle.grid_graph.specs.declared.grid.Grid.{Grid}
 use Rattle.grid_graph.specs.Grids.{layout_of}
 use Rattle.grid_graph.specs.Limits.{max_pins}
-use Rattle.ispd_reader.specs.declared.cut_token.CutToken.{CutToken}
-use Rattle.ispd_reader.specs.declared.input_error.InputError.{InputError}
-use Rattle.ispd_reader.specs.declared.input_fault.InputFault.{InputFault}
-use Rattle.ispd_reader.specs.declared.input_fault.InputFault.TheVariants.{Syntax, PinOutside, PinLayer}
+use Rattle.design_tokens.specs.declared.cut_token.CutToken.{CutToken}
+use Rattle.design_tokens.specs.declared.input_error.InputError.{InputError}
+use Rattle.design_tokens.specs.declared.input_fault.InputFault.{InputFault}
+use Rattle.design_tokens.specs.declared.input_fault.InputFault.TheVariants.{Syntax, PinOutside, PinLayer}
 use Rattle.ispd_reader.specs.declared.net_stage.NetStage.{NetStage}
 use Rattle.ispd_reader.specs.declared.net_stage.NetStage.TheVariants as stages
 use Rattle.ispd_reader.specs.declared.nets_reader.NetsReader.{NetsReader}
 use Rattle.ispd_reader.specs.declared.present_net.PresentNet.{PresentNet}
-use Rattle.ispd_reader.specs.declared.wanted.Wanted.{Wanted}
-use Rattle.ispd_reader.specs.declared.wanted.Wanted.TheVariants as wanted
-use Rattle.ispd_reader.specs.Parsing.{Reading, InputRead, ◌>>=◌, or_refuse, parts_at, Refuses, refusal_in}
-use Rattle.ispd_reader.specs.Numbers.{word_at, name_at, number_at, number_within, count_at}
+use Rattle.design_tokens.specs.declared.wanted.Wanted.{Wanted}
+use Rattle.design_tokens.specs.declared.wanted.Wanted.TheVariants as wanted
+use Rattle.design_tokens.specs.Parsing.{Reading, InputRead, ◌>>=◌, or_refuse, parts_at, Refuses, refusal_in}
+use Rattle.design_tokens.specs.Numbers.{word_at, name_at, number_at, number_within, count_at}
 use Rattle.ispd_reader.specs.Header.{Header}
 use Rattle.ispd_reader.specs.Nets.{Net, vertex_at, tile_along, id_at, net_at, net_width_at, pin_at, pins_at, more_nets_at, nets_at}
 use Rattle.ispd_reader.specs.PinParts.{pin_column_at, pin_row_at, pin_level_at, pin_behind_row, pin_behind_column, pin_behind_start}
 use Rattle.ispd_reader.specs.NetStages.{is_last_stage, wanted_at_stage}
 use Rattle.ispd_reader.specs.NetsLeft.{TakesNet, and_nets, net_behind_pins, net_behind_pin_count, taken_with, nets_left_of, nets_left_at_id, nets_left_at_width, nets_left_at_pins, nets_left_at_pin, nets_left_at_layer, nets_left_at, nets_left}
 use Rattle.ispd_reader.specs.NetsSoFar.{AreNetsOf}
-use Rattle.ispd_reader.specs.Steps.{IsNext, IsMissing}
+use Rattle.design_tokens.specs.Steps.{IsNext, IsMissing}
 use Rattle.ispd_reader.specs.Views.{header_of, nets_of, numbers}
 
 -- ---- one token of a stage

@@ -13,14 +13,14 @@ use Rattle.grid_graph.specs.Nets.{IdsDiffer, IsNet}
 use Rattle.ispd_reader.specs.declared.net_stage.NetStage.{NetStage}
 use Rattle.ispd_reader.specs.declared.net_stage.NetStage.TheVariants as stages
 use Rattle.ispd_reader.specs.declared.nets_reader.NetsReader.{NetsReader}
-use Rattle.ispd_reader.specs.declared.wanted.Wanted.{Wanted}
-use Rattle.ispd_reader.specs.Parsing.{Reading}
+use Rattle.design_tokens.specs.declared.wanted.Wanted.{Wanted}
+use Rattle.design_tokens.specs.Parsing.{Reading}
 use Rattle.ispd_reader.specs.Header.{Header}
 use Rattle.ispd_reader.specs.Nets.{Net, widest_spacing}
 use Rattle.ispd_reader.specs.NetStages.{wanted_at_stage}
 use Rattle.ispd_reader.specs.NetsLeft.{nets_left, has_all_nets}
 use Rattle.ispd_reader.specs.NetsSoFar.{IsBegunNet, IsPresentNet, AreNetsOf}
-use Rattle.ispd_reader.specs.Steps.{IsMissing}
+use Rattle.design_tokens.specs.Steps.{IsMissing}
 use Rattle.ispd_reader.specs.Views.{nets_of, numbers}
 use Rattle.ispd_reader.proofs.NetTokens.{nets_missing, nets_there}
 

@@ -5,16 +5,16 @@ use Rattle.text_scan.specs.Reading.{first_number, tokens_left, past_blanks}
 use Rattle.text_scan.specs.Within.{within}
 use Rattle.text_scan.specs.declared.number_fault.NumberFault.{NumberFault}
 use Rattle.text_scan.specs.declared.number_fault.NumberFault.TheVariants.{NotNumber, OutOfRange, End}
-use Rattle.ispd_reader.specs.declared.input_fault.InputFault.{InputFault}
-use Rattle.ispd_reader.specs.declared.input_fault.InputFault.TheVariants.{Syntax, Range, TooLong, GridSize, TileSize, CapacityLimit, WidthLimit, NetLimit, DuplicateId, PinOutside, PinLayer, AdjustmentPlace}
-use Rattle.ispd_reader.specs.declared.wanted.Wanted.{Wanted}
-use Rattle.ispd_reader.specs.declared.wanted.Wanted.TheVariants as wanted
+use Rattle.design_tokens.specs.declared.input_fault.InputFault.{InputFault}
+use Rattle.design_tokens.specs.declared.input_fault.InputFault.TheVariants.{Syntax, Range, TooLong, GridSize, TileSize, CapacityLimit, WidthLimit, NetLimit, DuplicateId, PinOutside, PinLayer, AdjustmentPlace}
+use Rattle.design_tokens.specs.declared.wanted.Wanted.{Wanted}
+use Rattle.design_tokens.specs.declared.wanted.Wanted.TheVariants as wanted
 use Rattle.grid_graph.specs.Limits.{max_capacity, max_demand, max_number, max_id, max_nets, max_pins}
 use Rattle.ispd_reader.specs.Limits.{max_adjustments}
-use Rattle.ispd_reader.specs.Words.{spelling}
-use Rattle.ispd_reader.specs.Refusals.{refusal_of}
-use Rattle.ispd_reader.specs.Parsing.{Reading, InputRead, ◌>>=◌, or_refuse, refused_as, parts_at}
-use Rattle.ispd_reader.specs.Numbers.{wanted_token, word_at, name_at, number_at, number_within, capacity_at, width_at, spacing_at, side_at, count_at}
+use Rattle.design_tokens.specs.Words.{spelling}
+use Rattle.design_tokens.specs.Refusals.{refusal_of}
+use Rattle.design_tokens.specs.Parsing.{Reading, InputRead, ◌>>=◌, or_refuse, refused_as, parts_at}
+use Rattle.design_tokens.specs.Numbers.{wanted_token, word_at, name_at, number_at, number_within, capacity_at, width_at, spacing_at, side_at, count_at}
 use Rattle.ispd_reader.specs.Header.{Extent, Header, extent_of, extent_at, capacities_at, widths_at, spacings_at, vias_at, origin_at, tile_size_at, header_at}
 use Rattle.ispd_reader.specs.Nets.{widest_spacing, id_at, net_width_at, tile_along, pin_at, pins_at, net_at, more_nets_at, nets_at}
 use Rattle.ispd_reader.specs.Adjustments.{step_between, tile_place_at, adjustment_at, adjustments_at}

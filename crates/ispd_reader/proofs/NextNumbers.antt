@@ -6,15 +6,15 @@ use Rattle.text_scan.specs.Within.{within}
 use Rattle.text_scan.specs.declared.number.Number.{Number}
 use Rattle.text_scan.proofs.Parts.{Refuses-with}
 use Rattle.grid_graph.specs.Limits.{max_id}
-use Rattle.ispd_reader.specs.declared.cut_token.CutToken.{CutToken}
-use Rattle.ispd_reader.specs.declared.input_error.InputError.{InputError}
-use Rattle.ispd_reader.specs.declared.input_fault.InputFault.{InputFault}
-use Rattle.ispd_reader.specs.declared.input_fault.InputFault.TheVariants.{Range, DuplicateId}
-use Rattle.ispd_reader.specs.Parsing.{Reading, or_refuse, Refuses, refusal_in}
-use Rattle.ispd_reader.specs.Numbers.{number_at}
+use Rattle.design_tokens.specs.declared.cut_token.CutToken.{CutToken}
+use Rattle.design_tokens.specs.declared.input_error.InputError.{InputError}
+use Rattle.design_tokens.specs.declared.input_fault.InputFault.{InputFault}
+use Rattle.design_tokens.specs.declared.input_fault.InputFault.TheVariants.{Range, DuplicateId}
+use Rattle.design_tokens.specs.Parsing.{Reading, or_refuse, Refuses, refusal_in}
+use Rattle.design_tokens.specs.Numbers.{number_at}
 use Rattle.ispd_reader.specs.Nets.{id_at}
 use Rattle.ispd_reader.specs.PinParts.{checked_number_at}
-use Rattle.ispd_reader.specs.Steps.{IsNext}
+use Rattle.design_tokens.specs.Steps.{IsNext}
 
 or_refuse_is : {A F : Type 0} (o : Option A) (fault : F) → or_refuse o fault ≡ ok_or o fault
 or_refuse_is (Some x) fault = refl

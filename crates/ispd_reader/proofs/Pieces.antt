@@ -9,15 +9,15 @@ use Rattle.std.proofs.lemmas.List.Folds.{list_all-append}
 use Rattle.text_scan.specs.Tokens.{Token, is_blank, is_gap, is_word, ends_word, tokens_from}
 use Rattle.text_scan.specs.Reading.{left, whole, tokens_left, past_token}
 use Rattle.text_scan.proofs.Words.{tokens_after_gap, word_is_token}
-use Rattle.ispd_reader.specs.declared.cut_token.CutToken.{CutToken}
-use Rattle.ispd_reader.specs.declared.input_error.InputError.{InputError}
-use Rattle.ispd_reader.specs.declared.input_fault.InputFault.{InputFault}
+use Rattle.design_tokens.specs.declared.cut_token.CutToken.{CutToken}
+use Rattle.design_tokens.specs.declared.input_error.InputError.{InputError}
+use Rattle.design_tokens.specs.declared.input_fault.InputFault.{InputFault}
 use Rattle.ispd_reader.specs.declared.machine.Machine.{Machine}
-use Rattle.ispd_reader.specs.CutTokens.{IsCutToken, has_no_byte}
+use Rattle.design_tokens.specs.CutTokens.{IsCutToken, has_no_byte}
 use Rattle.ispd_reader.specs.Designs.{contents_at}
 use Rattle.ispd_reader.specs.MachineLeft.{left_of, Stands, MovesOn}
-use Rattle.ispd_reader.specs.Parsing.{Reading, refusal_in}
-use Rattle.ispd_reader.specs.Steps.{IsNext, LeavesNext}
+use Rattle.design_tokens.specs.Parsing.{Reading, refusal_in}
+use Rattle.design_tokens.specs.Steps.{IsNext, LeavesNext}
 use Rattle.ispd_reader.specs.declared.progress.Progress.{Progress}
 use Rattle.ispd_reader.specs.Readers.{is_solid, IsCut, HasTaken, HasTakenAll, HasReached, HasReadSome, HasClosed, HasEnded, HasGoneOn, IsOver}
 

@@ -4,10 +4,10 @@ use Rattle.std.specs.Option.{option_or, option_zip}
 use Rattle.grid_base.specs.declared.place.Place.{Place}
 use Rattle.grid_base.specs.declared.axis.Axis.TheVariants.{X, Y}
 use Rattle.grid_base.specs.Numbers.{distance, edge_along}
-use Rattle.ispd_reader.specs.declared.input_fault.InputFault.TheVariants.{AdjustmentPlace}
+use Rattle.design_tokens.specs.declared.input_fault.InputFault.TheVariants.{AdjustmentPlace}
 use Rattle.ispd_reader.specs.Limits.{max_adjustments}
-use Rattle.ispd_reader.specs.Parsing.{Reading, InputRead, ◌>>=◌, or_refuse, parts_at}
-use Rattle.ispd_reader.specs.Numbers.{number_at, capacity_at, count_at}
+use Rattle.design_tokens.specs.Parsing.{Reading, InputRead, ◌>>=◌, or_refuse, parts_at}
+use Rattle.design_tokens.specs.Numbers.{number_at, capacity_at, count_at}
 use Rattle.text_scan.specs.Reading.{tokens_left, past_blanks}
 use Rattle.text_scan.specs.Within.{within}
 use Rattle.ispd_reader.specs.Header.{Extent}

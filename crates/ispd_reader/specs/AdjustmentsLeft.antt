@@ -15,18 +15,18 @@ use Rattle.ispd_reader.specs.declared.adjustment_stage.AdjustmentStage.{Adjustme
 use Rattle.ispd_reader.specs.declared.adjustment_stage.AdjustmentStage.TheVariants as stages
 use Rattle.ispd_reader.specs.declared.place_stage.PlaceStage.{PlaceStage}
 use Rattle.ispd_reader.specs.declared.place_stage.PlaceStage.TheVariants as tiles
-use Rattle.ispd_reader.specs.declared.cut_token.CutToken.{CutToken}
-use Rattle.ispd_reader.specs.declared.input_error.InputError.{InputError}
-use Rattle.ispd_reader.specs.declared.input_fault.InputFault.{InputFault}
-use Rattle.ispd_reader.specs.declared.input_fault.InputFault.TheVariants.{AdjustmentPlace}
+use Rattle.design_tokens.specs.declared.cut_token.CutToken.{CutToken}
+use Rattle.design_tokens.specs.declared.input_error.InputError.{InputError}
+use Rattle.design_tokens.specs.declared.input_fault.InputFault.{InputFault}
+use Rattle.design_tokens.specs.declared.input_fault.InputFault.TheVariants.{AdjustmentPlace}
 use Rattle.ispd_reader.specs.Limits.{max_adjustments}
-use Rattle.ispd_reader.specs.Parsing.{Reading, InputRead, ◌>>=◌, or_refuse, parts_at}
-use Rattle.ispd_reader.specs.Numbers.{number_at, capacity_at}
+use Rattle.design_tokens.specs.Parsing.{Reading, InputRead, ◌>>=◌, or_refuse, parts_at}
+use Rattle.design_tokens.specs.Numbers.{number_at, capacity_at}
 use Rattle.ispd_reader.specs.Header.{Extent}
 use Rattle.ispd_reader.specs.Views.{extent_of_size}
 use Rattle.ispd_reader.specs.Adjustments.{Adjustment, place_in, step_between, adjustment_at, adjustments_at}
 use Rattle.ispd_reader.specs.Adjusted.{IsAdjusted, adjustment_of}
-use Rattle.ispd_reader.specs.Steps.{IsNext, LeavesNext, RefusesNext}
+use Rattle.design_tokens.specs.Steps.{IsNext, LeavesNext, RefusesNext}
 
 -- a tile, where its next number reads as this
 abbrev pub tile_number : Extent → PlaceStage → InputRead Number → InputRead (Option Place × ℕ)

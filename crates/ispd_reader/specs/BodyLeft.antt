@@ -3,10 +3,10 @@ use Rattle.std.specs.Prelude.{◌≡◌, ℕ, List, Result, Ok, Err}
 use Rattle.std.specs.Option.{unwrap_or}
 use Rattle.grid_graph.specs.Grids.{size_of, layout_of, capacity, first_capacity}
 use Rattle.ispd_reader.specs.declared.body.Body.{Body}
-use Rattle.ispd_reader.specs.declared.cut_token.CutToken.{CutToken}
-use Rattle.ispd_reader.specs.declared.input_error.InputError.{InputError}
-use Rattle.ispd_reader.specs.declared.input_fault.InputFault.{InputFault}
-use Rattle.ispd_reader.specs.Parsing.{Reading, InputRead, ◌>>=◌}
+use Rattle.design_tokens.specs.declared.cut_token.CutToken.{CutToken}
+use Rattle.design_tokens.specs.declared.input_error.InputError.{InputError}
+use Rattle.design_tokens.specs.declared.input_fault.InputFault.{InputFault}
+use Rattle.design_tokens.specs.Parsing.{Reading, InputRead, ◌>>=◌}
 use Rattle.ispd_reader.specs.Header.{Header}
 use Rattle.ispd_reader.specs.Nets.{Net, nets_at}
 use Rattle.ispd_reader.specs.NetsLeft.{nets_left}
@@ -15,7 +15,7 @@ use Rattle.ispd_reader.specs.Adjustments.{Adjustment, adjustments_at, last_level
 use Rattle.ispd_reader.specs.AdjustmentsLeft.{alone, and_more, adjustments_left, FitsSize}
 use Rattle.ispd_reader.specs.Views.{extent_of_size, header_of}
 use Rattle.ispd_reader.specs.Designs.{Contents}
-use Rattle.ispd_reader.specs.Steps.{LeavesNext, RefusesNext}
+use Rattle.design_tokens.specs.Steps.{LeavesNext, RefusesNext}
 
 -- all that a text says, where it has this header, the nets read as these, and this is left behind them
 abbrev pub with_nets_read : Header → (Reading → Result (List Adjustment) InputFault) → InputRead (List Net) → Result Contents InputFault

@@ -2,11 +2,11 @@
 use Rattle.std.specs.Prelude.{◌≡◌, ℕ, List, length, map, if◌then◌else◌, nat_lt, Result, Ok, Err, unwrap_or}
 use Rattle.grid_graph.specs.declared.design.Design.{Design}
 use Rattle.grid_graph.specs.Grids.{layout_of, capacity, first_capacity}
-use Rattle.ispd_reader.specs.declared.input_fault.InputFault.{InputFault}
-use Rattle.ispd_reader.specs.declared.input_fault.InputFault.TheVariants.{TooLong}
+use Rattle.design_tokens.specs.declared.input_fault.InputFault.{InputFault}
+use Rattle.design_tokens.specs.declared.input_fault.InputFault.TheVariants.{TooLong}
 use Rattle.ispd_reader.specs.Limits.{max_bytes}
 use Rattle.text_scan.specs.Reading.{whole}
-use Rattle.ispd_reader.specs.Parsing.{Reading, ◌>>=◌}
+use Rattle.design_tokens.specs.Parsing.{Reading, ◌>>=◌}
 use Rattle.ispd_reader.specs.Header.{Header, header_at}
 use Rattle.ispd_reader.specs.Nets.{Net, nets_at}
 use Rattle.ispd_reader.specs.Views.{header_of, net_of}

@@ -1,11 +1,11 @@
 -- The parts of the text before the nets: the grid, its layers and its tiles.
 use Rattle.std.specs.Prelude.{ℕ, Bool, ◌*◌, ◌&&◌, List, length, slice_index, if◌then◌else◌, nat_le, ℤ, pos, negsuc, Option, None, Some, Ok}
 use Rattle.grid_base.specs.Limits.{max_layers, max_vertices}
-use Rattle.ispd_reader.specs.declared.input_fault.InputFault.TheVariants.{GridSize}
-use Rattle.ispd_reader.specs.declared.wanted.Wanted.{Wanted}
-use Rattle.ispd_reader.specs.declared.wanted.Wanted.TheVariants as wanted
-use Rattle.ispd_reader.specs.Parsing.{Reading, InputRead, ◌>>=◌, or_refuse, parts_at}
-use Rattle.ispd_reader.specs.Numbers.{word_at, number_at, capacity_at, width_at, spacing_at, side_at}
+use Rattle.design_tokens.specs.declared.input_fault.InputFault.TheVariants.{GridSize}
+use Rattle.design_tokens.specs.declared.wanted.Wanted.{Wanted}
+use Rattle.design_tokens.specs.declared.wanted.Wanted.TheVariants as wanted
+use Rattle.design_tokens.specs.Parsing.{Reading, InputRead, ◌>>=◌, or_refuse, parts_at}
+use Rattle.design_tokens.specs.Numbers.{word_at, number_at, capacity_at, width_at, spacing_at, side_at}
 
 -- the size of a grid
 pub record Extent : Type 0 where

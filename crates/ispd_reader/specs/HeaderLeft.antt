@@ -1,6 +1,6 @@
 -- What a reader of what stands before the nets still has to read.
 use Rattle.ispd_reader.specs.declared.header_reader.HeaderReader.{HeaderReader}
-use Rattle.ispd_reader.specs.Parsing.{Reading, InputRead}
+use Rattle.design_tokens.specs.Parsing.{Reading, InputRead}
 use Rattle.ispd_reader.specs.Header.{Header}
 use Rattle.ispd_reader.specs.HeaderStages.{stage_left}
 

@@ -2,7 +2,7 @@
 use Rattle.std.specs.Prelude.{ℕ, Bool, true, nat_lt, IsTrue, ℤ, pos, Result, Ok, Err, IfOk}
 use Rattle.grid_base.specs.Numbers.{layers}
 use Rattle.grid_graph.specs.Layouts.{IsPosition, IsTileSize}
-use Rattle.ispd_reader.specs.declared.cut_token.CutToken.{CutToken}
+use Rattle.design_tokens.specs.declared.cut_token.CutToken.{CutToken}
 use Rattle.ispd_reader.specs.declared.header_stage.HeaderStage.{HeaderStage}
 use Rattle.ispd_reader.specs.declared.header_stage.HeaderStage.TheVariants.{Size, List, Tiles}
 use Rattle.ispd_reader.specs.declared.header_stage.SizeStage.{SizeStage}
@@ -11,18 +11,18 @@ use Rattle.ispd_reader.specs.declared.header_stage.ListStage.{ListStage}
 use Rattle.ispd_reader.specs.declared.header_stage.ListStage.TheVariants.{FirstWord, SecondWord, Value}
 use Rattle.ispd_reader.specs.declared.header_stage.LayoutStage.{LayoutStage}
 use Rattle.ispd_reader.specs.declared.header_stage.LayoutStage.TheVariants.{Left, Lower, Width, Height}
-use Rattle.ispd_reader.specs.declared.input_error.InputError.{InputError}
+use Rattle.design_tokens.specs.declared.input_error.InputError.{InputError}
 use Rattle.ispd_reader.specs.declared.layer_list.LayerList.{LayerList}
 use Rattle.ispd_reader.specs.declared.layer_list.LayerList.TheVariants.{Vertical, Vias}
 use Rattle.ispd_reader.specs.declared.layer_lists.LayerLists.{LayerLists}
-use Rattle.ispd_reader.specs.declared.wanted.Wanted.{Wanted}
-use Rattle.ispd_reader.specs.declared.wanted.Wanted.TheVariants as wanted
+use Rattle.design_tokens.specs.declared.wanted.Wanted.{Wanted}
+use Rattle.design_tokens.specs.declared.wanted.Wanted.TheVariants as wanted
 use Rattle.ispd_reader.specs.LayerLists.{first_word, second_word}
-use Rattle.ispd_reader.specs.Parsing.{Reading, InputRead}
+use Rattle.design_tokens.specs.Parsing.{Reading, InputRead}
 use Rattle.ispd_reader.specs.Header.{Extent, Header, extent_at, origin_at}
 use Rattle.ispd_reader.specs.HeaderTails.{cols_left, rows_left, layers_left, list_left, second_left, values_left, lower_left, height_left, with_extent, with_origin, with_tile, from_tile}
 use Rattle.ispd_reader.specs.LayersRead.{AreRead, header_with}
-use Rattle.ispd_reader.specs.Steps.{LeavesNext, RefusesNext}
+use Rattle.design_tokens.specs.Steps.{LeavesNext, RefusesNext}
 
 -- the size
 abbrev pub size_left : SizeStage → Reading → InputRead Extent

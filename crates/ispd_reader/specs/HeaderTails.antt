@@ -2,13 +2,13 @@
 use Rattle.std.specs.Prelude.{ℕ, ◌-◌, List, length, slice_index, ℤ, pos, [], Ok}
 use Rattle.text_scan.proofs.InTurn.{left_behind}
 use Rattle.text_scan.proofs.Parts.{with_parts}
-use Rattle.ispd_reader.specs.declared.input_fault.InputFault.TheVariants.{GridSize}
+use Rattle.design_tokens.specs.declared.input_fault.InputFault.TheVariants.{GridSize}
 use Rattle.ispd_reader.specs.declared.layer_list.LayerList.{LayerList}
 use Rattle.ispd_reader.specs.declared.layer_list.LayerList.TheVariants.{Vertical, Horizontal, Widths, Spacings, Vias}
-use Rattle.ispd_reader.specs.declared.wanted.Wanted.{Wanted}
-use Rattle.ispd_reader.specs.declared.wanted.Wanted.TheVariants as wanted
-use Rattle.ispd_reader.specs.Parsing.{Reading, InputRead, ◌>>=◌, or_refuse, parts_at}
-use Rattle.ispd_reader.specs.Numbers.{word_at, number_at, capacity_at, width_at, spacing_at, side_at}
+use Rattle.design_tokens.specs.declared.wanted.Wanted.{Wanted}
+use Rattle.design_tokens.specs.declared.wanted.Wanted.TheVariants as wanted
+use Rattle.design_tokens.specs.Parsing.{Reading, InputRead, ◌>>=◌, or_refuse, parts_at}
+use Rattle.design_tokens.specs.Numbers.{word_at, number_at, capacity_at, width_at, spacing_at, side_at}
 use Rattle.ispd_reader.specs.Header.{Extent, Header, extent_of, capacities_at, widths_at, spacings_at, vias_at, origin_at, tile_size_at}
 
 -- ---- the size, from each of its numbers on

@@ -1,16 +1,16 @@
 -- What the machine of tokens still has to read of a design text.
 use Rattle.std.specs.Prelude.{◌≡◌, Bool, List, [], Option, Some, None, Result, Ok, Err}
 use Rattle.text_scan.specs.Reading.{tokens_left}
-use Rattle.ispd_reader.specs.declared.cut_token.CutToken.{CutToken}
-use Rattle.ispd_reader.specs.declared.input_error.InputError.{InputError}
-use Rattle.ispd_reader.specs.declared.input_fault.InputFault.{InputFault}
+use Rattle.design_tokens.specs.declared.cut_token.CutToken.{CutToken}
+use Rattle.design_tokens.specs.declared.input_error.InputError.{InputError}
+use Rattle.design_tokens.specs.declared.input_fault.InputFault.{InputFault}
 use Rattle.ispd_reader.specs.declared.machine.Machine.{Machine}
-use Rattle.ispd_reader.specs.declared.wanted.Wanted.{Wanted}
-use Rattle.ispd_reader.specs.Parsing.{Reading}
+use Rattle.design_tokens.specs.declared.wanted.Wanted.{Wanted}
+use Rattle.design_tokens.specs.Parsing.{Reading}
 use Rattle.ispd_reader.specs.Adjustments.{Adjustment}
 use Rattle.ispd_reader.specs.Designs.{Contents}
 use Rattle.ispd_reader.specs.MachineStages.{left_at_stage, HasMade, awaits_name_at}
-use Rattle.ispd_reader.specs.Steps.{LeavesNext, RefusesNext, IsMissing}
+use Rattle.design_tokens.specs.Steps.{LeavesNext, RefusesNext, IsMissing}
 
 -- what is left of it, and all that it says then; these adjustments were made
 abbrev pub left_of : Machine → List Adjustment → Reading → Result Contents InputFault

@@ -1,19 +1,19 @@
 -- What is left of a design text, by the part that is read.
 use Rattle.std.specs.Prelude.{◌≡◌, Bool, false, List, [], Result, Ok, Err}
 use Rattle.std.specs.Coded.{Unit-prop}
-use Rattle.ispd_reader.specs.declared.cut_token.CutToken.{CutToken}
-use Rattle.ispd_reader.specs.declared.input_error.InputError.{InputError}
-use Rattle.ispd_reader.specs.declared.input_fault.InputFault.{InputFault}
+use Rattle.design_tokens.specs.declared.cut_token.CutToken.{CutToken}
+use Rattle.design_tokens.specs.declared.input_error.InputError.{InputError}
+use Rattle.design_tokens.specs.declared.input_fault.InputFault.{InputFault}
 use Rattle.ispd_reader.specs.declared.machine_stage.MachineStage.{MachineStage}
 use Rattle.ispd_reader.specs.declared.machine_stage.MachineStage.TheVariants.{Header, Body}
-use Rattle.ispd_reader.specs.Parsing.{Reading, ◌>>=◌}
+use Rattle.design_tokens.specs.Parsing.{Reading, ◌>>=◌}
 use Rattle.ispd_reader.specs.HeaderLeft.{header_left}
 use Rattle.ispd_reader.specs.NetsLeft.{awaits_name}
 use Rattle.ispd_reader.specs.Adjustments.{Adjustment}
 use Rattle.ispd_reader.specs.BodyLeft.{after_header, body_left, HasCapacities, IsReadyBody}
 use Rattle.ispd_reader.specs.OneWay.{IsReadyBody-prop}
 use Rattle.ispd_reader.specs.Designs.{Contents}
-use Rattle.ispd_reader.specs.Steps.{LeavesNext, RefusesNext}
+use Rattle.design_tokens.specs.Steps.{LeavesNext, RefusesNext}
 
 -- what is left of it, and all that it says then; these adjustments were made
 abbrev pub left_at_stage : MachineStage → List Adjustment → Reading → Result Contents InputFault

@@ -1,8 +1,8 @@
 -- A token that keeps the bytes of a name.
 use Rattle.std.specs.Prelude.{◌≡◌, true, false}
-use Rattle.ispd_reader.specs.declared.cut_token.CutToken.{CutToken}
+use Rattle.design_tokens.specs.declared.cut_token.CutToken.{CutToken}
 use Rattle.ispd_reader.specs.declared.machine.Machine.{Machine}
-use Rattle.ispd_reader.specs.CutTokens.{has_no_byte, keeps_name}
+use Rattle.design_tokens.specs.CutTokens.{has_no_byte, keeps_name}
 use Rattle.ispd_reader.specs.MachineLeft.{awaits_a_name}
 
 -- a token keeps its bytes where the machine awaits a name

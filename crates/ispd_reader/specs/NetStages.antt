@@ -2,8 +2,8 @@
 use Rattle.std.specs.Prelude.{Bool, true, false}
 use Rattle.ispd_reader.specs.declared.net_stage.NetStage.{NetStage}
 use Rattle.ispd_reader.specs.declared.net_stage.NetStage.TheVariants as stages
-use Rattle.ispd_reader.specs.declared.wanted.Wanted.{Wanted}
-use Rattle.ispd_reader.specs.declared.wanted.Wanted.TheVariants as wanted
+use Rattle.design_tokens.specs.declared.wanted.Wanted.{Wanted}
+use Rattle.design_tokens.specs.declared.wanted.Wanted.TheVariants as wanted
 
 -- nothing
 abbrev pub is_last_stage : NetStage → Bool

@@ -3,10 +3,10 @@ use Rattle.std.specs.Prelude.{ℕ, zero, suc, Bool, false, ◌+◌, ◌-◌, ◌
 use Rattle.grid_graph.specs.Limits.{max_demand, max_id, max_nets, max_pins}
 pub use Rattle.grid_graph.specs.Terms.{without_repeats}
 use Rattle.grid_graph.specs.Tiles.{tile_index}
-use Rattle.ispd_reader.specs.declared.input_fault.InputFault.TheVariants.{Range, WidthLimit, DuplicateId, PinOutside, PinLayer}
-use Rattle.ispd_reader.specs.declared.wanted.Wanted.TheVariants as wanted
-use Rattle.ispd_reader.specs.Parsing.{Reading, InputRead, ◌>>=◌, or_refuse, parts_at}
-use Rattle.ispd_reader.specs.Numbers.{word_at, name_at, number_at, number_within, count_at}
+use Rattle.design_tokens.specs.declared.input_fault.InputFault.TheVariants.{Range, WidthLimit, DuplicateId, PinOutside, PinLayer}
+use Rattle.design_tokens.specs.declared.wanted.Wanted.TheVariants as wanted
+use Rattle.design_tokens.specs.Parsing.{Reading, InputRead, ◌>>=◌, or_refuse, parts_at}
+use Rattle.design_tokens.specs.Numbers.{word_at, name_at, number_at, number_within, count_at}
 use Rattle.text_scan.specs.Within.{within}
 use Rattle.ispd_reader.specs.Header.{Extent, Header}
 

@@ -6,20 +6,20 @@ use Rattle.text_scan.proofs.Parts.{with_parts}
 use Rattle.grid_graph.specs.declared.grid.Grid.{Grid}
 use Rattle.grid_graph.specs.Grids.{layout_of}
 use Rattle.grid_graph.specs.Limits.{max_nets, max_pins}
-use Rattle.ispd_reader.specs.declared.cut_token.CutToken.{CutToken}
-use Rattle.ispd_reader.specs.declared.input_error.InputError.{InputError}
+use Rattle.design_tokens.specs.declared.cut_token.CutToken.{CutToken}
+use Rattle.design_tokens.specs.declared.input_error.InputError.{InputError}
 use Rattle.ispd_reader.specs.declared.net_stage.NetStage.{NetStage}
 use Rattle.ispd_reader.specs.declared.net_stage.NetStage.TheVariants as stages
 use Rattle.ispd_reader.specs.declared.nets_reader.NetsReader.{NetsReader}
-use Rattle.ispd_reader.specs.declared.wanted.Wanted.TheVariants as wanted
-use Rattle.ispd_reader.specs.Parsing.{Reading, InputRead, ◌>>=◌, parts_at}
-use Rattle.ispd_reader.specs.Numbers.{word_at, name_at, count_at}
+use Rattle.design_tokens.specs.declared.wanted.Wanted.TheVariants as wanted
+use Rattle.design_tokens.specs.Parsing.{Reading, InputRead, ◌>>=◌, parts_at}
+use Rattle.design_tokens.specs.Numbers.{word_at, name_at, count_at}
 use Rattle.ispd_reader.specs.Header.{Header}
 use Rattle.ispd_reader.specs.NetStages.{is_last_stage, is_net_name}
 use Rattle.ispd_reader.specs.Nets.{Net, id_at, net_width_at, pin_at, pins_at, more_nets_at, without_repeats}
 pub use Rattle.ispd_reader.specs.NetsSoFar.{AreNetsOf}
 use Rattle.ispd_reader.specs.PinParts.{pin_column_at, pin_row_at, pin_level_at, pin_behind_row, pin_behind_column, pin_behind_start}
-use Rattle.ispd_reader.specs.Steps.{TakesNext}
+use Rattle.design_tokens.specs.Steps.{TakesNext}
 use Rattle.ispd_reader.specs.Views.{header_of, nets_of, numbers}
 
 -- there are all nets

@@ -1,10 +1,10 @@
 -- The three numbers of a pin, each with what it has to be.
 use Rattle.std.specs.Prelude.{ℕ, ◌-◌, ℤ, Option, Ok}
 use Rattle.text_scan.specs.Within.{within}
-use Rattle.ispd_reader.specs.declared.input_fault.InputFault.{InputFault}
-use Rattle.ispd_reader.specs.declared.input_fault.InputFault.TheVariants.{PinOutside, PinLayer}
-use Rattle.ispd_reader.specs.Parsing.{Reading, InputRead, ◌>>=◌, or_refuse}
-use Rattle.ispd_reader.specs.Numbers.{number_at}
+use Rattle.design_tokens.specs.declared.input_fault.InputFault.{InputFault}
+use Rattle.design_tokens.specs.declared.input_fault.InputFault.TheVariants.{PinOutside, PinLayer}
+use Rattle.design_tokens.specs.Parsing.{Reading, InputRead, ◌>>=◌, or_refuse}
+use Rattle.design_tokens.specs.Numbers.{number_at}
 use Rattle.ispd_reader.specs.Header.{Header}
 use Rattle.ispd_reader.specs.Nets.{vertex_at, tile_along}
 

@@ -3,20 +3,20 @@ use Rattle.std.specs.Prelude.{◌≡◌, ◌≤◌, ◌<◌, ◌↔◌, ℕ, ◌
 use Rattle.std.specs.List.{list_all}
 use Rattle.text_scan.specs.Tokens.{is_blank, is_gap, ends_word}
 use Rattle.text_scan.specs.Reading.{whole, tokens_left}
-use Rattle.ispd_reader.specs.declared.cut_token.CutToken.{CutToken}
-use Rattle.ispd_reader.specs.declared.input_error.InputError.{InputError}
-use Rattle.ispd_reader.specs.declared.input_error.InputError.TheVariants.{Input, NoMemory}
-use Rattle.ispd_reader.specs.declared.input_fault.InputFault.{InputFault}
-use Rattle.ispd_reader.specs.declared.input_fault.InputFault.TheVariants.{TooLong}
+use Rattle.design_tokens.specs.declared.cut_token.CutToken.{CutToken}
+use Rattle.design_tokens.specs.declared.input_error.InputError.{InputError}
+use Rattle.design_tokens.specs.declared.input_error.InputError.TheVariants.{Input, NoMemory}
+use Rattle.design_tokens.specs.declared.input_fault.InputFault.{InputFault}
+use Rattle.design_tokens.specs.declared.input_fault.InputFault.TheVariants.{TooLong}
 use Rattle.ispd_reader.specs.declared.machine.Machine.{Machine}
 use Rattle.ispd_reader.specs.declared.progress.Progress.{Progress}
 use Rattle.ispd_reader.specs.declared.reader.Reader.{Reader}
 use Rattle.ispd_reader.specs.Adjustments.{Adjustment}
-use Rattle.ispd_reader.specs.CutTokens.{IsCutToken, has_no_byte}
+use Rattle.design_tokens.specs.CutTokens.{IsCutToken, has_no_byte}
 use Rattle.ispd_reader.specs.Designs.{contents_at, contents_of}
 use Rattle.ispd_reader.specs.Limits.{max_bytes}
 use Rattle.ispd_reader.specs.MachineLeft.{left_of, Stands}
-use Rattle.ispd_reader.specs.Parsing.{Reading, refusal_in, Refuses}
+use Rattle.design_tokens.specs.Parsing.{Reading, refusal_in, Refuses}
 
 -- every text that begins so, and is not too long, is refused for this
 abbrev pub RefusesAll : List ℕ → InputFault → Type 0

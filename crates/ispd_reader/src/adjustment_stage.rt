@@ -7,15 +7,12 @@ ghost use Rattle.ispd_reader.specs.Adjustments.{edge_between, step_between};
 ghost use Rattle.ispd_reader.specs.AdjustmentsLeft.{adjustment_left, FitsStage, BecomesNext};
 ghost use Rattle.ispd_reader.specs.declared.adjustment_stage.AdjustmentStage.TheVariants as stage;
 ghost use Rattle.ispd_reader.specs.Adjusted.{adjustment_of};
-ghost use Rattle.ispd_reader.specs.Steps.{TakesOrEnds};
+ghost use Rattle.design_tokens.specs.Steps.{TakesOrEnds};
 ghost use Rattle.ispd_reader.specs.Views.{extent_of_size};
 
 use crate::adjustment::Adjustment;
-use crate::cut_token::CutToken;
-use crate::input_error::InputError;
-use crate::input_fault::InputFault;
 use crate::place_stage::PlaceStage;
-use crate::values::capacity;
+use design_tokens::{CutToken, InputError, InputFault, capacity};
 use grid_base::{Axis, Edge, Place, Size};
 use grid_graph::MAX_CAPACITY;
 

@@ -6,22 +6,19 @@ ghost use Rattle.grid_base.specs.declared.size.Size.{Size as GridSize};
 ghost use Rattle.grid_base.specs.Numbers.{IsPiece};
 ghost use Rattle.grid_graph.specs.Grids.{size_of};
 ghost use Rattle.text_scan.specs.Reading.{tokens_left};
-ghost use Rattle.ispd_reader.specs.Parsing.{Reading, parts_at};
+ghost use Rattle.design_tokens.specs.Parsing.{Reading, parts_at};
 ghost use Rattle.ispd_reader.specs.Limits.{max_adjustments};
 ghost use Rattle.ispd_reader.specs.Header.{Extent};
 ghost use Rattle.ispd_reader.specs.Adjustments.{adjustment_at, adjustments_at};
 ghost use Rattle.ispd_reader.specs.Adjusted.{adjustment_of, IsAdjustedBy};
 ghost use Rattle.ispd_reader.specs.AdjustmentsLeft.{adjustments_left, alone, FitsSize, MakesNext, AdjustsNext};
-ghost use Rattle.ispd_reader.specs.Steps.{IsMissing};
+ghost use Rattle.design_tokens.specs.Steps.{IsMissing};
 ghost use Rattle.ispd_reader.specs.Views.{extent_of_size};
 
 use crate::adjustment::Adjustment;
 use crate::adjustment_stage::AdjustmentStage;
-use crate::cut_token::CutToken;
-use crate::input_error::InputError;
 use crate::place_stage::PlaceStage;
-use crate::values::count;
-use crate::wanted::Wanted;
+use design_tokens::{CutToken, InputError, Wanted, count};
 use grid_base::Size;
 use grid_graph::{Grid, MAX_CAPACITY};
 

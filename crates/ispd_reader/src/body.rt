@@ -3,8 +3,8 @@
 ghost use Rattle.std.specs.Prelude.{◌≡◌, [], List, length, true, None, Ok, Err, IfOk, IfErr, IfSome};
 ghost use Rattle.text_scan.specs.Reading.{tokens_left};
 ghost use Rattle.grid_graph.specs.Layouts.{IsGridParts, layout_of_parts};
-ghost use Rattle.ispd_reader.specs.CutTokens.{keeps_name};
-ghost use Rattle.ispd_reader.specs.Parsing.{Reading, refusal_in};
+ghost use Rattle.design_tokens.specs.CutTokens.{keeps_name};
+ghost use Rattle.design_tokens.specs.Parsing.{Reading, refusal_in};
 ghost use Rattle.ispd_reader.specs.Adjustments.{Adjustment};
 ghost use Rattle.ispd_reader.specs.Designs.{Contents, IsDesignOf};
 ghost use Rattle.ispd_reader.specs.NetsLeft.{awaits_name};
@@ -12,10 +12,8 @@ ghost use Rattle.ispd_reader.specs.BodyLeft.{body_left, after_header, HasCapacit
 ghost use Rattle.ispd_reader.specs.Views.{header_of};
 
 use crate::adjustments_reader::AdjustmentsReader;
-use crate::cut_token::CutToken;
-use crate::input_error::InputError;
-use crate::input_fault::InputFault;
 use crate::nets_reader::NetsReader;
+use design_tokens::{CutToken, InputError, InputFault};
 use grid_graph::{Design, Grid, GridParts};
 use std::alloc::Global;
 

@@ -2,14 +2,11 @@
 
 ghost use Rattle.ispd_reader.specs.HeaderStages.{IsStage};
 
-use crate::cut_token::CutToken;
 use crate::header_stage::{HeaderStage, LayoutStage, ListStage, SizeStage};
 use crate::header_steps::{behind_values, first_word, left, lower, second_word, size_token, width};
-use crate::input_error::InputError;
 use crate::layer_list::LayerList;
 use crate::layer_lists::LayerLists;
-use crate::values::side;
-use crate::wanted::Wanted;
+use design_tokens::{CutToken, InputError, Wanted, side};
 use grid_base::Size;
 use grid_graph::GridParts;
 use std::alloc::Global;
@@ -27,10 +24,10 @@ pub(crate) struct HeaderReader {
 impl HeaderReader {
     ghost use Rattle.std.specs.Prelude.{◌≡◌, IfOk, IfSome};
     ghost use Rattle.grid_graph.specs.Layouts.{IsGridParts, layout_of_parts};
-    ghost use Rattle.ispd_reader.specs.Parsing.{Reading};
+    ghost use Rattle.design_tokens.specs.Parsing.{Reading};
     ghost use Rattle.ispd_reader.specs.Header.{header_at};
     ghost use Rattle.ispd_reader.specs.HeaderLeft.{header_left};
-    ghost use Rattle.ispd_reader.specs.Steps.{ReadsNext, TakesNext, TakesOrEnds, IsMissing};
+    ghost use Rattle.design_tokens.specs.Steps.{ReadsNext, TakesNext, TakesOrEnds, IsMissing};
     ghost use Rattle.ispd_reader.specs.Views.{header_of};
     ghost use Rattle.ispd_reader.specs.declared.header_stage.HeaderStage.TheVariants.{List, Tiles};
     ghost use Rattle.ispd_reader.specs.declared.header_stage.ListStage.TheVariants.{Value};

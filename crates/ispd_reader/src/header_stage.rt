@@ -4,7 +4,7 @@ ghost use Rattle.std.specs.Prelude.{◌≡◌};
 ghost use Rattle.ispd_reader.specs.HeaderStages.{wanted_at};
 
 use crate::layer_list::LayerList;
-use crate::wanted::Wanted;
+use design_tokens::Wanted;
 use grid_base::Size;
 use text_scan::Number;
 

@@ -7,20 +7,16 @@ ghost use Rattle.ispd_reader.specs.declared.header_stage.ListStage.TheVariants.{
 ghost use Rattle.ispd_reader.specs.declared.header_stage.SizeStage.TheVariants.{Layers};
 ghost use Rattle.ispd_reader.specs.declared.layer_lists.LayerLists.{LayerLists};
 ghost use Rattle.ispd_reader.specs.declared.header_stage.LayoutStage.TheVariants.{Left, Lower, Width};
-ghost use Rattle.ispd_reader.specs.Parsing.{Reading};
+ghost use Rattle.design_tokens.specs.Parsing.{Reading};
 ghost use Rattle.ispd_reader.specs.Header.{extent_of};
 ghost use Rattle.ispd_reader.specs.HeaderTails.{values_left};
 ghost use Rattle.ispd_reader.specs.LayersRead.{AreRead, header_with};
 ghost use Rattle.ispd_reader.specs.HeaderStages.{TakesStage, KeepsLimits, IsStage, stage_left};
 ghost use Rattle.ispd_reader.specs.Views.{extent_of_size};
 
-use crate::cut_token::CutToken;
 use crate::header_stage::{HeaderStage, LayoutStage, ListStage, SizeStage};
-use crate::input_error::InputError;
-use crate::input_fault::InputFault;
 use crate::layer_list::LayerList;
-use crate::values::{number, side, word};
-use crate::wanted::Wanted;
+use design_tokens::{CutToken, InputError, InputFault, Wanted, number, side, word};
 use grid_base::{MAX_LAYERS, MAX_VERTICES, Size};
 use text_scan::Number;
 

@@ -3,7 +3,7 @@
 ghost use Rattle.std.specs.Prelude.{◌≡◌};
 ghost use Rattle.ispd_reader.specs.LayerLists.{first_word, second_word};
 
-use crate::wanted::Wanted;
+use design_tokens::Wanted;
 
 /// A list that has a number per layer.
 #[derive(Clone, Copy, Debug, Drop, PartialEq, Eq)]

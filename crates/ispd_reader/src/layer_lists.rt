@@ -4,12 +4,10 @@ ghost use Rattle.std.specs.Prelude.{◌≡◌, ◌+◌, ◌<◌, [], IfOk, IfErr
 ghost use Rattle.grid_base.specs.Numbers.{layers};
 ghost use Rattle.ispd_reader.specs.HeaderTails.{values_left};
 ghost use Rattle.ispd_reader.specs.LayersRead.{AreRead, header_with};
-ghost use Rattle.ispd_reader.specs.Steps.{TakesNext};
+ghost use Rattle.design_tokens.specs.Steps.{TakesNext};
 
-use crate::cut_token::CutToken;
-use crate::input_error::InputError;
 use crate::layer_list::LayerList;
-use crate::values::{capacity, number, spacing, width};
+use design_tokens::{CutToken, InputError, capacity, number, spacing, width};
 use grid_base::Size;
 use std::alloc::Global;
 

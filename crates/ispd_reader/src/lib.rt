@@ -8,8 +8,8 @@
 //! let design = reader.end()?;
 //! ```
 //!
-//! It stands on `text_scan` for what tokens and numbers are, on `grid_base` for sizes and vertices,
-//! and on `grid_graph` for grids, nets and designs.
+//! It stands on `text_scan` for where tokens begin and end, on `design_tokens` for what each is and for
+//! the faults, on `grid_base` for sizes and vertices, and on `grid_graph` for grids, nets and designs.
 //!
 //! Promised: a `Reader` ends with the design that the joined pieces name, or with what is wrong with
 //! them at the first place in the order of reading, however the text is cut; `read_design` answers
@@ -21,14 +21,9 @@ mod adjustment;
 mod adjustment_stage;
 mod adjustments_reader;
 mod body;
-mod cut_token;
-mod fault_fields;
-mod first_bytes;
 mod header_reader;
 mod header_stage;
 mod header_steps;
-mod input_error;
-mod input_fault;
 mod laws;
 mod layer_list;
 mod layer_lists;
@@ -37,19 +32,13 @@ mod machine_stage;
 mod net_numbers;
 mod net_stage;
 mod nets_reader;
-mod numeral;
 mod place_stage;
 mod present_net;
 mod progress;
 mod reader;
 mod reading;
-mod values;
-mod wanted;
 
-pub use fault_fields::FaultFields;
-pub use input_error::InputError;
-pub use input_fault::InputFault;
+pub use design_tokens::{FaultFields, InputError, InputFault, Wanted};
 pub use laws::{designs_of_a_text_are_alike, names_of_a_design};
 pub use reader::{MAX_BYTES, Reader};
 pub use reading::read_design;
-pub use wanted::Wanted;

@@ -2,10 +2,9 @@
 
 ghost use Rattle.ispd_reader.specs.MachineStages.{IsReady, IsReady-prop};
 
-use crate::cut_token::CutToken;
 use crate::header_reader::HeaderReader;
-use crate::input_error::InputError;
 use crate::machine_stage::MachineStage;
+use design_tokens::{CutToken, InputError};
 use grid_graph::Design;
 use std::alloc::Global;
 
@@ -19,8 +18,8 @@ pub(crate) struct Machine {
 impl Machine {
     ghost use Rattle.std.specs.Prelude.{◌≡◌, [], List, length, true, Ok, Err, IfOk, IfErr, IfSome};
     ghost use Rattle.text_scan.specs.Reading.{tokens_left};
-    ghost use Rattle.ispd_reader.specs.CutTokens.{keeps_name};
-    ghost use Rattle.ispd_reader.specs.Parsing.{Reading, refusal_in};
+    ghost use Rattle.design_tokens.specs.CutTokens.{keeps_name};
+    ghost use Rattle.design_tokens.specs.Parsing.{Reading, refusal_in};
     ghost use Rattle.ispd_reader.specs.Adjustments.{Adjustment};
     ghost use Rattle.ispd_reader.specs.Designs.{Contents, contents_at, IsDesignOf};
     ghost use Rattle.ispd_reader.specs.MachineLeft.{left_of, Stands, awaits_a_name, MovesOn};

@@ -2,17 +2,15 @@
 
 ghost use Rattle.std.specs.Prelude.{◌≡◌, [], List, length, true, Ok, Err, IfOk, IfErr, IfSome};
 ghost use Rattle.text_scan.specs.Reading.{tokens_left};
-ghost use Rattle.ispd_reader.specs.CutTokens.{keeps_name};
-ghost use Rattle.ispd_reader.specs.Parsing.{Reading, refusal_in};
+ghost use Rattle.design_tokens.specs.CutTokens.{keeps_name};
+ghost use Rattle.design_tokens.specs.Parsing.{Reading, refusal_in};
 ghost use Rattle.ispd_reader.specs.Adjustments.{Adjustment};
 ghost use Rattle.ispd_reader.specs.Designs.{Contents, IsDesignOf};
 ghost use Rattle.ispd_reader.specs.MachineStages.{IsReady, HasMade, awaits_name_at, left_at_stage, StageMovesOn};
 
 use crate::body::Body;
-use crate::cut_token::CutToken;
 use crate::header_reader::HeaderReader;
-use crate::input_error::InputError;
-use crate::input_fault::InputFault;
+use design_tokens::{CutToken, InputError, InputFault};
 use grid_graph::Design;
 use std::alloc::Global;
 

@@ -9,13 +9,10 @@ ghost use Rattle.grid_graph.specs.Layouts.{IsPosition};
 ghost use Rattle.grid_graph.specs.Limits.{max_id};
 ghost use Rattle.ispd_reader.specs.Nets.{id_at, net_width_at, tile_along, vertex_at, widest_spacing};
 ghost use Rattle.ispd_reader.specs.PinParts.{pin_column_at, pin_row_at, pin_level_at};
-ghost use Rattle.ispd_reader.specs.Steps.{ReadsNext};
+ghost use Rattle.design_tokens.specs.Steps.{ReadsNext};
 ghost use Rattle.ispd_reader.specs.Views.{extent_of_size, header_of};
 
-use crate::cut_token::CutToken;
-use crate::input_error::InputError;
-use crate::input_fault::InputFault;
-use crate::values::number;
+use design_tokens::{CutToken, InputError, InputFault, number};
 use grid_base::{Place, Vertex};
 use grid_graph::{Grid, MAX_DEMAND, tile_index};
 use std::collections::BTreeSet;

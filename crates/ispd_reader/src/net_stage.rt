@@ -3,7 +3,7 @@
 ghost use Rattle.std.specs.Prelude.{◌≡◌};
 ghost use Rattle.ispd_reader.specs.NetStages.{is_last_stage, is_net_name, wanted_at_stage};
 
-use crate::wanted::Wanted;
+use design_tokens::Wanted;
 
 /// The token that is next.
 #[derive(Clone, Copy, Debug, Drop)]

@@ -4,12 +4,10 @@ ghost use Rattle.std.specs.Prelude.{◌≡◌, IfOk, IfSome};
 ghost use Rattle.grid_base.specs.Numbers.{IsInside};
 ghost use Rattle.ispd_reader.specs.Adjustments.{place_in};
 ghost use Rattle.ispd_reader.specs.AdjustmentsLeft.{tile_left};
-ghost use Rattle.ispd_reader.specs.Steps.{TakesOrEnds};
+ghost use Rattle.design_tokens.specs.Steps.{TakesOrEnds};
 ghost use Rattle.ispd_reader.specs.Views.{extent_of_size};
 
-use crate::cut_token::CutToken;
-use crate::input_error::InputError;
-use crate::values::number;
+use design_tokens::{CutToken, InputError, number};
 use grid_base::{Place, Size};
 use text_scan::Number;
 

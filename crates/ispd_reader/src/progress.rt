@@ -5,9 +5,8 @@ ghost use Rattle.std.specs.List.{position_or_len};
 ghost use Rattle.text_scan.specs.Tokens.{is_blank};
 ghost use Rattle.ispd_reader.specs.Named.{IsNamed};
 
-use crate::cut_token::CutToken;
-use crate::input_error::InputError;
 use crate::machine::Machine;
+use design_tokens::{CutToken, InputError};
 use grid_base::NoMemory;
 use grid_graph::Design;
 use std::alloc::Global;
@@ -24,10 +23,10 @@ pub(crate) struct Progress {
 impl Progress {
     ghost use Rattle.std.specs.Prelude.{◌+◌, ◌<◌, List, ℕ, [], ◌∷◌, ◌++◌, IfOk, IfErr, IsTrue, true, false};
     ghost use Rattle.text_scan.specs.Reading.{whole};
-    ghost use Rattle.ispd_reader.specs.CutTokens.{has_no_byte};
+    ghost use Rattle.design_tokens.specs.CutTokens.{has_no_byte};
     ghost use Rattle.ispd_reader.specs.Designs.{Contents, contents_at, IsDesignOf};
     ghost use Rattle.ispd_reader.specs.Limits.{max_bytes};
-    ghost use Rattle.ispd_reader.specs.Parsing.{Refuses, refusal_in};
+    ghost use Rattle.design_tokens.specs.Parsing.{Refuses, refusal_in};
     ghost use Rattle.ispd_reader.specs.Readers.{is_solid, HasReached, HasReadSome, HasClosed, HasEnded, HasGoneOn};
 
     /// Nothing has been read.

@@ -1,8 +1,7 @@
 //! The reader of a design that is fed in pieces.
 
-use crate::input_error::InputError;
-use crate::input_fault::InputFault;
 use crate::progress::Progress;
+use design_tokens::{InputError, InputFault};
 use grid_base::NoMemory;
 use grid_graph::Design;
 use std::alloc::Global;
@@ -23,13 +22,13 @@ pub struct Reader {
 impl Reader {
     ghost use Rattle.std.specs.Prelude.{◌≡◌, ◌≢◌, ◌<◌, ◌↔◌, ◌⊎◌, ◌+◌, ◌-◌, ◌^◌, min, List, ℕ, [], ◌++◌, length, Some, None, IfOk, IfErr, IfSome};
     ghost use Rattle.std.specs.Result.{result_err};
-    ghost use Rattle.ispd_reader.specs.declared.input_fault.InputFault.{InputFault};
-    ghost use Rattle.ispd_reader.specs.declared.input_fault.InputFault.TheVariants.{TooLong};
-    ghost use Rattle.ispd_reader.specs.declared.input_error.InputError.{InputError};
-    ghost use Rattle.ispd_reader.specs.declared.input_error.InputError.TheVariants as errors;
+    ghost use Rattle.design_tokens.specs.declared.input_fault.InputFault.{InputFault};
+    ghost use Rattle.design_tokens.specs.declared.input_fault.InputFault.TheVariants.{TooLong};
+    ghost use Rattle.design_tokens.specs.declared.input_error.InputError.{InputError};
+    ghost use Rattle.design_tokens.specs.declared.input_error.InputError.TheVariants as errors;
     ghost use Rattle.ispd_reader.specs.Designs.{contents_of, IsDesignOfText};
     ghost use Rattle.ispd_reader.specs.Limits.{max_bytes};
-    ghost use Rattle.ispd_reader.specs.Parsing.{Refuses, refusal_in};
+    ghost use Rattle.design_tokens.specs.Parsing.{Refuses, refusal_in};
     ghost use Rattle.ispd_reader.specs.Readers.{HasRead, IsAnswered, RefusesAll, EndsInBlank, answered};
 
     /// A reader that was fed nothing.

@@ -1,11 +1,11 @@
 //! Reading a design.
 
 ghost use Rattle.std.specs.Prelude.{IfOk, IfErr};
-ghost use Rattle.ispd_reader.specs.Parsing.{Refuses, refusal_in};
+ghost use Rattle.design_tokens.specs.Parsing.{Refuses, refusal_in};
 ghost use Rattle.ispd_reader.specs.Designs.{contents_of, IsDesignOfText};
 
-use crate::input_error::InputError;
 use crate::reader::Reader;
+use design_tokens::InputError;
 use grid_graph::Design;
 use std::alloc::Global;
 

@@ -11,7 +11,7 @@ use Rattle.gr_make.specs.declared.shape.Shape.{Shape}
 use Rattle.gr_make.specs.MadeAdjustments.{MadeAdjustment}
 use Rattle.gr_make.specs.MadeText.{adjustment_line}
 use Rattle.gr_make.specs.Shapes.{IsShape}
-use Rattle.ispd_reader.specs.declared.input_fault.InputFault.TheVariants.{CapacityLimit, NetLimit}
+use Rattle.design_tokens.specs.declared.input_fault.InputFault.TheVariants.{CapacityLimit, NetLimit}
 use Rattle.ispd_reader.specs.Adjustments.{place_in, edge_between, step_between, tile_place_at, adjustment_at, adjustments_at}
 use Rattle.ispd_reader.specs.Limits.{max_adjustments}
 use Rattle.text_scan.proofs.Ranges.{within_is}

@@ -13,7 +13,7 @@ use Rattle.gr_make.specs.MadeAdjustments.{MadeAdjustment, adjustment_count, made
 use Rattle.gr_make.specs.MadeNets.{MadeNet, made_nets}
 use Rattle.gr_make.specs.MadeText.{line_text, heading_lines, pin_line, net_lines, adjustment_line, made_text}
 use Rattle.gr_make.specs.Shapes.{IsShape, max_made_nets}
-use Rattle.ispd_reader.specs.declared.input_fault.InputFault.TheVariants.{TooLong}
+use Rattle.design_tokens.specs.declared.input_fault.InputFault.TheVariants.{TooLong}
 use Rattle.ispd_reader.specs.Adjustments.{Adjustment, adjustments_at}
 use Rattle.ispd_reader.specs.Designs.{Contents, contents_at, contents_of}
 use Rattle.ispd_reader.specs.Header.{header_at}

@@ -12,9 +12,9 @@ use Rattle.gr_make.specs.declared.shape.Shape.{Shape}
 use Rattle.gr_make.specs.Shapes.{IsShape}
 use Rattle.gr_make.specs.MadeNets.{tile_side}
 use Rattle.gr_make.specs.MadeText.{vertical_level, horizontal_level, per_layer, heading_lines}
-use Rattle.ispd_reader.specs.declared.input_fault.InputFault.TheVariants.{CapacityLimit, WidthLimit}
-use Rattle.ispd_reader.specs.declared.wanted.Wanted.{Wanted}
-use Rattle.ispd_reader.specs.declared.wanted.Wanted.TheVariants as wanted
+use Rattle.design_tokens.specs.declared.input_fault.InputFault.TheVariants.{CapacityLimit, WidthLimit}
+use Rattle.design_tokens.specs.declared.wanted.Wanted.{Wanted}
+use Rattle.design_tokens.specs.declared.wanted.Wanted.TheVariants as wanted
 use Rattle.ispd_reader.specs.Header.{extent_of, extent_at, capacities_at, widths_at, spacings_at, vias_at, origin_at, tile_size_at, header_at}
 use Rattle.ispd_reader.specs.Numbers.{capacity_at, width_at, spacing_at}
 use Rattle.ispd_reader.specs.Words.{spelling}

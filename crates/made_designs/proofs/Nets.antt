@@ -8,8 +8,8 @@ use Rattle.gr_make.specs.declared.shape.Shape.{Shape}
 use Rattle.gr_make.specs.MadeNets.{MadeNet}
 use Rattle.gr_make.specs.MadeText.{pin_line}
 use Rattle.gr_make.specs.Shapes.{IsShape, max_made_nets}
-use Rattle.ispd_reader.specs.declared.input_fault.InputFault.TheVariants.{WidthLimit, NetLimit}
-use Rattle.ispd_reader.specs.declared.wanted.Wanted.TheVariants as wanted
+use Rattle.design_tokens.specs.declared.input_fault.InputFault.TheVariants.{WidthLimit, NetLimit}
+use Rattle.design_tokens.specs.declared.wanted.Wanted.TheVariants as wanted
 use Rattle.ispd_reader.specs.Nets.{widest_spacing, id_at, net_width_at, net_at, more_nets_at, nets_at}
 use Rattle.text_scan.proofs.Ranges.{within_is}
 use Rattle.made_designs.specs.MadeContents.{for_layers, made_header, net_made}

@@ -11,8 +11,8 @@ use Rattle.text_scan.proofs.Ranges.{within_is}
 use Rattle.text_scan.proofs.Texts.{number_is_word, within_them}
 use Rattle.text_scan.proofs.Words.{printed_number}
 use Rattle.grid_graph.specs.Limits.{max_number}
-use Rattle.ispd_reader.specs.declared.input_fault.InputFault.{InputFault}
-use Rattle.ispd_reader.specs.declared.wanted.Wanted.{Wanted}
+use Rattle.design_tokens.specs.declared.input_fault.InputFault.{InputFault}
+use Rattle.design_tokens.specs.declared.wanted.Wanted.{Wanted}
 use Rattle.ispd_reader.specs.Numbers.{word_at, name_at, number_at, number_within, side_at}
 use Rattle.ispd_reader.specs.Words.{spelling}
 use Rattle.made_designs.proofs.LineWords.{words_of, words_left, words_past_token}

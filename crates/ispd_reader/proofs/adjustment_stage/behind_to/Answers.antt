@@ -1,7 +1,7 @@
 use Rattle.std.proofs.Common.{◌≡◌, ◌∙◌, None, Some, sym, ap}
 use Rattle.std.specs.Prelude.{option_map}
 use Rattle.std.proofs.lemmas.Result.{err_from_is_err_and}
-use Rattle.ispd_reader.specs.declared.input_fault.InputFault.TheVariants.{AdjustmentPlace}
+use Rattle.design_tokens.specs.declared.input_fault.InputFault.TheVariants.{AdjustmentPlace}
 use Rattle.ispd_reader.specs.Adjustments.{step_between}
 use Rattle.ispd_reader.specs.Views.{extent_of_size}
 use Rattle.ispd_reader.proofs.AdjustmentStages.{to_refused, to_goes_on, to_ends, no_step}

@@ -1,7 +1,7 @@
 use Rattle.ispd_reader.specs.declared.header_stage.HeaderStage.TheVariants.{List}
 use Rattle.ispd_reader.specs.declared.header_stage.ListStage.TheVariants.{FirstWord}
 use Rattle.ispd_reader.specs.LayersRead.{header_with}
-use Rattle.ispd_reader.specs.Numbers.{word_at}
+use Rattle.design_tokens.specs.Numbers.{word_at}
 use Rattle.ispd_reader.specs.LayerLists as lists
 use Rattle.text_scan.specs.Reading.{past_token}
 use Rattle.ispd_reader.proofs.HeaderSteps.{stage_refused, first_word_read, first_word_refused}

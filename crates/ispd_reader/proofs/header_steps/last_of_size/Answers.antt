@@ -4,7 +4,7 @@ use Rattle.text_scan.specs.Reading.{past_token}
 use Rattle.ispd_reader.specs.HeaderTails.{with_extent}
 use Rattle.ispd_reader.specs.declared.header_stage.HeaderStage.TheVariants.{Size}
 use Rattle.ispd_reader.specs.declared.header_stage.SizeStage.TheVariants.{Layers}
-use Rattle.ispd_reader.specs.Numbers.{number_at}
+use Rattle.design_tokens.specs.Numbers.{number_at}
 use Rattle.ispd_reader.proofs.HeaderSteps.{stage_refused, no_size}
 use Rattle.ispd_reader.proofs.header_steps.last_of_size.Goals as goal
 

@@ -2,7 +2,7 @@ use Rattle.std.proofs.Common.{refl}
 use Rattle.ispd_reader.specs.declared.header_stage.HeaderStage.TheVariants.{Tiles}
 use Rattle.ispd_reader.specs.declared.header_stage.LayoutStage.TheVariants.{Left}
 use Rattle.ispd_reader.specs.Header.{origin_at}
-use Rattle.ispd_reader.specs.Numbers.{number_at}
+use Rattle.design_tokens.specs.Numbers.{number_at}
 use Rattle.ispd_reader.proofs.HeaderSteps.{stage_refused}
 use Rattle.ispd_reader.proofs.header_steps.left.Goals as goal
 

@@ -1,7 +1,7 @@
 use Rattle.std.proofs.Common.{refl}
 use Rattle.ispd_reader.specs.declared.header_stage.HeaderStage.TheVariants.{Tiles}
 use Rattle.ispd_reader.specs.declared.header_stage.LayoutStage.TheVariants.{Lower}
-use Rattle.ispd_reader.specs.Numbers.{number_at}
+use Rattle.design_tokens.specs.Numbers.{number_at}
 use Rattle.ispd_reader.proofs.HeaderSteps.{stage_refused}
 use Rattle.ispd_reader.proofs.header_steps.lower.Goals as goal
 

@@ -1,9 +1,9 @@
 use Rattle.std.proofs.Common.{refl}
 use Rattle.ispd_reader.specs.declared.header_stage.HeaderStage.TheVariants.{Size}
 use Rattle.ispd_reader.specs.declared.header_stage.SizeStage.TheVariants.{Grid, Cols, Rows}
-use Rattle.ispd_reader.specs.declared.wanted.Wanted.TheVariants as wanted
+use Rattle.design_tokens.specs.declared.wanted.Wanted.TheVariants as wanted
 use Rattle.ispd_reader.specs.Header.{extent_at}
-use Rattle.ispd_reader.specs.Numbers.{word_at, number_at}
+use Rattle.design_tokens.specs.Numbers.{word_at, number_at}
 use Rattle.ispd_reader.proofs.HeaderSteps.{stage_refused}
 use Rattle.ispd_reader.proofs.header_steps.size_token.Goals as goal
 

@@ -1,8 +1,8 @@
 use Rattle.std.proofs.Common.{ℕ}
 use Rattle.std.proofs.lemmas.Result.{err_from_is_err_and}
 use Rattle.grid_graph.specs.Grids.{layout_of}
-use Rattle.ispd_reader.specs.declared.input_fault.InputFault.{InputFault}
-use Rattle.ispd_reader.specs.declared.input_fault.InputFault.TheVariants.{PinOutside}
+use Rattle.design_tokens.specs.declared.input_fault.InputFault.{InputFault}
+use Rattle.design_tokens.specs.declared.input_fault.InputFault.TheVariants.{PinOutside}
 use Rattle.ispd_reader.specs.Nets.{tile_along}
 use Rattle.ispd_reader.specs.Views.{header_of}
 use Rattle.ispd_reader.proofs.NextNumbers.{no_number, wrong_number, right_number}

@@ -3,8 +3,8 @@ use Rattle.std.proofs.lemmas.Result.{err_from_is_err_and}
 use Rattle.text_scan.specs.Within.{within}
 use Rattle.grid_base.specs.Numbers.{layers}
 use Rattle.grid_graph.specs.Grids.{layout_of}
-use Rattle.ispd_reader.specs.declared.input_fault.InputFault.{InputFault}
-use Rattle.ispd_reader.specs.declared.input_fault.InputFault.TheVariants.{PinLayer}
+use Rattle.design_tokens.specs.declared.input_fault.InputFault.{InputFault}
+use Rattle.design_tokens.specs.declared.input_fault.InputFault.TheVariants.{PinLayer}
 use Rattle.ispd_reader.specs.Views.{header_of}
 use Rattle.ispd_reader.proofs.NextNumbers.{no_number, wrong_number, right_number}
 use Rattle.ispd_reader.proofs.net_numbers.level.Goals as goal

@@ -5,8 +5,8 @@ use Rattle.text_scan.proofs.Ranges.{within_bounds}
 use Rattle.grid_base.proofs.Lists.{get_or-le-fold_max}
 use Rattle.grid_graph.specs.Grids.{layout_of}
 use Rattle.grid_graph.specs.Limits.{max_demand}
-use Rattle.ispd_reader.specs.declared.input_fault.InputFault.TheVariants.{WidthLimit}
-use Rattle.ispd_reader.specs.Numbers.{number_within}
+use Rattle.design_tokens.specs.declared.input_fault.InputFault.TheVariants.{WidthLimit}
+use Rattle.design_tokens.specs.Numbers.{number_within}
 use Rattle.ispd_reader.specs.Nets.{widest_spacing}
 use Rattle.ispd_reader.proofs.NextNumbers.{no_number, wrong_number, right_number}
 use Rattle.ispd_reader.proofs.net_numbers.net_width.Goals as goal

@@ -1,6 +1,6 @@
 use Rattle.std.proofs.Common.{◌∙◌, ℕ, Err, refl, sym, ap}
 use Rattle.grid_graph.specs.Grids.{size_of, layout_of}
-use Rattle.ispd_reader.specs.declared.input_fault.InputFault.TheVariants.{Syntax}
+use Rattle.design_tokens.specs.declared.input_fault.InputFault.TheVariants.{Syntax}
 use Rattle.ispd_reader.specs.Views.{extent_of_size, header_of, nets_of}
 use Rattle.ispd_reader.proofs.MachineSteps.{nets_fault, adjustments_fault, body_ends}
 use Rattle.ispd_reader.proofs.NetsEnds.{nets_done, nets_differ}

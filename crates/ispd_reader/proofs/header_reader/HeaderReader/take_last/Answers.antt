@@ -6,12 +6,12 @@ use Rattle.text_scan.specs.Reading.{past_token}
 use Rattle.ispd_reader.specs.declared.header_stage.HeaderStage.{HeaderStage}
 use Rattle.ispd_reader.specs.declared.header_stage.HeaderStage.TheVariants.{Tiles}
 use Rattle.ispd_reader.specs.declared.header_stage.LayoutStage.TheVariants.{Height}
-use Rattle.ispd_reader.specs.Parsing.{refusal_in}
+use Rattle.design_tokens.specs.Parsing.{refusal_in}
 use Rattle.ispd_reader.specs.Header.{Header}
 use Rattle.ispd_reader.specs.HeaderLeft.{header_left}
 use Rattle.ispd_reader.specs.HeaderStages.{IsStage, stage_left}
 use Rattle.ispd_reader.specs.LayersRead.{header_with}
-use Rattle.ispd_reader.specs.Numbers.{side_at}
+use Rattle.design_tokens.specs.Numbers.{side_at}
 use Rattle.ispd_reader.proofs.HeaderSteps.{height_read, height_refused}
 use Rattle.ispd_reader.proofs.header_reader.HeaderReader.take_last.Goals as goal
 

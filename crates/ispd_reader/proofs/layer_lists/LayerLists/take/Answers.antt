@@ -3,7 +3,7 @@ use Rattle.std.proofs.lemmas.List.{get_or_read}
 use Rattle.grid_base.specs.Numbers.{layers}
 use Rattle.text_scan.specs.Reading.{past_token}
 use Rattle.ispd_reader.specs.declared.layer_list.LayerList.TheVariants.{Vertical, Horizontal, Widths, Spacings, Vias}
-use Rattle.ispd_reader.specs.Numbers.{number_at, capacity_at, width_at, spacing_at}
+use Rattle.design_tokens.specs.Numbers.{number_at, capacity_at, width_at, spacing_at}
 use Rattle.ispd_reader.specs.HeaderTails.{values_left, with_vertical, with_horizontal, with_widths, with_spacings, with_vias}
 use Rattle.ispd_reader.specs.LayersRead.{header_with}
 use Rattle.ispd_reader.proofs.HeaderSteps.{takes_refused, value_read, value_refused, via_read, via_refused}

@@ -1,5 +1,5 @@
 use Rattle.std.proofs.Common.{◌∙◌, ℕ, Err, ap}
-use Rattle.ispd_reader.specs.declared.input_fault.InputFault.TheVariants.{Syntax}
+use Rattle.design_tokens.specs.declared.input_fault.InputFault.TheVariants.{Syntax}
 use Rattle.ispd_reader.proofs.MachineSteps.{header_fault}
 use Rattle.ispd_reader.proofs.machine_stage.MachineStage.end.Goals as goal
 

@@ -5,7 +5,7 @@ use Rattle.std.specs.Ordering.{nat_cmp}
 use Rattle.grid_graph.specs.Grids.{layout_of}
 use Rattle.grid_graph.specs.Limits.{max_nets}
 use Rattle.ispd_reader.specs.declared.net_stage.NetStage.TheVariants as stages
-use Rattle.ispd_reader.specs.Numbers.{count_at}
+use Rattle.design_tokens.specs.Numbers.{count_at}
 use Rattle.ispd_reader.specs.NetsLeft.{nets_left_at_count}
 use Rattle.ispd_reader.specs.Views.{header_of}
 use Rattle.ispd_reader.proofs.NetTokens.{took, refused_there}

@@ -1,8 +1,8 @@
 use Rattle.std.proofs.Common.{refl}
 use Rattle.std.proofs.lemmas.Result.{err_from_is_err_and}
 use Rattle.ispd_reader.specs.declared.net_stage.NetStage.TheVariants as stages
-use Rattle.ispd_reader.specs.declared.wanted.Wanted.TheVariants as wanted
-use Rattle.ispd_reader.specs.Numbers.{word_at}
+use Rattle.design_tokens.specs.declared.wanted.Wanted.TheVariants as wanted
+use Rattle.design_tokens.specs.Numbers.{word_at}
 use Rattle.ispd_reader.specs.NetsLeft.{nets_left_at_num, nets_left}
 use Rattle.ispd_reader.proofs.NetTokens.{took, refused_there}
 use Rattle.ispd_reader.proofs.NetFits.{done_at}

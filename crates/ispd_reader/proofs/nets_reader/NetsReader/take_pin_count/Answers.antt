@@ -4,7 +4,7 @@ use Rattle.std.specs.BTreeSet.{contains}
 use Rattle.std.specs.Ordering.{nat_cmp}
 use Rattle.grid_graph.specs.Limits.{max_pins}
 use Rattle.ispd_reader.specs.declared.net_stage.NetStage.TheVariants as stages
-use Rattle.ispd_reader.specs.Numbers.{count_at}
+use Rattle.design_tokens.specs.Numbers.{count_at}
 use Rattle.ispd_reader.specs.NetsLeft.{nets_left_at_pin_count, nets_left}
 use Rattle.ispd_reader.proofs.NetTokens.{took, refused_there}
 use Rattle.ispd_reader.proofs.NetFits.{done_at, present_at, pins_done}

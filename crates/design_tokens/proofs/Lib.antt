@@ -1,0 +1,3 @@
+pub mod CutTokens
+pub mod NextTokens
+pub mod Numerals

@@ -1,0 +1,16 @@
+use Rattle.std.proofs.Common.{◌≡◌, true, false, refl}
+use Rattle.design_tokens.proofs.CutTokens.{bytes_added, still_some}
+use Rattle.design_tokens.proofs.cut_token.CutToken.extend.Goals as goal
+
+pub returns-in_ok-extend_from_slice-clause-token : goal.returns-in_ok-extend_from_slice-clause-token
+returns-in_ok-extend_from_slice-clause-token c = λ t is. bytes_added c.args.self.now _ t c.args.bytes.now is refl (c.extend.ensures t.bytes is.first) c.with_all-self.ensures (λ _. (c.if-self.true, c.in_ok-extend_from_slice.ensures.items))
+
+pub returns-in_ok-extend_from_slice-clause-some : goal.returns-in_ok-extend_from_slice-clause-some
+returns-in_ok-extend_from_slice-clause-some c = λ t is. still_some c.args.self.now c.extend.new.self t c.args.bytes.now is c.requires (c.extend.ensures t.bytes is.first)
+
+pub returns-else-self-clause-token : goal.returns-else-self-clause-token
+returns-else-self-clause-token c = λ t is. bytes_added c.args.self.now _ t c.args.bytes.now is refl (c.extend.ensures t.bytes is.first) c.with_all-self.ensures
+    (λ (named : c.args.self.now.named ≡ true). let other : c.args.self.now.named ≡ false = c.if-self.false in absurd (cc))
+
+pub returns-else-self-clause-some : goal.returns-else-self-clause-some
+returns-else-self-clause-some c = λ t is. still_some c.args.self.now c.extend.new.self t c.args.bytes.now is c.requires (c.extend.ensures t.bytes is.first)

@@ -1,0 +1,21 @@
+-- What a token that may be cut is known by.
+use Rattle.std.specs.Prelude.{◌≡◌, Bool, true, ◌==◌, length, take}
+use Rattle.text_scan.specs.Tokens.{Token}
+use Rattle.design_tokens.specs.declared.first_bytes.TheConstants.{KEPT}
+use Rattle.design_tokens.specs.declared.cut_token.CutToken.{CutToken}
+use Rattle.design_tokens.specs.Numerals.{numeral_of}
+
+-- it has no byte yet
+abbrev pub has_no_byte : CutToken → Bool
+has_no_byte c = length c.first == 0
+
+-- all its bytes are kept
+abbrev pub keeps_name : CutToken → Bool
+keeps_name c = c.named
+
+-- the bytes so far are those of this token
+pub record IsCutToken (c : CutToken) (t : Token) : Type 0 where
+  pub place : c.place ≡ t.place
+  pub first : c.first ≡ take KEPT t.bytes
+  pub numeral : c.numeral ≡ numeral_of t.bytes
+  pub name : c.named ≡ true → c.name.items ≡ t.bytes

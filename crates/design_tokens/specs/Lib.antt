@@ -1,0 +1,12 @@
+pub use Rattle.grid_graph.specs.Layouts
+pub use Rattle.text_scan.specs.Parts
+pub use Rattle.text_scan.specs.Reading
+pub use Rattle.text_scan.specs.Tokens
+pub mod Words
+pub mod Faults
+pub mod Refusals
+pub mod Parsing
+pub mod Numerals
+pub mod CutTokens
+pub mod Steps
+pub mod Numbers

@@ -1,7 +1,0 @@
-use Rattle.std.proofs.Common.{◌∙◌, ap}
-use Rattle.ispd_reader.specs.Numerals.{numeral_number, numeral_of}
-use Rattle.ispd_reader.proofs.Numerals.{numeral_says}
-use Rattle.ispd_reader.proofs.cut_token.CutToken.number.Goals as goal
-
-pub returns-clause-number : goal.returns-clause-number
-returns-clause-number c = λ t is. c.number.ensures.number ∙ ap (numeral_number c.args.self.now.place) is.numeral ∙ ap (λ at. numeral_number at (numeral_of t.bytes)) is.place ∙ numeral_says t.place t.bytes
