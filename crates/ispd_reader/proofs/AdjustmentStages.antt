@@ -11,64 +11,46 @@ use Rattle.ispd_reader.specs.declared.adjustment_stage.AdjustmentStage.{Adjustme
 use Rattle.ispd_reader.specs.declared.adjustment_stage.AdjustmentStage.TheVariants as stages
 use Rattle.ispd_reader.specs.declared.adjustments_reader.AdjustmentsReader.{AdjustmentsReader}
 use Rattle.ispd_reader.specs.declared.adjustments_reader.AdjustmentsReader.TheVariants as readers
-use Rattle.ispd_reader.specs.declared.place_stage.PlaceStage.{PlaceStage}
-use Rattle.ispd_reader.specs.declared.place_stage.PlaceStage.TheVariants as tiles
+use Rattle.ispd_reader.specs.declared.tile_stage.TileStage.{TileStage}
+use Rattle.ispd_reader.specs.declared.tile_stage.TileStage.TheVariants as tiles
 use Rattle.design_tokens.specs.declared.cut_token.CutToken.{CutToken}
 use Rattle.design_tokens.specs.declared.input_error.InputError.{InputError}
 use Rattle.design_tokens.specs.declared.input_error.InputError.TheVariants.{Input, NoMemory}
 use Rattle.design_tokens.specs.declared.input_fault.InputFault.{InputFault}
-use Rattle.design_tokens.specs.declared.input_fault.InputFault.TheVariants.{AdjustmentPlace, Syntax}
+use Rattle.design_tokens.specs.declared.input_fault.InputFault.TheVariants.{AdjustmentPlace, Syntax, CapacityLimit}
 use Rattle.design_tokens.specs.declared.wanted.Wanted.TheVariants as wanted
 use Rattle.ispd_reader.specs.Limits.{max_adjustments}
 use Rattle.design_tokens.specs.Parsing.{Reading, InputRead, ◌>>=◌, parts_at}
-use Rattle.design_tokens.specs.Numbers.{number_at, number_within, capacity_at, count_at}
+use Rattle.design_tokens.specs.Numbers.{number_at, capacity_at, count_at}
 use Rattle.ispd_reader.specs.Header.{Extent}
 use Rattle.ispd_reader.specs.Adjustments.{Adjustment, place_in, step_between, tile_place_at, adjustment_at, adjustments_at}
 use Rattle.ispd_reader.specs.AdjustmentsLeft.{tile_left, with_level, with_tile, with_tiles, adjustment_left, alone, and_owed, adjustments_left, and_more}
 use Rattle.design_tokens.specs.Steps.{IsNext, ReadsNext, RefusesNext, IsMissing}
+use Rattle.grid_graph.specs.Limits.{max_capacity}
+use Rattle.design_tokens.proofs.NextTokens.{refused_left, refuses_next, no_number, no_number_within}
 use Rattle.ispd_reader.proofs.AdjustSteps.{no_adjustments, some_adjustments}
 
 -- ---- any token
 
--- what refuses one refuses the other
-pub refused_left : {A B : Type 0} (c : CutToken) (e : InputError) (one : Reading → Result A InputFault) (two : Reading → Result B InputFault) →
-    ((r : Reading) (fault : InputFault) → one r ≡ Err fault → two r ≡ Err fault) → RefusesNext c e one → RefusesNext c e two
-refused_left c (Input fault) one two so refused = λ r next. so r fault (refused r next)
-refused_left c NoMemory one two so refused = tt
-
--- a value that is refused
-pub refused_reads : {X Y : Type 0} (c : CutToken) (view : X → Y) (e : InputError) (read : Reading → InputRead Y) → ReadsNext c view (Err e) read → RefusesNext c e read
-refused_reads c view (Input fault) read reads = λ r next. reads r next
-refused_reads c view NoMemory read reads = tt
-
 -- the token is next behind the blanks too
-pub next_past_blanks : (c : CutToken) (r : Reading) → IsNext c r → IsNext c (past_blanks r)
+next_past_blanks : (c : CutToken) (r : Reading) → IsNext c r → IsNext c (past_blanks r)
 next_past_blanks c r next = record { token = next.token; later = next.later; first = tokens_past_blanks r ∙ next.first; known = next.known }
 
 -- and what is left behind it is the same
-pub past_token_past_blanks : (r : Reading) → past_token (past_blanks r) ≡ past_token r
+past_token_past_blanks : (r : Reading) → past_token (past_blanks r) ≡ past_token r
 past_token_past_blanks r = ap (λ (ts : List Token). record { text = r.text; place = first_end (length r.text) ts }) (tokens_past_blanks r)
-
--- where no token is left, a number is missing
-number_missing : (r : Reading) → tokens_left r ≡ [] → number_at r ≡ Err (Syntax (length r.text) wanted.Number)
-unfolding number_at
-number_missing r none = rw none refl
-
-capacity_missing : (r : Reading) → tokens_left r ≡ [] → capacity_at r ≡ Err (Syntax (length r.text) wanted.Number)
-unfolding number_within
-capacity_missing r none = rw (number_missing r none) refl
 
 -- ---- a tile
 
-tile_fault : (e : Extent) (stage : PlaceStage) (r : Reading) (fault : InputFault) → number_at r ≡ Err fault → tile_left e stage r ≡ Err fault
+tile_fault : (e : Extent) (stage : TileStage) (r : Reading) (fault : InputFault) → number_at r ≡ Err fault → tile_left e stage r ≡ Err fault
 unfolding tile_left
 tile_fault e tiles.Column r fault is = rw is refl
 tile_fault e (tiles.Row col) r fault is = rw is refl
 tile_fault e (tiles.Layer col row) r fault is = rw is refl
 
 -- its number is refused
-pub tile_refused : (c : CutToken) (e : InputError) (extent : Extent) (stage : PlaceStage) → ReadsNext c (λ (n : Number). n) (Err e) number_at → RefusesNext c e (tile_left extent stage)
-tile_refused c e extent stage reads = refused_left c e number_at (tile_left extent stage) (tile_fault extent stage) (refused_reads c (λ (n : Number). n) e number_at reads)
+pub tile_refused : (c : CutToken) (e : InputError) (extent : Extent) (stage : TileStage) → ReadsNext c (λ (n : Number). n) (Err e) number_at → RefusesNext c e (tile_left extent stage)
+tile_refused c e extent stage reads = refuses_next c e (λ (n : Number). n) number_at (tile_left extent stage) (tile_fault extent stage) reads
 
 -- its column, its row and its layer are read
 pub column_read : (e : Extent) (col : Number) (r after : Reading) → number_at r ≡ Ok (col, after) → tile_left e tiles.Column r ≡ tile_left e (tiles.Row col) after
@@ -85,11 +67,11 @@ layer_read e col row layer r after is = rw is refl
 
 -- ---- an adjustment
 
-from_fault : (e : Extent) (index : ℕ) (tile : PlaceStage) (r : Reading) (fault : InputFault) → tile_left e tile r ≡ Err fault → adjustment_left e index (stages.From tile) r ≡ Err fault
+from_fault : (e : Extent) (index : ℕ) (tile : TileStage) (r : Reading) (fault : InputFault) → tile_left e tile r ≡ Err fault → adjustment_left e index (stages.From tile) r ≡ Err fault
 unfolding adjustment_left
 from_fault e index tile r fault is = ap (with_tiles e index) is
 
-to_fault : (e : Extent) (index : ℕ) (from : Option Place) (tile : PlaceStage) (r : Reading) (fault : InputFault) → tile_left e tile r ≡ Err fault → adjustment_left e index (stages.To from tile) r ≡ Err fault
+to_fault : (e : Extent) (index : ℕ) (from : Option Place) (tile : TileStage) (r : Reading) (fault : InputFault) → tile_left e tile r ≡ Err fault → adjustment_left e index (stages.To from tile) r ≡ Err fault
 unfolding adjustment_left
 to_fault e index from tile r fault is = ap (with_tile e index from) is
 
@@ -98,36 +80,36 @@ unfolding adjustment_left
 level_fault e index edge r fault is = ap (with_level (option_map (λ e. e.0) edge)) is
 
 -- its first tile is refused, its second tile, its level
-pub from_refused : (c : CutToken) (e : InputError) (extent : Extent) (index : ℕ) (tile : PlaceStage) → RefusesNext c e (tile_left extent tile) → RefusesNext c e (adjustment_left extent index (stages.From tile))
+pub from_refused : (c : CutToken) (e : InputError) (extent : Extent) (index : ℕ) (tile : TileStage) → RefusesNext c e (tile_left extent tile) → RefusesNext c e (adjustment_left extent index (stages.From tile))
 from_refused c e extent index tile refused = refused_left c e (tile_left extent tile) (adjustment_left extent index (stages.From tile)) (from_fault extent index tile) refused
 
-pub to_refused : (c : CutToken) (e : InputError) (extent : Extent) (index : ℕ) (from : Option Place) (tile : PlaceStage) → RefusesNext c e (tile_left extent tile) → RefusesNext c e (adjustment_left extent index (stages.To from tile))
+pub to_refused : (c : CutToken) (e : InputError) (extent : Extent) (index : ℕ) (from : Option Place) (tile : TileStage) → RefusesNext c e (tile_left extent tile) → RefusesNext c e (adjustment_left extent index (stages.To from tile))
 to_refused c e extent index from tile refused = refused_left c e (tile_left extent tile) (adjustment_left extent index (stages.To from tile)) (to_fault extent index from tile) refused
 
 pub level_refused : (c : CutToken) (e : InputError) (extent : Extent) (index : ℕ) (edge : Option Edge) → ReadsNext c (λ (n : ℕ). n) (Err e) capacity_at → RefusesNext c e (adjustment_left extent index (stages.Level edge))
-level_refused c e extent index edge reads = refused_left c e capacity_at (adjustment_left extent index (stages.Level edge)) (level_fault extent index edge) (refused_reads c (λ (n : ℕ). n) e capacity_at reads)
+level_refused c e extent index edge reads = refuses_next c e (λ (n : ℕ). n) capacity_at (adjustment_left extent index (stages.Level edge)) (level_fault extent index edge) reads
 
 -- a number of the first tile is read, and the last of them
-pub from_goes_on : (e : Extent) (index : ℕ) (tile next : PlaceStage) (r after : Reading) → tile_left e tile r ≡ tile_left e next after → adjustment_left e index (stages.From tile) r ≡ adjustment_left e index (stages.From next) after
+pub from_goes_on : (e : Extent) (index : ℕ) (tile next : TileStage) (r after : Reading) → tile_left e tile r ≡ tile_left e next after → adjustment_left e index (stages.From tile) r ≡ adjustment_left e index (stages.From next) after
 unfolding adjustment_left
 from_goes_on e index tile next r after is = ap (with_tiles e index) is
 
-pub from_ends : (e : Extent) (index : ℕ) (tile : PlaceStage) (from : Option Place × ℕ) (r after : Reading) → tile_left e tile r ≡ Ok (from, after) → adjustment_left e index (stages.From tile) r ≡ adjustment_left e index (stages.To from.0 tiles.Column) after
+pub from_ends : (e : Extent) (index : ℕ) (tile : TileStage) (from : Option Place × ℕ) (r after : Reading) → tile_left e tile r ≡ Ok (from, after) → adjustment_left e index (stages.From tile) r ≡ adjustment_left e index (stages.To from.0 tiles.Column) after
 unfolding adjustment_left
 from_ends e index tile from r after is = ap (with_tiles e index) is
 
 -- a number of the second tile is read, and the last of them
-pub to_goes_on : (e : Extent) (index : ℕ) (from : Option Place) (tile next : PlaceStage) (r after : Reading) → tile_left e tile r ≡ tile_left e next after → adjustment_left e index (stages.To from tile) r ≡ adjustment_left e index (stages.To from next) after
+pub to_goes_on : (e : Extent) (index : ℕ) (from : Option Place) (tile next : TileStage) (r after : Reading) → tile_left e tile r ≡ tile_left e next after → adjustment_left e index (stages.To from tile) r ≡ adjustment_left e index (stages.To from next) after
 unfolding adjustment_left
 to_goes_on e index from tile next r after is = ap (with_tile e index from) is
 
-pub to_ends : (e : Extent) (index : ℕ) (from : Option Place) (tile : PlaceStage) (to : Option Place × ℕ) (edge : Option Edge) (r after : Reading) → tile_left e tile r ≡ Ok (to, after) → step_between e from to.0 ≡ Some (option_map (λ e. e.0) edge) →
+pub to_ends : (e : Extent) (index : ℕ) (from : Option Place) (tile : TileStage) (to : Option Place × ℕ) (edge : Option Edge) (r after : Reading) → tile_left e tile r ≡ Ok (to, after) → step_between e from to.0 ≡ Some (option_map (λ e. e.0) edge) →
     adjustment_left e index (stages.To from tile) r ≡ adjustment_left e index (stages.Level edge) after
 unfolding adjustment_left
 to_ends e index from tile to edge r after is step = ap (with_tile e index from) is ∙ rw step refl
 
 -- there is no step between its tiles
-pub no_step : (e : Extent) (index : ℕ) (from : Option Place) (tile : PlaceStage) (to : Option Place × ℕ) (r after : Reading) → tile_left e tile r ≡ Ok (to, after) → step_between e from to.0 ≡ None →
+pub no_step : (e : Extent) (index : ℕ) (from : Option Place) (tile : TileStage) (to : Option Place × ℕ) (r after : Reading) → tile_left e tile r ≡ Ok (to, after) → step_between e from to.0 ≡ None →
     adjustment_left e index (stages.To from tile) r ≡ Err (AdjustmentPlace to.1 index)
 unfolding adjustment_left
 no_step e index from tile to r after is step = ap (with_tile e index from) is ∙ rw step refl
@@ -143,14 +125,14 @@ unfolding adjustment_left tile_left adjustment_at tile_place_at
 whole_left e index r = refl
 
 adjustment_missing : (e : Extent) (index : ℕ) (stage : AdjustmentStage) (r : Reading) → tokens_left r ≡ [] → adjustment_left e index stage r ≡ Err (Syntax (length r.text) wanted.Number)
-adjustment_missing e index (stages.From tile) r none = from_fault e index tile r _ (tile_fault e tile r _ (number_missing r none))
-adjustment_missing e index (stages.To from tile) r none = to_fault e index from tile r _ (tile_fault e tile r _ (number_missing r none))
-adjustment_missing e index (stages.Level edge) r none = level_fault e index edge r _ (capacity_missing r none)
+adjustment_missing e index (stages.From tile) r none = from_fault e index tile r _ (tile_fault e tile r _ (no_number r none))
+adjustment_missing e index (stages.To from tile) r none = to_fault e index from tile r _ (tile_fault e tile r _ (no_number r none))
+adjustment_missing e index (stages.Level edge) r none = level_fault e index edge r _ (no_number_within 0 max_capacity CapacityLimit r none)
 
 -- ---- all adjustments
 
 -- nothing was made
-pub and_more-none : (left : Result (List Adjustment) InputFault) → and_more [] left ≡ left
+and_more-none : (left : Result (List Adjustment) InputFault) → and_more [] left ≡ left
 and_more-none (Ok more) = refl
 and_more-none (Err fault) = refl
 

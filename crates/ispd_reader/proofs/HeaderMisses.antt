@@ -17,7 +17,8 @@ use Rattle.ispd_reader.specs.Header.{extent_at, origin_at, tile_size_at}
 use Rattle.ispd_reader.specs.HeaderStages.{stage_left, wanted_at, IsStage}
 use Rattle.ispd_reader.specs.LayerLists.{first_word, second_word}
 use Rattle.ispd_reader.specs.LayersRead.{header_with}
-use Rattle.ispd_reader.proofs.HeaderSteps.{first_word_refused, second_word_refused, no_word, no_number, no_side, no_value}
+use Rattle.design_tokens.proofs.NextTokens.{no_word, no_number, no_side}
+use Rattle.ispd_reader.proofs.HeaderSteps.{first_word_refused, second_word_refused, no_value}
 
 room : (done count : ℕ) → IsTrue (nat_lt done count) → done < count
 room done count h = grind (arith, nat_tests)

@@ -1,6 +1,6 @@
 -- One more token of what stands before the nets.
 use Rattle.std.proofs.Common.{◌≡◌, ℕ, ℤ, suc, ◌+◌, ◌-◌, ◌<◌, List, [], ◌∷◌, ◌++◌, length, slice_index, Option, None, Some, Result, Ok, Err, refl, sym, ap, ◌∙◌, arith}
-use Rattle.std.specs.Prelude.{IfSome, IsErrAnd}
+use Rattle.std.specs.Prelude.{IsErrAnd}
 use Rattle.std.specs.Option.{option_map, ok_or}
 use Rattle.design_tokens.specs.declared.input_fault.InputFault.TheVariants.{Syntax, GridSize, CapacityLimit, WidthLimit}
 use Rattle.ispd_reader.specs.Views.{extent_of_size}
@@ -12,16 +12,15 @@ use Rattle.design_tokens.specs.declared.input_error.InputError.{InputError}
 use Rattle.design_tokens.specs.declared.input_fault.InputFault.{InputFault}
 use Rattle.ispd_reader.specs.declared.layer_list.LayerList.{LayerList}
 use Rattle.ispd_reader.specs.declared.layer_list.LayerList.TheVariants.{Vertical, Horizontal, Widths, Spacings, Vias}
-use Rattle.design_tokens.specs.Parsing.{Reading, InputRead, refusal_in, parts_at}
-use Rattle.design_tokens.specs.Numbers.{word_at, number_at, number_within, capacity_at, width_at, spacing_at, side_at}
+use Rattle.design_tokens.specs.Parsing.{Reading, InputRead, parts_at}
+use Rattle.design_tokens.specs.Numbers.{word_at, number_at, capacity_at, width_at, spacing_at, side_at}
 use Rattle.ispd_reader.specs.Header.{Header, extent_of, capacities_at, widths_at, spacings_at, vias_at}
 use Rattle.ispd_reader.specs.HeaderTails.{layers_left, height_left, with_tile, with_vertical, with_horizontal, with_widths, with_spacings, with_vias, list_left, second_left, values_left}
 use Rattle.ispd_reader.specs.LayerLists.{first_word, second_word}
-use Rattle.design_tokens.specs.Steps.{IsNext, ReadsNext, RefusesNext, TakesNext, TakesOrEnds}
+use Rattle.design_tokens.specs.Steps.{ReadsNext, RefusesNext, TakesNext, TakesOrEnds}
 use Rattle.ispd_reader.specs.HeaderStages.{stage_left, TakesStage}
 use Rattle.ispd_reader.specs.LayersRead.{AreRead, header_with}
 use Rattle.ispd_reader.specs.declared.header_stage.HeaderStage.{HeaderStage}
-use Rattle.design_tokens.specs.declared.wanted.Wanted.{Wanted}
 use Rattle.design_tokens.specs.declared.wanted.Wanted.TheVariants as wanted
 use Rattle.grid_graph.specs.Limits.{max_capacity, max_demand}
 use Rattle.ispd_reader.specs.declared.layer_lists.LayerLists.{LayerLists}
@@ -29,15 +28,7 @@ use Rattle.text_scan.specs.declared.number.Number.{Number}
 use Rattle.grid_base.specs.declared.size.Size.{Size}
 use Rattle.grid_base.specs.Numbers.{layers}
 use Rattle.std.proofs.lemmas.Result.{err_from_is_err_and}
-
-refused_next : {A B : Type 0} (c : CutToken) (o : Option InputFault) (one : Reading → Result A InputFault) (two : Reading → Result B InputFault) → ((r : Reading) (fault : InputFault) → one r ≡ Err fault → two r ≡ Err fault) →
-    ((r : Reading) → IsNext c r → IfSome o (λ fault. one r ≡ Err fault)) → IfSome o (λ fault. (r : Reading) → IsNext c r → two r ≡ Err fault)
-refused_next c None one two so refused = tt
-refused_next c (Some fault) one two so refused = λ r next. so r fault (refused r next)
-
--- what is refused with the token that is next
-pub refuses_next : {X Y B : Type 0} (c : CutToken) (e : InputError) (view : X → Y) (read : Reading → InputRead Y) (left : Reading → Result B InputFault) → ((r : Reading) (fault : InputFault) → read r ≡ Err fault → left r ≡ Err fault) → ReadsNext c view (Err e) read → RefusesNext c e left
-refuses_next c e view read left so refused = refused_next c (refusal_in e) read left so refused
+use Rattle.design_tokens.proofs.NextTokens.{refused_left, refuses_next, no_number, no_number_within}
 
 -- the first word of a list was read
 pub first_word_read : (list : LayerList) (so_far : Header) (r after : Reading) → word_at (first_word list) r ≡ Ok (tt, after) → list_left list so_far r ≡ second_left list so_far after
@@ -133,39 +124,18 @@ height_read so_far width height r after is = rw is refl
 pub height_refused : (so_far : Header) (width : ℤ) (r : Reading) (fault : InputFault) → side_at r ≡ Err fault → with_tile so_far (height_left width r) ≡ Err fault
 height_refused so_far width r fault is = rw is refl
 
-refused_too : {A : Type 0} (c : CutToken) (o : Option InputFault) (one two : Reading → Result A InputFault) → ((r : Reading) → two r ≡ one r) → IfSome o (λ fault. (r : Reading) → IsNext c r → one r ≡ Err fault) → IfSome o (λ fault. (r : Reading) → IsNext c r → two r ≡ Err fault)
-refused_too c None one two same refused = tt
-refused_too c (Some fault) one two same refused = λ r next. same r ∙ refused r next
-
 -- what is left is refused in other words
 pub takes_refused_too : {A : Type 0} (c : CutToken) (result : Result (Unit {0}) InputError) (e : InputError) (one two new : Reading → Result A InputFault) → ((r : Reading) → two r ≡ one r) → IsErrAnd result (λ y. y ≡ e) → RefusesNext c e one → TakesNext c result two new
 takes_refused_too c result e one two new same is refused =
     let p = err_from_is_err_and result is in
-    rw (p.1, p.2) (refused_too c (refusal_in e) one two same refused)
+    rw (p.1, p.2) (refused_left c e one two (λ r fault is. same r ∙ is) refused)
 
 pub ends_refused_too : {X Y : Type 0} (c : CutToken) (view : X → Y) (result : Result (Option X) InputError) (e : InputError) (one two new : Reading → InputRead Y) → ((r : Reading) → two r ≡ one r) → IsErrAnd result (λ y. y ≡ e) → RefusesNext c e one → TakesOrEnds c view result two new
 ends_refused_too c view result e one two new same is refused =
     let p = err_from_is_err_and result is in
-    rw (p.1, p.2) (refused_too c (refusal_in e) one two same refused)
+    rw (p.1, p.2) (refused_left c e one two (λ r fault is. same r ∙ is) refused)
 
--- ---- where no token is left
-
-pub no_word : (word : Wanted) (r : Reading) → tokens_left r ≡ [] → word_at word r ≡ Err (Syntax (length r.text) word)
-unfolding word_at
-no_word word r none = rw none refl
-
-pub no_number : (r : Reading) → tokens_left r ≡ [] → number_at r ≡ Err (Syntax (length r.text) wanted.Number)
-unfolding number_at
-no_number r none = rw none refl
-
-no_number_within : (lo hi : ℕ) (refusal : ℕ → InputFault) (r : Reading) → tokens_left r ≡ [] → number_within lo hi refusal r ≡ Err (Syntax (length r.text) wanted.Number)
-unfolding number_within
-no_number_within lo hi refusal r none = rw (no_number r none) refl
-
-pub no_side : (r : Reading) → tokens_left r ≡ [] → side_at r ≡ Err (Syntax (length r.text) wanted.Number)
-unfolding side_at
-no_side r none = rw (no_number r none) refl
-
+-- where no token is left
 pub no_value : (list : LayerList) (size : Size) (done : ℕ) (read : LayerLists) → AreRead (layers size) list done read → done < layers size → (r : Reading) → tokens_left r ≡ [] → values_left list (header_with size read) done r ≡ Err (Syntax (length r.text) wanted.Number)
 no_value Vertical size done read kept lt r none = ap (with_vertical (header_with size read)) (value_refused read.vertical.items (λ _. capacity_at) (layers size) done r (Syntax (length r.text) wanted.Number) lt (no_number_within 0 max_capacity CapacityLimit r none))
 no_value Horizontal size done read kept lt r none = ap (with_horizontal (header_with size read)) (value_refused read.horizontal.items (λ _. capacity_at) (layers size) done r (Syntax (length r.text) wanted.Number) lt (no_number_within 0 max_capacity CapacityLimit r none))

@@ -31,7 +31,7 @@ use Rattle.ispd_reader.specs.MachineStages.{left_at_stage, StageMovesOn}
 use Rattle.design_tokens.specs.Steps.{RefusesNext, TakesNext}
 use Rattle.ispd_reader.specs.Views.{extent_of_size, header_of}
 use Rattle.ispd_reader.specs.NetsSoFar.{AreNetsOf}
-use Rattle.ispd_reader.proofs.AdjustmentStages.{refused_left}
+use Rattle.design_tokens.proofs.NextTokens.{refused_left}
 use Rattle.ispd_reader.proofs.NetsEnds.{nets_kept}
 
 -- all that a text says, where its adjustments are these
@@ -114,11 +114,11 @@ unfolding body_left
 nets_fault b made r fault is = ap (with_nets_read (header_of (layout_of b.grid)) (behind_nets b.grid b.adjustments made)) is
 
 -- a net is refused
-pub nets_refused_next : (c : CutToken) (e : InputError) (b : Body) (made : List Adjustment) → RefusesNext c e (nets_left (header_of (layout_of b.grid)) b.nets) → RefusesNext c e (body_left b made)
+nets_refused_next : (c : CutToken) (e : InputError) (b : Body) (made : List Adjustment) → RefusesNext c e (nets_left (header_of (layout_of b.grid)) b.nets) → RefusesNext c e (body_left b made)
 nets_refused_next c e b made refused = refused_left c e (nets_left (header_of (layout_of b.grid)) b.nets) (body_left b made) (nets_fault b made) refused
 
 -- a token of the nets is read
-pub nets_go_on : (b : Body) (n : NetsReader) (made : List Adjustment) (r next : Reading) → nets_left (header_of (layout_of b.grid)) b.nets r ≡ nets_left (header_of (layout_of b.grid)) n next →
+nets_go_on : (b : Body) (n : NetsReader) (made : List Adjustment) (r next : Reading) → nets_left (header_of (layout_of b.grid)) b.nets r ≡ nets_left (header_of (layout_of b.grid)) n next →
     body_left b made r ≡ body_left (record { grid = b.grid; nets = n; adjustments = b.adjustments }) made next
 unfolding body_left
 nets_go_on b n made r next is = ap (with_nets_read (header_of (layout_of b.grid)) (behind_nets b.grid b.adjustments made)) is
@@ -137,11 +137,11 @@ adjustments_fault b made nets r fault all is =
     ∙ ap (λ (left : Result (List Adjustment) InputFault). with_adjustments (header_of (layout_of b.grid)) nets (and_more made left)) is
 
 -- an adjustment is refused
-pub adjustments_refused_next : (c : CutToken) (e : InputError) (b : Body) (made : List Adjustment) (nets : List Net) → ((header : Header) (r : Reading) → nets_left header b.nets r ≡ Ok (nets, r)) → RefusesNext c e (adjustments_left (extent_of_size (size_of b.grid)) b.adjustments) → RefusesNext c e (body_left b made)
+adjustments_refused_next : (c : CutToken) (e : InputError) (b : Body) (made : List Adjustment) (nets : List Net) → ((header : Header) (r : Reading) → nets_left header b.nets r ≡ Ok (nets, r)) → RefusesNext c e (adjustments_left (extent_of_size (size_of b.grid)) b.adjustments) → RefusesNext c e (body_left b made)
 adjustments_refused_next c e b made nets all refused = refused_left c e (adjustments_left (extent_of_size (size_of b.grid)) b.adjustments) (body_left b made) (λ r fault is. adjustments_fault b made nets r fault (all (header_of (layout_of b.grid)) r) is) refused
 
 -- a token of the adjustments is read, and the grid may be adjusted
-pub adjustments_go_on : (g h : Grid) (n : NetsReader) (a k : AdjustmentsReader) (made more : List Adjustment) (nets : List Net) (r next : Reading) → ((header : Header) (r : Reading) → nets_left header n r ≡ Ok (nets, r)) → layout_of h ≡ layout_of g →
+adjustments_go_on : (g h : Grid) (n : NetsReader) (a k : AdjustmentsReader) (made more : List Adjustment) (nets : List Net) (r next : Reading) → ((header : Header) (r : Reading) → nets_left header n r ≡ Ok (nets, r)) → layout_of h ≡ layout_of g →
     adjustments_left (extent_of_size (size_of g)) a r ≡ and_more more (adjustments_left (extent_of_size (size_of g)) k next) →
     body_left (record { grid = g; nets = n; adjustments = a }) made r ≡ body_left (record { grid = h; nets = n; adjustments = k }) (made ++ more) next
 unfolding body_left
@@ -162,7 +162,7 @@ last_level-append e (a ∷ made) more before =
     ∙ sym (ap (unwrap_or (last_level e more)) (unwrap_or-option_or (last_level e made) own before))
 
 -- the capacities that more adjustments leave
-pub capacities_left : (g h : Grid) (made more : List Adjustment) → ((e : ℕ) → capacity g e ≡ unwrap_or (last_level e made) (first_capacity g e)) → IsAdjusted g h more → (e : ℕ) → capacity h e ≡ unwrap_or (last_level e (made ++ more)) (first_capacity h e)
+capacities_left : (g h : Grid) (made more : List Adjustment) → ((e : ℕ) → capacity g e ≡ unwrap_or (last_level e made) (first_capacity g e)) → IsAdjusted g h more → (e : ℕ) → capacity h e ≡ unwrap_or (last_level e (made ++ more)) (first_capacity h e)
 capacities_left g h made more so_far adjusted e =
     let first : first_capacity g e ≡ first_capacity h e = sym (ap (λ (y : Layout). layer_capacity y e) adjusted.kept) in
     adjusted.levels e ∙ ap (unwrap_or (last_level e more)) (so_far e ∙ ap (unwrap_or (last_level e made)) first)

@@ -39,7 +39,7 @@ pub fewer : (grid : Grid) (spacing : ℕ) (nets : List NetSpec) (taken : ℕ →
 fewer grid spacing nets taken pins own coming owed less le done = record { widest = done.widest; each = done.each; ids = done.ids; taken_ids = done.taken_ids; pins_within = done.pins_within; pins_limit = done.pins_limit; count = omega (arith, done.count) }
 
 -- nothing is read
-pub none_done : (grid : Grid) (spacing : ℕ) (taken : ℕ → Bool) → spacing ≡ widest_spacing (layout_of grid).spacings → ((q : ℕ) → taken q ≡ false) → AreDoneNets grid spacing [] taken 0 (λ _. false) 0 max_nets
+none_done : (grid : Grid) (spacing : ℕ) (taken : ℕ → Bool) → spacing ≡ widest_spacing (layout_of grid).spacings → ((q : ℕ) → taken q ≡ false) → AreDoneNets grid spacing [] taken 0 (λ _. false) 0 max_nets
 none_done grid spacing taken widest free = record {
   widest = widest;
   each = λ k m at. absurd (cc);

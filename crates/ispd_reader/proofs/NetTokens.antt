@@ -1,7 +1,7 @@
 -- What the next token does to what is left of the nets.
 use Rattle.std.proofs.Common.{◌≡◌, ℕ, suc, ◌+◌, ◌-◌, ◌==◌, ◌||◌, Bool, true, false, List, length, [], ◌∷◌, ◌++◌, Option, Some, None, ℤ, Result, Ok, Err, refl, sym, ap, ◌∙◌}
 use mathlib.Core.Path.{fun_ext}
-use Rattle.std.specs.Prelude.{IfOk, IfSome}
+use Rattle.std.specs.Prelude.{IfOk}
 use Rattle.std.specs.BTreeSet.{contains}
 use Rattle.std.specs.Ordering.{nat_cmp}
 use Rattle.std.proofs.lemmas.List.{map_push, append-nil}
@@ -21,10 +21,9 @@ use Rattle.ispd_reader.specs.declared.net_stage.NetStage.{NetStage}
 use Rattle.ispd_reader.specs.declared.net_stage.NetStage.TheVariants as stages
 use Rattle.ispd_reader.specs.declared.nets_reader.NetsReader.{NetsReader}
 use Rattle.ispd_reader.specs.declared.present_net.PresentNet.{PresentNet}
-use Rattle.design_tokens.specs.declared.wanted.Wanted.{Wanted}
 use Rattle.design_tokens.specs.declared.wanted.Wanted.TheVariants as wanted
 use Rattle.design_tokens.specs.Parsing.{Reading, InputRead, ◌>>=◌, or_refuse, parts_at, Refuses, refusal_in}
-use Rattle.design_tokens.specs.Numbers.{word_at, name_at, number_at, number_within, count_at}
+use Rattle.design_tokens.specs.Numbers.{number_at, number_within, count_at}
 use Rattle.ispd_reader.specs.Header.{Header}
 use Rattle.ispd_reader.specs.Nets.{Net, vertex_at, tile_along, id_at, net_at, net_width_at, pin_at, pins_at, more_nets_at, nets_at}
 use Rattle.ispd_reader.specs.PinParts.{pin_column_at, pin_row_at, pin_level_at, pin_behind_row, pin_behind_column, pin_behind_start}
@@ -33,6 +32,7 @@ use Rattle.ispd_reader.specs.NetsLeft.{TakesNet, and_nets, net_behind_pins, net_
 use Rattle.ispd_reader.specs.NetsSoFar.{AreNetsOf}
 use Rattle.design_tokens.specs.Steps.{IsNext, IsMissing}
 use Rattle.ispd_reader.specs.Views.{header_of, nets_of, numbers}
+use Rattle.design_tokens.proofs.NextTokens.{refuses_next, no_word, no_name, no_number}
 
 -- ---- one token of a stage
 
@@ -51,20 +51,14 @@ took grid c s old new read y behind is first goes reads fits =
       fits = fits;
     }
 
-refused_next : {X Y : Type 0} (o : Option InputFault) (c : CutToken) (read : Reading → InputRead X) (whole : Reading → InputRead Y) →
-    ((r : Reading) → IsNext c r → IfSome o (λ fault. read r ≡ Err fault)) → ((r : Reading) (fault : InputFault) → read r ≡ Err fault → whole r ≡ Err fault) →
-    IfSome o (λ fault. (r : Reading) → IsNext c r → whole r ≡ Err fault)
-refused_next None c read whole refused so = tt
-refused_next (Some fault) c read whole refused so = λ r next. so r fault (refused r next)
-
 -- the token is refused
 pub refused_there : {Y : Type 0} (grid : Grid) (c : CutToken) (s : NetStage) (old new : NetsReader) (read : Reading → InputRead Y) (e : InputError) (behind : Header → NetsReader → InputRead Y → InputRead (List Net)) →
     old.stage ≡ s → ((r : Reading) → nets_left_at s (header_of (layout_of grid)) old r ≡ behind (header_of (layout_of grid)) old (read r)) → ((fault : InputFault) → behind (header_of (layout_of grid)) old (Err fault) ≡ Err fault) →
     ((r : Reading) → IsNext c r → Refuses refusal_in e (read r)) → TakesNet grid c (Err e) old new
-refused_there grid c s old new read e behind is first strict refused =
+refused_there {Y} grid c s old new read e behind is first strict refused =
     let header = header_of (layout_of grid) in
     record {
-      takes = refused_next (refusal_in e) c read (nets_left header old) refused (λ r fault h. left_there s header old r is ∙ first r ∙ ap (behind header old) h ∙ strict fault);
+      takes = refuses_next c e (λ (y : Y). y) read (nets_left header old) (λ r fault h. left_there s header old r is ∙ first r ∙ ap (behind header old) h ∙ strict fault) refused;
       fits = tt;
     }
 
@@ -211,18 +205,6 @@ pub nets_there : (header : Header) (n : NetsReader) (r : Reading) → is_last_st
 nets_there header n r last = left_there stages.Done header n r (only_last n.stage last)
 
 -- the text ends
-no_word : (word : Wanted) (r : Reading) → tokens_left r ≡ [] → word_at word r ≡ Err (Syntax (length r.text) word)
-unfolding word_at
-no_word word r none = rw none refl
-
-no_name : (r : Reading) → tokens_left r ≡ [] → name_at r ≡ Err (Syntax (length r.text) wanted.Name)
-unfolding name_at
-no_name r none = rw none refl
-
-no_number : (r : Reading) → tokens_left r ≡ [] → number_at r ≡ Err (Syntax (length r.text) wanted.Number)
-unfolding number_at
-no_number r none = rw none refl
-
 missing_at : (s : NetStage) (header : Header) (n : NetsReader) (r : Reading) → is_last_stage s ≡ false → tokens_left r ≡ [] → nets_left_at s header n r ≡ Err (Syntax (length r.text) (wanted_at_stage s))
 unfolding number_within id_at
 missing_at stages.Num header n r more none = rw (no_word wanted.Num r none) refl

@@ -26,7 +26,7 @@ says_too_long TooLong = true
 says_too_long _ = false
 
 -- what was read is not refused for its length
-abbrev pub Avoids : {A : Type 0} → Result A InputFault → Type 0
+abbrev Avoids : {A : Type 0} → Result A InputFault → Type 0
 Avoids (Ok x) = Unit {0}
 Avoids (Err fault) = says_too_long fault ≡ false
 

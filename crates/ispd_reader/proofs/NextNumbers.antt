@@ -21,9 +21,9 @@ or_refuse_is (Some x) fault = refl
 or_refuse_is None fault = refl
 
 -- the token is no number
-pub no_number : {A : Type 0} (c : CutToken) (what : ℤ → Option A) (fault : ℕ → InputFault) (e : InputError) →
+pub number_refused : {A : Type 0} (c : CutToken) (what : ℤ → Option A) (fault : ℕ → InputFault) (e : InputError) →
     ((r : Reading) → IsNext c r → Refuses refusal_in e (number_at r)) → (r : Reading) → IsNext c r → Refuses refusal_in e (checked_number_at what fault r)
-no_number {A} c what fault e refused r next = Refuses-with refusal_in e (number_at r) (checked_number_at what fault r) (λ fault is. rw is refl) (refused r next)
+number_refused {A} c what fault e refused r next = Refuses-with refusal_in e (number_at r) (checked_number_at what fault r) (λ fault is. rw is refl) (refused r next)
 
 -- it is a number that is none of those wanted
 pub wrong_number : {A : Type 0} (c : CutToken) (what : ℤ → Option A) (fault : ℕ → InputFault) (number : Number) (found : Option A) (refusal : InputFault) →

@@ -49,7 +49,7 @@ is_word_of : (b : ℕ) (bs : List ℕ) → list_all (λ x. not (is_blank x)) (b 
 is_word_of b bs word = and_from (nat_lt 0 (length (b ∷ bs))) _ (lt-ltb 0 (length (b ∷ bs)) (omega arith)) word
 
 -- the token that a text ends in is next, where a blank or nothing follows, and this is behind it
-pub record IsNextIn (c : CutToken) (text rest front : List ℕ) : Type 0 where
+record IsNextIn (c : CutToken) (text rest front : List ℕ) : Type 0 where
   pub next : IsNext c (behind text rest front)
   pub after : past_token (behind text rest front) ≡ behind text rest text
 
@@ -68,13 +68,13 @@ cut_is_next c text rest front gap (b ∷ bs) parts blank word known some ends =
     }
 
 -- the token in progress is next
-pub next_in : (m : Machine) (c : CutToken) (text rest : List ℕ) (so_far : HasTaken m c text) → has_no_byte c ≡ false → ends_word rest ≡ true → IsNextIn c text rest so_far.front
+next_in : (m : Machine) (c : CutToken) (text rest : List ℕ) (so_far : HasTaken m c text) → has_no_byte c ≡ false → ends_word rest ≡ true → IsNextIn c text rest so_far.front
 next_in m c text rest so_far some ends = cut_is_next c text rest so_far.front so_far.gap so_far.cut so_far.parts so_far.blank so_far.word so_far.known some ends
 
 -- ---- the token in progress has ended
 
 -- it was taken
-pub token_taken : (old new : Machine) (c : CutToken) (text : List ℕ) (so_far : HasTaken old c text) (after : _) → has_no_byte c ≡ false → Stands new after →
+token_taken : (old new : Machine) (c : CutToken) (text : List ℕ) (so_far : HasTaken old c text) (after : _) → has_no_byte c ≡ false → Stands new after →
     LeavesNext c (left_of old so_far.made) (left_of new after) → HasTakenAll new text
 token_taken old new c text so_far after some stands leaves = record {
   made = after;
@@ -84,7 +84,7 @@ token_taken old new c text so_far after some stands leaves = record {
 }
 
 -- or it is refused
-pub token_refused : (old : Machine) (c : CutToken) (text rest : List ℕ) (fault : InputFault) (so_far : HasTaken old c text) → has_no_byte c ≡ false → ends_word rest ≡ true →
+token_refused : (old : Machine) (c : CutToken) (text rest : List ℕ) (fault : InputFault) (so_far : HasTaken old c text) → has_no_byte c ≡ false → ends_word rest ≡ true →
     ((r : Reading) → IsNext c r → left_of old so_far.made r ≡ Err fault) → contents_at (whole (text ++ rest)) ≡ Err fault
 token_refused old c text rest fault so_far some ends refused =
     so_far.says rest ∙ refused (behind text rest so_far.front) (next_in old c text rest so_far some ends).next
@@ -100,7 +100,7 @@ says_more : (m : Machine) (made : _) (text front run : List ℕ) → ((more : Li
 says_more m made text front run says more = rw (append_assoc text run more) (says (run ++ more))
 
 -- a blank behind all tokens
-pub blank_behind_all : (m : Machine) (c : CutToken) (text : List ℕ) (b : ℕ) → is_blank b ≡ true → has_no_byte c ≡ true → HasTakenAll m text → HasTaken m c (text ++ b ∷ [])
+blank_behind_all : (m : Machine) (c : CutToken) (text : List ℕ) (b : ℕ) → is_blank b ≡ true → has_no_byte c ≡ true → HasTakenAll m text → HasTaken m c (text ++ b ∷ [])
 blank_behind_all m c text b blank none taken = record {
   made = taken.made;
   front = text;
@@ -135,7 +135,7 @@ blank_passed m c text b blank none so_far =
     }
 
 -- a token begins
-pub token_begun : (m : Machine) (old new : CutToken) (text : List ℕ) (b place : ℕ) → is_blank b ≡ false → has_no_byte old ≡ true → length text ≡ place →
+token_begun : (m : Machine) (old new : CutToken) (text : List ℕ) (b place : ℕ) → is_blank b ≡ false → has_no_byte old ≡ true → length text ≡ place →
     has_no_byte new ≡ false → IsCutToken new (record { place = place; bytes = b ∷ [] }) → HasTaken m old text → HasTaken m new (text ++ b ∷ [])
 token_begun m old new text b place solid none long some known so_far =
     let bare : so_far.cut ≡ [] = nothing_cut old (length so_far.front + length so_far.gap) so_far.cut so_far.known none in
@@ -160,7 +160,7 @@ known_more old new place [] run some more grown known = absurd (true≢false (sy
 known_more old new place (x ∷ xs) run some more grown known = (more, grown (record { place = place; bytes = x ∷ xs }) known.1)
 
 -- it goes on
-pub token_grown : (m : Machine) (old new : CutToken) (text run : List ℕ) → is_solid run ≡ true → has_no_byte old ≡ false → has_no_byte new ≡ false →
+token_grown : (m : Machine) (old new : CutToken) (text run : List ℕ) → is_solid run ≡ true → has_no_byte old ≡ false → has_no_byte new ≡ false →
     ((t : Token) → IsCutToken old t → IsCutToken new (record { place = t.place; bytes = t.bytes ++ run })) → HasTaken m old text → HasTaken m new (text ++ run)
 token_grown m old new text run solid some more grown so_far = record {
   made = so_far.made;
@@ -192,7 +192,7 @@ over_in_gap m c text none so_far =
     }
 
 -- the token in progress was the last
-pub over_behind_token : (m : Machine) (text : List ℕ) → HasTakenAll m text → IsOver m text
+over_behind_token : (m : Machine) (text : List ℕ) → HasTakenAll m text → IsOver m text
 over_behind_token m text taken =
     let same : text ++ [] ≡ text = append-nil text in
     record {

@@ -17,7 +17,7 @@ within_none hi (pos m) h low high = let t : within 1 hi (pos m) ≡ Some m = gri
 within_none hi (negsuc m) h low high = omega arith
 
 -- the test of a size
-pub size_from_test : (e : Extent) → is_size e ≡ true → IsGridSize e.cols e.rows e.layers
+size_from_test : (e : Extent) → is_size e ≡ true → IsGridSize e.cols e.rows e.layers
 size_from_test e h = record {
   has_col = grind (arith, nat_tests);
   has_row = grind (arith, nat_tests);
@@ -26,7 +26,7 @@ size_from_test e h = record {
   vertex_limit = grind (arith, nat_tests);
 }
 
-pub test_of_size : (e : Extent) → IsGridSize e.cols e.rows e.layers → is_size e ≡ true
+test_of_size : (e : Extent) → IsGridSize e.cols e.rows e.layers → is_size e ≡ true
 test_of_size e h =
     let a = h.has_col in
     let b = h.has_row in
@@ -43,7 +43,7 @@ no_extent c r l none =
     ⊎_elim (λ (h : is_size e ≡ true). absurd (none (size_from_test e h))) (λ (h : is_size e ≡ false). rw h refl) (cases_Bool (is_size e))
 
 -- and numbers that make one
-pub extent_made : (n m k : ℕ) → IsGridSize n m k → extent_of (pos n) (pos m) (pos k) ≡ Some (record { cols = n; rows = m; layers = k })
+extent_made : (n m k : ℕ) → IsGridSize n m k → extent_of (pos n) (pos m) (pos k) ≡ Some (record { cols = n; rows = m; layers = k })
 unfolding extent_of
 extent_made n m k s = let h : is_size (record { cols = n; rows = m; layers = k }) ≡ true = test_of_size (record { cols = n; rows = m; layers = k }) s in rw h refl
 

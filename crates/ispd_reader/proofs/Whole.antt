@@ -13,7 +13,7 @@ use Rattle.ispd_reader.specs.Adjusted.{IsAdjusted}
 use Rattle.ispd_reader.specs.Designs.{contents_at, contents_of}
 
 -- the capacities are what the text says
-pub capacities_read : (g h : Grid) (adjustments : List Adjustment) → ((e : ℕ) → capacity g e ≡ first_capacity g e) → IsAdjusted g h adjustments → (e : ℕ) → capacity h e ≡ unwrap_or (last_level e adjustments) (first_capacity h e)
+capacities_read : (g h : Grid) (adjustments : List Adjustment) → ((e : ℕ) → capacity g e ≡ first_capacity g e) → IsAdjusted g h adjustments → (e : ℕ) → capacity h e ≡ unwrap_or (last_level e adjustments) (first_capacity h e)
 capacities_read g h adjustments made adjusted e =
     adjusted.levels e ∙ ap (λ d. unwrap_or (last_level e adjustments) d) (made e ∙ sym (ap (λ (y : Layout). layer_capacity y e) adjusted.kept))
 

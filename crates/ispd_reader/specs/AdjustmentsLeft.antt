@@ -13,8 +13,8 @@ use Rattle.ispd_reader.specs.declared.adjustments_reader.AdjustmentsReader.{Adju
 use Rattle.ispd_reader.specs.declared.adjustments_reader.AdjustmentsReader.TheVariants as readers
 use Rattle.ispd_reader.specs.declared.adjustment_stage.AdjustmentStage.{AdjustmentStage}
 use Rattle.ispd_reader.specs.declared.adjustment_stage.AdjustmentStage.TheVariants as stages
-use Rattle.ispd_reader.specs.declared.place_stage.PlaceStage.{PlaceStage}
-use Rattle.ispd_reader.specs.declared.place_stage.PlaceStage.TheVariants as tiles
+use Rattle.ispd_reader.specs.declared.tile_stage.TileStage.{TileStage}
+use Rattle.ispd_reader.specs.declared.tile_stage.TileStage.TheVariants as tiles
 use Rattle.design_tokens.specs.declared.cut_token.CutToken.{CutToken}
 use Rattle.design_tokens.specs.declared.input_error.InputError.{InputError}
 use Rattle.design_tokens.specs.declared.input_fault.InputFault.{InputFault}
@@ -29,7 +29,7 @@ use Rattle.ispd_reader.specs.Adjusted.{IsAdjusted, adjustment_of}
 use Rattle.design_tokens.specs.Steps.{IsNext, LeavesNext, RefusesNext}
 
 -- a tile, where its next number reads as this
-abbrev pub tile_number : Extent → PlaceStage → InputRead Number → InputRead (Option Place × ℕ)
+abbrev pub tile_number : Extent → TileStage → InputRead Number → InputRead (Option Place × ℕ)
 tile_number e tiles.Column number = do
   col ← number
   row ← number_at col.1
@@ -44,7 +44,7 @@ tile_number e (tiles.Layer col row) number = do
   Ok ((place_in e col.value row.value layer.0.value, layer.0.at), layer.1)
 
 -- what is left of a tile, and the tile then
-unfoldable pub tile_left : Extent → PlaceStage → Reading → InputRead (Option Place × ℕ)
+unfoldable pub tile_left : Extent → TileStage → Reading → InputRead (Option Place × ℕ)
 tile_left e stage r = tile_number e stage (number_at r)
 
 -- an adjustment with this edge, where its level reads as this

@@ -5,13 +5,13 @@ ghost use Rattle.grid_base.specs.declared.piece.Piece.{Piece};
 ghost use Rattle.grid_base.specs.Numbers.{IsInside, IsPiece, distance};
 ghost use Rattle.ispd_reader.specs.Adjustments.{edge_between, step_between};
 ghost use Rattle.ispd_reader.specs.AdjustmentsLeft.{adjustment_left, FitsStage, BecomesNext};
-ghost use Rattle.ispd_reader.specs.declared.adjustment_stage.AdjustmentStage.TheVariants as stage;
+ghost use Rattle.ispd_reader.specs.declared.adjustment_stage.AdjustmentStage.TheVariants as stages;
 ghost use Rattle.ispd_reader.specs.Adjusted.{adjustment_of};
 ghost use Rattle.design_tokens.specs.Steps.{TakesOrEnds};
 ghost use Rattle.ispd_reader.specs.Views.{extent_of_size};
 
 use crate::adjustment::Adjustment;
-use crate::place_stage::PlaceStage;
+use crate::tile_stage::TileStage;
 use design_tokens::{CutToken, InputError, InputFault, capacity};
 use grid_base::{Axis, Edge, Place, Size};
 use grid_graph::MAX_CAPACITY;
@@ -20,11 +20,11 @@ use grid_graph::MAX_CAPACITY;
 #[derive(Clone, Copy, Drop)]
 pub(crate) enum AdjustmentStage {
     From {
-        tile: PlaceStage,
+        tile: TileStage,
     },
     To {
         from: Option<Place>,
-        tile: PlaceStage,
+        tile: TileStage,
     },
     Level {
         edge: Option<Edge>,
@@ -64,12 +64,8 @@ impl AdjustmentStage {
 }
 
 /// What is next behind a number of the first tile.
-fn behind_from(
-    tile: PlaceStage,
-    size: Size,
-    token: &CutToken,
-) -> Result<AdjustmentStage, InputError>
-    ensures becomes { (index : ℕ) → BecomesNext token.now result (adjustment_left (extent_of_size size) index (stage.From tile)) (adjustment_left (extent_of_size size) index) }
+fn behind_from(tile: TileStage, size: Size, token: &CutToken) -> Result<AdjustmentStage, InputError>
+    ensures becomes { (index : ℕ) → BecomesNext token.now result (adjustment_left (extent_of_size size) index (stages.From tile)) (adjustment_left (extent_of_size size) index) }
     ensures fits { IfOk result (λ next. FitsStage size next) }
 {
     let mut tile = tile;
@@ -77,7 +73,7 @@ fn behind_from(
         None => AdjustmentStage::From { tile },
         Some(read) => AdjustmentStage::To {
             from: read.0,
-            tile: PlaceStage::Column,
+            tile: TileStage::Column,
         },
     })
 }
@@ -85,13 +81,13 @@ fn behind_from(
 /// What is next behind a number of the second tile.
 fn behind_to(
     from: Option<Place>,
-    tile: PlaceStage,
+    tile: TileStage,
     size: Size,
     index: u32,
     token: &CutToken,
 ) -> Result<AdjustmentStage, InputError>
     requires { IfSome from (λ place. IsInside size place) }
-    ensures becomes { BecomesNext token.now result (adjustment_left (extent_of_size size) index (stage.To from tile)) (adjustment_left (extent_of_size size) index) }
+    ensures becomes { BecomesNext token.now result (adjustment_left (extent_of_size size) index (stages.To from tile)) (adjustment_left (extent_of_size size) index) }
     ensures fits { IfOk result (λ next. FitsStage size next) }
 {
     let mut tile = tile;

@@ -17,7 +17,7 @@ ghost use Rattle.ispd_reader.specs.Views.{extent_of_size};
 
 use crate::adjustment::Adjustment;
 use crate::adjustment_stage::AdjustmentStage;
-use crate::place_stage::PlaceStage;
+use crate::tile_stage::TileStage;
 use design_tokens::{CutToken, InputError, Wanted, count};
 use grid_base::Size;
 use grid_graph::{Grid, MAX_CAPACITY};
@@ -116,7 +116,7 @@ impl AdjustmentsReader {
         }
         AdjustmentsReader::Adjustment {
             stage: AdjustmentStage::From {
-                tile: PlaceStage::Column,
+                tile: TileStage::Column,
             },
             index,
             owed: count - 1,

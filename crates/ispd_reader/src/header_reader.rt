@@ -3,7 +3,9 @@
 ghost use Rattle.ispd_reader.specs.HeaderStages.{IsStage};
 
 use crate::header_stage::{HeaderStage, LayoutStage, ListStage, SizeStage};
-use crate::header_steps::{behind_values, first_word, left, lower, second_word, size_token, width};
+use crate::header_steps::{
+    behind_values, first_word, left_border, lower_border, second_word, size_token, tile_width,
+};
 use crate::layer_list::LayerList;
 use crate::layer_lists::LayerLists;
 use design_tokens::{CutToken, InputError, Wanted, side};
@@ -122,15 +124,15 @@ impl HeaderReader {
     {
         match stage {
             LayoutStage::Left => {
-                self.stage = left(token, size)?;
+                self.stage = left_border(token, size)?;
                 Ok(None)
             }
             LayoutStage::Lower { left } => {
-                self.stage = lower(token, size, left)?;
+                self.stage = lower_border(token, size, left)?;
                 Ok(None)
             }
             LayoutStage::Width { origin } => {
-                self.stage = width(token, size, origin)?;
+                self.stage = tile_width(token, size, origin)?;
                 Ok(None)
             }
             LayoutStage::Height { origin, width } => {

@@ -143,7 +143,7 @@ fn behind_list(size: Size, list: LayerList) -> HeaderStage
 
 /// The x of the corner.
 #[tactic(auto, unfolding(crate::specs::Header::origin_at))]
-pub(crate) fn left(token: &CutToken, size: Size) -> Result<HeaderStage, InputError>
+pub(crate) fn left_border(token: &CutToken, size: Size) -> Result<HeaderStage, InputError>
     ensures takes { TakesStage token.now result (stages.Tiles size Left) }
     ensures limits { KeepsLimits result (stages.Tiles size Left) }
 {
@@ -155,7 +155,11 @@ pub(crate) fn left(token: &CutToken, size: Size) -> Result<HeaderStage, InputErr
 }
 
 /// The y of the corner.
-pub(crate) fn lower(token: &CutToken, size: Size, left: i64) -> Result<HeaderStage, InputError>
+pub(crate) fn lower_border(
+    token: &CutToken,
+    size: Size,
+    left: i64,
+) -> Result<HeaderStage, InputError>
     ensures takes { TakesStage token.now result (stages.Tiles size (Lower left)) }
     ensures limits { KeepsLimits result (stages.Tiles size (Lower left)) }
 {
@@ -170,7 +174,7 @@ pub(crate) fn lower(token: &CutToken, size: Size, left: i64) -> Result<HeaderSta
 
 /// The width of a tile.
 #[tactic(auto, unfolding(crate::specs::Header::tile_size_at))]
-pub(crate) fn width(
+pub(crate) fn tile_width(
     token: &CutToken,
     size: Size,
     origin: (i64, i64),

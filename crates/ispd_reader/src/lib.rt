@@ -32,11 +32,11 @@ mod machine_stage;
 mod net_numbers;
 mod net_stage;
 mod nets_reader;
-mod place_stage;
 mod present_net;
 mod progress;
 mod reader;
 mod reading;
+mod tile_stage;
 
 pub use design_tokens::{FaultFields, InputError, InputFault, Wanted};
 pub use laws::{designs_of_a_text_are_alike, names_of_a_design};

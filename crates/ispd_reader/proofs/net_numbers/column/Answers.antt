@@ -5,7 +5,7 @@ use Rattle.design_tokens.specs.declared.input_fault.InputFault.{InputFault}
 use Rattle.design_tokens.specs.declared.input_fault.InputFault.TheVariants.{PinOutside}
 use Rattle.ispd_reader.specs.Nets.{tile_along}
 use Rattle.ispd_reader.specs.Views.{header_of}
-use Rattle.ispd_reader.proofs.NextNumbers.{no_number, wrong_number, right_number}
+use Rattle.ispd_reader.proofs.NextNumbers.{number_refused, wrong_number, right_number}
 use Rattle.ispd_reader.proofs.net_numbers.column.Goals as goal
 
 pub returns-in_err-x-clause-column : goal.returns-in_err-x-clause-column
@@ -13,7 +13,7 @@ returns-in_err-x-clause-column c =
     let h = header_of (layout_of c.args.grid.now) in
     let fault : ℕ → InputFault = λ at. PinOutside at c.args.id c.args.pin in
     let p = err_from_is_err_and c.from_residual.result c.from_residual.ensures.1 in
-    rw (p.1, p.2) (no_number c.args.token.now (tile_along h.origin.0 h.tile.0 h.extent.cols) fault c.in_err-x.field-0.0 c.in_err-x.ensures.number)
+    rw (p.1, p.2) (number_refused c.args.token.now (tile_along h.origin.0 h.tile.0 h.extent.cols) fault c.in_err-x.field-0.0 c.in_err-x.ensures.number)
 
 pub returns-in_err-col-clause-column : goal.returns-in_err-col-clause-column
 returns-in_err-col-clause-column c =

@@ -8,7 +8,7 @@ use Rattle.grid_graph.specs.Limits.{max_demand}
 use Rattle.design_tokens.specs.declared.input_fault.InputFault.TheVariants.{WidthLimit}
 use Rattle.design_tokens.specs.Numbers.{number_within}
 use Rattle.ispd_reader.specs.Nets.{widest_spacing}
-use Rattle.ispd_reader.proofs.NextNumbers.{no_number, wrong_number, right_number}
+use Rattle.ispd_reader.proofs.NextNumbers.{number_refused, wrong_number, right_number}
 use Rattle.ispd_reader.proofs.net_numbers.net_width.Goals as goal
 
 pub returns-in_err-number-clause-width : goal.returns-in_err-number-clause-width
@@ -16,7 +16,7 @@ unfolding number_within
 returns-in_err-number-clause-width c =
     let most = max_demand - widest_spacing (layout_of c.args.grid.now).spacings in
     let p = err_from_is_err_and c.from_residual.result c.from_residual.ensures.1 in
-    rw (p.1, p.2) (no_number c.args.token.now (within 0 most) WidthLimit c.in_err-number.field-0.0 c.in_err-number.ensures.number)
+    rw (p.1, p.2) (number_refused c.args.token.now (within 0 most) WidthLimit c.in_err-number.field-0.0 c.in_err-number.ensures.number)
 
 pub returns-in_err-width-clause-width : goal.returns-in_err-width-clause-width
 unfolding number_within

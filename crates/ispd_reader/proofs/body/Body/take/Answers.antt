@@ -1,4 +1,4 @@
-use Rattle.std.proofs.Common.{◌∙◌, true, sym}
+use Rattle.std.proofs.Common.{◌∙◌, sym}
 use Rattle.ispd_reader.proofs.MachineSteps.{nets_move, adjustments_move, adjusted_ready, nets_ready}
 use Rattle.ispd_reader.proofs.NetsEnds.{nets_done}
 use Rattle.ispd_reader.proofs.body.Body.take.Goals as goal

@@ -4,7 +4,7 @@ use Rattle.ispd_reader.specs.declared.header_stage.LayoutStage.TheVariants.{Left
 use Rattle.ispd_reader.specs.Header.{origin_at}
 use Rattle.design_tokens.specs.Numbers.{number_at}
 use Rattle.ispd_reader.proofs.HeaderSteps.{stage_refused}
-use Rattle.ispd_reader.proofs.header_steps.left.Goals as goal
+use Rattle.ispd_reader.proofs.header_steps.left_border.Goals as goal
 
 pub returns-in_err-left-clause-takes : goal.returns-in_err-left-clause-takes
 unfolding origin_at

@@ -1,7 +1,7 @@
 use Rattle.std.proofs.lemmas.Result.{err_from_is_err_and}
 use Rattle.ispd_reader.specs.Views.{extent_of_size}
 use Rattle.ispd_reader.proofs.AdjustmentStages.{tile_refused, column_read, row_read, layer_read}
-use Rattle.ispd_reader.proofs.place_stage.PlaceStage.take.Goals as goal
+use Rattle.ispd_reader.proofs.tile_stage.TileStage.take.Goals as goal
 
 pub returns-in_err-number-clause-takes : goal.returns-in_err-number-clause-takes
 returns-in_err-number-clause-takes c =

@@ -13,13 +13,13 @@ use text_scan::Number;
 
 /// Which number of a tile is next, and the numbers before it.
 #[derive(Clone, Copy, Drop)]
-pub(crate) enum PlaceStage {
+pub(crate) enum TileStage {
     Column,
     Row { col: Number },
     Layer { col: Number, row: Number },
 }
 
-impl PlaceStage {
+impl TileStage {
     /// Takes the next number. With the last one it hands out the tile, where it is inside the grid,
     /// and the place of that number.
     pub(crate) fn take(
@@ -32,9 +32,9 @@ impl PlaceStage {
     {
         let number = number(token)?;
         match *self {
-            PlaceStage::Column => *self = PlaceStage::Row { col: number },
-            PlaceStage::Row { col } => *self = PlaceStage::Layer { col, row: number },
-            PlaceStage::Layer { col, row } => {
+            TileStage::Column => *self = TileStage::Row { col: number },
+            TileStage::Row { col } => *self = TileStage::Layer { col, row: number },
+            TileStage::Layer { col, row } => {
                 return Ok(Some((place_in(size, col, row, number), number.at)));
             }
         }

@@ -4,7 +4,7 @@ use Rattle.ispd_reader.specs.declared.header_stage.LayoutStage.TheVariants.{Widt
 use Rattle.ispd_reader.specs.Header.{tile_size_at}
 use Rattle.design_tokens.specs.Numbers.{side_at}
 use Rattle.ispd_reader.proofs.HeaderSteps.{stage_refused}
-use Rattle.ispd_reader.proofs.header_steps.width.Goals as goal
+use Rattle.ispd_reader.proofs.header_steps.tile_width.Goals as goal
 
 pub returns-in_err-width-clause-takes : goal.returns-in_err-width-clause-takes
 unfolding tile_size_at
