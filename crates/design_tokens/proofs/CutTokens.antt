@@ -1,5 +1,5 @@
 -- What is known of a token when one more byte has come.
-use Rattle.std.proofs.Common.{◌≡◌, ℕ, zero, suc, ◌<◌, true, List, [], ◌∷◌, ◌++◌, length, take, refl, sym, ap, ◌∙◌, arith, true≢false, eq-eqb, ne_eqb, length-append, length-take}
+use Rattle.std.proofs.Common.{◌≡◌, ℕ, zero, suc, ◌<◌, ◌≤◌, ◌+◌, true, List, [], ◌∷◌, ◌++◌, length, take, refl, sym, ap, ◌∙◌, arith, true≢false, eq-eqb, ne_eqb, length-append, length-take}
 use Rattle.std.specs.Prelude.{nat_eq, ◌&&◌, ◌≢◌, ◌==◌, false, min}
 use Rattle.std.specs.Str.{bytes_eq}
 use Rattle.text_scan.specs.Tokens.{Token}
@@ -17,6 +17,15 @@ pub first_more : (n : ℕ) (bs more : List ℕ) → take n (take n bs ++ more) �
 first_more zero bs more = refl
 first_more (suc n) [] more = refl
 first_more (suc n) (d ∷ ds) more = ap (λ l. d ∷ l) (first_more n ds more)
+
+-- bytes for which there is no room
+pub first_enough : (n room : ℕ) (bs more : List ℕ) → min n (length bs + length more) ≤ length bs + room → take n (bs ++ take room more) ≡ take n (bs ++ more)
+first_enough zero room bs more enough = refl
+first_enough (suc n) room (d ∷ ds) more enough = ap (λ l. d ∷ l) (first_enough n room ds more (omega (arith, enough)))
+first_enough (suc n) zero [] [] enough = refl
+first_enough (suc n) zero [] (m ∷ ms) enough = absurd (omega (arith, enough))
+first_enough (suc n) (suc room) [] [] enough = refl
+first_enough (suc n) (suc room) [] (m ∷ ms) enough = ap (λ l. m ∷ l) (first_enough n room [] ms (omega (arith, enough)))
 
 -- a shorter word is the first bytes where it is all of them
 front_is_word : (n : ℕ) (bs word : List ℕ) → length word < n → bytes_eq (take n bs) word ≡ bytes_eq bs word

@@ -64,7 +64,8 @@ impl FirstBytes {
     pub(crate) fn extend(&mut self, bytes: &[u8])
         ensures { (front : List ℕ) → self.old ≡ take KEPT front → self.new ≡ take KEPT (front ++ bytes.now) }
     {
-        for byte in bytes {
+        let kept = &bytes[..bytes.len().min(KEPT - self.used)];
+        for byte in kept {
             self.push(*byte);
         }
     }
