@@ -30,6 +30,11 @@ pub IsReady-prop : (stage : MachineStage) → IsProp (IsReady stage)
 IsReady-prop (Header h) = Unit-prop
 IsReady-prop (Body b) = IsReadyBody-prop b
 
+-- the header is read
+abbrev pub IsOfHeader : MachineStage → Type 0
+IsOfHeader (Header h) = Unit {0}
+IsOfHeader (Body b) = ⊥
+
 -- these adjustments were made
 abbrev pub HasMade : MachineStage → List Adjustment → Type 0
 HasMade (Header h) made = made ≡ []

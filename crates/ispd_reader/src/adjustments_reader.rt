@@ -61,6 +61,7 @@ impl AdjustmentsReader {
     }
 
     /// Takes the next token. Where an adjustment ends with it, the grid is adjusted.
+    #[inline(never)]
     pub(crate) fn take(&mut self, grid: &mut Grid, token: &CutToken) -> Result<(), InputError>
         requires { FitsSize (size_of grid.old) self.old }
         ensures takes { AdjustsNext token.now result grid.old grid.new self.old self.new }

@@ -27,6 +27,7 @@ pub(crate) struct Body {
 
 impl Body {
     /// The grid is there, and nothing else has been read.
+    #[inline(never)]
     pub(crate) fn new(alloc: Global, parts: GridParts) -> Result<Self, InputError>
         requires { IsGridParts parts }
         ensures left { IfOk result (λ body. (r : Reading) → body_left body [] r ≡ after_header (header_of (layout_of_parts parts)) r) }

@@ -54,6 +54,7 @@ impl HeaderReader {
     }
 
     /// Takes the next token. With the last one it hands out what was read.
+    #[inline(never)]
     pub(crate) fn take(&mut self, token: &CutToken) -> Result<Option<GridParts>, InputError>
         ensures takes { TakesOrEnds token.now (λ p. header_of (layout_of_parts p)) result (header_left self.old) (header_left self.new) }
         ensures limits { IfOk result (λ parts. IfSome parts IsGridParts) }

@@ -2,7 +2,6 @@
 
 ghost use Rattle.ispd_reader.specs.MachineStages.{IsReady, IsReady-prop};
 
-use crate::header_reader::HeaderReader;
 use crate::machine_stage::MachineStage;
 use design_tokens::{CutToken, InputError};
 use grid_graph::Design;
@@ -30,7 +29,7 @@ impl Machine {
         ensures stands { Stands result [] }
     {
         Machine {
-            stage: MachineStage::Header(HeaderReader::new(alloc)),
+            stage: MachineStage::new(alloc),
         }
     }
 
@@ -52,7 +51,7 @@ impl Machine {
         match self.stage.take(alloc, token) {
             Ok(()) => Ok(()),
             Err(refusal) => {
-                self.stage = MachineStage::Header(HeaderReader::new(alloc));
+                self.stage = MachineStage::new(alloc);
                 Err(refusal)
             }
         }

@@ -1,4 +1,7 @@
 //! The reader of the nets.
+//!
+//! Most tokens of a text are those of pins. What takes other ones is not inlined, here and in the readers
+//! around, so that a pin's token doesn't pay for room that it doesn't use.
 
 ghost use Rattle.std.specs.Prelude.{◌≡◌, false, true, Ok, IfOk};
 ghost use Rattle.grid_graph.specs.declared.grid.Grid.{Grid};
@@ -118,6 +121,7 @@ impl NetsReader {
     }
 
     /// Takes the word `num`.
+    #[inline(never)]
     fn take_num(&mut self, token: &CutToken) -> Result<(), InputError>
         requires { self.old.stage ≡ stages.Num }
         ensures { (grid : Grid) → AreNetsOf grid self.old → TakesNet grid token.now result self.old self.new }
@@ -128,6 +132,7 @@ impl NetsReader {
     }
 
     /// Takes the word `net`.
+    #[inline(never)]
     fn take_net(&mut self, token: &CutToken) -> Result<(), InputError>
         requires { self.old.stage ≡ stages.Net }
         ensures { (grid : Grid) → AreNetsOf grid self.old → TakesNet grid token.now result self.old self.new }
@@ -138,6 +143,7 @@ impl NetsReader {
     }
 
     /// Takes how many nets there are.
+    #[inline(never)]
     fn take_count(&mut self, token: &CutToken) -> Result<(), InputError>
         requires { self.old.stage ≡ stages.Count }
         ensures { (grid : Grid) → AreNetsOf grid self.old → TakesNet grid token.now result self.old self.new }
@@ -161,6 +167,7 @@ impl NetsReader {
     }
 
     /// Takes the name of a net.
+    #[inline(never)]
     fn take_name(&mut self, alloc: Global, token: &CutToken) -> Result<(), InputError>
         requires stage { self.old.stage ≡ stages.Name }
         requires named { keeps_name token.now ≡ true }
@@ -173,6 +180,7 @@ impl NetsReader {
     }
 
     /// Takes the id of a net.
+    #[inline(never)]
     fn take_id(&mut self, token: &CutToken) -> Result<(), InputError>
         requires { self.old.stage ≡ stages.Id }
         ensures { (grid : Grid) → AreNetsOf grid self.old → TakesNet grid token.now result self.old self.new }
@@ -184,6 +192,7 @@ impl NetsReader {
     }
 
     /// Takes how many pins a net has.
+    #[inline(never)]
     fn take_pin_count(&mut self, grid: &Grid, token: &CutToken) -> Result<(), InputError>
         requires stage { self.old.stage ≡ stages.PinCount }
         requires fits { AreNetsOf grid.now self.old }
@@ -199,6 +208,7 @@ impl NetsReader {
     }
 
     /// Takes the width of a net, which ends with it where it has no pins.
+    #[inline(never)]
     fn take_width(&mut self, alloc: Global, grid: &Grid, token: &CutToken) -> Result<(), InputError>
         requires stage { self.old.stage ≡ stages.Width }
         requires fits { AreNetsOf grid.now self.old }
@@ -224,6 +234,7 @@ impl NetsReader {
     }
 
     /// Puts the net to those that are there.
+    #[inline(never)]
     fn end_net(&mut self, alloc: Global) -> Result<(), NoMemory>
         ensures left { IfOk result (λ _. (header : Header) (r : Reading) → nets_left_at_pins header self.old 0 r ≡ nets_left header self.new r) }
         ensures fits { (grid : Grid) → AwaitPins grid self.old → IfOk result (λ _. AreNetsOf grid self.new) }
