@@ -27,18 +27,20 @@ RUNS = {
     'unavoidable': (UNAVOIDABLE, 'D', 'ROUTES', 'CERT', 'PROVED'),
     'judge proved': (GROUTER, 'judge', 'D', 'ROUTES', 'PROVED'),
     'guide': (GROUTER, 'guide', 'D', 'ROUTES', 'GUIDES'),
-    'congestion_map': (CONGESTION_MAP, 'D', 'ROUTES', 'PICTURE', 'CELLS'),
+    'congestion_map': (CONGESTION_MAP, 'D', 'ROUTES', 'PICTURE'),
+    'congestion_map cells': (CONGESTION_MAP, 'D', 'ROUTES', 'CELLS'),
     'reroute none': (REROUTE, 'D', 'REROUTED', '--workers', 'N'),
     'measure rerouted': (GROUTER, 'measure', 'D', 'REROUTED'),
     'reroute routes': (REROUTE, 'D', 'ROUTES', 'BETTER', '--workers', 'N'),
     'measure better': (GROUTER, 'measure', 'D', 'BETTER'),
 }
-TEXTS = {'ROUTES', 'CERT', 'CLIMBED', 'PROVED', 'GUIDES', 'PICTURE', 'CELLS', 'REROUTED', 'BETTER'}
+TEXTS = {text: text.lower() for text in ('ROUTES', 'CERT', 'CLIMBED', 'PROVED', 'GUIDES', 'REROUTED', 'BETTER')}
+TEXTS |= {'PICTURE': 'picture.svg', 'CELLS': 'cells.csv'}
 
 
 def words_of(name, room, design, workers):
     """The words of a run. A text that it will write is removed first, since some programs refuse a file that is there."""
-    stands = {'D': design, 'N': str(workers)} | {text: os.path.join(room, text.lower()) for text in TEXTS}
+    stands = {'D': design, 'N': str(workers)} | {text: os.path.join(room, file) for text, file in TEXTS.items()}
     return [stands.get(word, word) for word in RUNS[name]]
 
 
@@ -73,8 +75,8 @@ def main():
             name = f'{size}, {kind}, {seed}'
             design = os.path.join(room, f'{size}-{kind}-{seed}.gr')
             subprocess.run([draw, size, design, f'--{kind}', '--seed', str(seed)], check=True)
-            for text in TEXTS:
-                if os.path.exists(path := os.path.join(room, text.lower())):
+            for file in TEXTS.values():
+                if os.path.exists(path := os.path.join(room, file)):
                     os.remove(path)
             for one in asked.only:
                 print(line_of(name, one, run(*words_of(one, room, design, asked.workers))), flush=True)
