@@ -1,5 +1,5 @@
 -- What the bytes of a token are as a number, whether they come one by one or at once.
-use Rattle.std.proofs.Common.{◌≡◌, ℕ, suc, ◌+◌, ◌-◌, ◌*◌, ◌<◌, ◌≤◌, ◌==◌, Bool, true, false, ◌⊎◌, inl, inr, ⊎_elim, List, [], ◌∷◌, ◌++◌, length, refl, sym, ap, ◌∙◌, arith, ℤ, pos, neg_ℤ, Result, Ok, Err, if◌then◌else◌}
+use Rattle.std.proofs.Common.{◌≡◌, ℕ, zero, suc, take, get_or, ◌+◌, ◌-◌, ◌*◌, ◌<◌, ◌≤◌, ◌==◌, Bool, true, false, ◌⊎◌, inl, inr, ⊎_elim, List, [], ◌∷◌, ◌++◌, length, refl, sym, ap, ◌∙◌, arith, ℤ, pos, neg_ℤ, Result, Ok, Err, if◌then◌else◌}
 use Rattle.std.specs.Prelude.{nat_le, nat_lt, ◌&&◌}
 use Rattle.std.specs.Char.{is_ascii_digit, digit_value}
 use Rattle.std.specs.Str.{all_ascii_digits}
@@ -28,9 +28,15 @@ numeral_all before [] more = refl
 numeral_all before (d ∷ ds) more = numeral_all (next_numeral before d) ds more
 
 -- what is no number stays so
-other_stays : (bs : List ℕ) → numeral_behind Other bs ≡ Other
+pub other_stays : (bs : List ℕ) → numeral_behind Other bs ≡ Other
 other_stays [] = refl
 other_stays (b ∷ bs) = other_stays bs
+
+-- where some byte makes other bytes no number, all of them are none
+pub past_other : (before : Numeral) (bs : List ℕ) (i : ℕ) → i < length bs → next_numeral (numeral_behind before (take i bs)) (get_or bs i 0) ≡ Other → numeral_behind before bs ≡ Other
+past_other before [] i short is = absurd (omega arith)
+past_other before (b ∷ bs) zero short is = ap (λ (n : Numeral). numeral_behind n bs) is ∙ other_stays bs
+past_other before (b ∷ bs) (suc i) short is = past_other (next_numeral before b) bs i (omega (arith, short)) is
 
 -- a magnitude is the value of the digits, or both are too great
 abbrev IsMagnitude : ℕ → ℕ → Type 0

@@ -1,9 +1,10 @@
 //! A token that may be cut: what is known of it from the bytes so far.
 
-ghost use Rattle.std.specs.Prelude.{◌≡◌, ◌++◌, [], ◌∷◌, true, false, IfOk};
+ghost use Rattle.std.specs.Prelude.{ℕ, List, ◌≡◌, ◌++◌, [], ◌∷◌, take, true, false, IfOk};
 ghost use Rattle.std.specs.Str.{bytes_eq};
 ghost use Rattle.text_scan.specs.Tokens.{Token};
 ghost use Rattle.grid_graph.specs.Layouts.{IsPosition};
+ghost use Rattle.design_tokens.specs.declared.first_bytes.TheConstants.{KEPT};
 ghost use Rattle.design_tokens.specs.Words.{spelling};
 ghost use Rattle.design_tokens.specs.Numerals.{design_number};
 ghost use Rattle.design_tokens.specs.CutTokens.{IsCutToken, has_no_byte, keeps_name};
@@ -20,6 +21,8 @@ use text_scan::{Number, NumberFault};
 #[derive(Debug, Drop)]
 pub struct CutToken {
     place: usize,
+    /// Whether it may be a word, so that its first bytes are kept.
+    word: bool,
     first: FirstBytes,
     numeral: Numeral,
     named: bool,
@@ -33,6 +36,7 @@ impl CutToken {
     {
         CutToken {
             place: 0,
+            word: false,
             first: FirstBytes::new(),
             numeral: Numeral::Nothing,
             named: false,
@@ -56,6 +60,7 @@ impl CutToken {
         ensures named { IfOk result (λ _. keeps_name self.new ≡ named) }
     {
         self.place = place;
+        self.word = byte >= b'a';
         self.first.clear();
         self.first.push(byte);
         self.numeral = Numeral::Nothing.with(byte);
@@ -75,7 +80,7 @@ impl CutToken {
         ensures some { (t : Token) → IsCutToken self.old t → IfOk result (λ _. has_no_byte self.new ≡ false) }
         ensures named { IfOk result (λ _. keeps_name self.new ≡ keeps_name self.old) }
     {
-        self.first.extend(bytes);
+        keep_first(&mut self.first, self.word, bytes);
         self.numeral = self.numeral.with_all(bytes);
         if self.named {
             self.name.extend_from_slice(bytes)?;
@@ -102,7 +107,7 @@ impl CutToken {
     pub(crate) fn is_word(&self, wanted: Wanted) -> bool
         ensures { (t : Token) → IsCutToken self.now t → result ≡ bytes_eq t.bytes (spelling wanted) }
     {
-        self.first.bytes() == wanted.word().as_bytes()
+        self.word && self.first.bytes() == wanted.word().as_bytes()
     }
 
     /// All its bytes.
@@ -119,5 +124,15 @@ impl CutToken {
         ensures range { IfOk result (λ x. IsPosition x.value) }
     {
         self.numeral.number(self.place)
+    }
+}
+
+/// More bytes of a token, of which the first are kept where it may be a word.
+fn keep_first(first: &mut FirstBytes, word: bool, bytes: &[u8])
+    ensures word { (front : List ℕ) → word ≡ true → first.old ≡ take KEPT front → first.new ≡ take KEPT (front ++ bytes.now) }
+    ensures other { word ≡ false → first.new ≡ first.old }
+{
+    if word {
+        first.extend(bytes);
     }
 }

@@ -2,6 +2,7 @@
 
 ghost use Rattle.std.specs.Prelude.{◌≡◌, ◌≤◌, pos, neg_ℤ, if◌then◌else◌, IfOk};
 ghost use Rattle.grid_graph.specs.Layouts.{IsPosition};
+ghost use Rattle.design_tokens.specs.declared.numeral.Numeral.TheVariants.{Digits};
 ghost use Rattle.design_tokens.specs.Numerals.{first_byte, next_digit, next_numeral, numeral_behind, magnitude_after, numeral_number};
 
 use text_scan::{Number, NumberFault};
@@ -41,6 +42,20 @@ impl Numeral {
 
     /// The same with more bytes.
     pub(crate) fn with_all(self, bytes: &[u8]) -> Numeral
+        ensures { result ≡ numeral_behind self bytes.now }
+    {
+        match self {
+            Numeral::Digits {
+                negative,
+                magnitude,
+            } => more_digits(negative, magnitude, bytes),
+            Numeral::Other => Numeral::Other,
+            _ => self.with_each(bytes),
+        }
+    }
+
+    /// The same with one more byte after the other.
+    fn with_each(self, bytes: &[u8]) -> Numeral
         ensures { result ≡ numeral_behind self bytes.now }
     {
         let mut numeral = self;
@@ -96,6 +111,23 @@ fn next(negative: bool, magnitude: u64, byte: u8) -> Numeral
         }
     } else {
         Numeral::Other
+    }
+}
+
+/// What digits of this magnitude are with more bytes.
+fn more_digits(negative: bool, magnitude: u64, bytes: &[u8]) -> Numeral
+    ensures { result ≡ numeral_behind (Digits negative magnitude) bytes.now }
+{
+    let mut magnitude = magnitude;
+    for byte in bytes {
+        if !byte.is_ascii_digit() {
+            return Numeral::Other;
+        }
+        magnitude = grown(magnitude, *byte - b'0');
+    }
+    Numeral::Digits {
+        negative,
+        magnitude,
     }
 }
 

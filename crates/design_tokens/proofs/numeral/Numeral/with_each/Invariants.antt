@@ -1,6 +1,6 @@
 use Rattle.std.proofs.Common.{◌≡◌, take}
 use Rattle.design_tokens.specs.Numerals.{numeral_behind}
-use Rattle.design_tokens.proofs.numeral.Numeral.with_all.Given as goal
+use Rattle.design_tokens.proofs.numeral.Numeral.with_each.Given as goal
 
 -- the bytes so far are in it
 abbrev pub invariant-loop-byte : goal.invariant-loop-byte
