@@ -86,7 +86,7 @@ excess_small Open used capacity most small = omega (arith, small)
 excess_small Choked used capacity most small = omega (arith, small)
 excess_small Wall used capacity most small = omega arith
 
-overflow_small : (d : Design) (trees : List (List Piece)) → overflow d.grid (load d.grid d.nets trees) ≤ max_stated_total
+pub overflow_small : (d : Design) (trees : List (List Piece)) → overflow d.grid (load d.grid d.nets trees) ≤ max_stated_total
 overflow_small d trees =
     let g = d.grid in
     let edges = 2 * vertices (size_of g) in
@@ -101,7 +101,7 @@ overflow_small d trees =
       (size_of g).within.vertex_limit,
     )
 
-wirelength_small : (d : Design) (trees : List (List Piece)) → AreRoutedSets d trees → wirelength trees ≤ max_stated_total
+pub wirelength_small : (d : Design) (trees : List (List Piece)) → AreRoutedSets d trees → wirelength trees ≤ max_stated_total
 wirelength_small d trees sets =
     let s = size_of d.grid in
     let each : All (λ (tree : List Piece). length tree ≤ 2 ^ 25) trees = λ k tree below.
@@ -112,7 +112,7 @@ wirelength_small d trees sets =
 
 -- ---- fractions
 
-peak_within : (g : Grid) (used : ℕ → ℕ) (wire : ℕ) (budget : Option Budget) (peak : Option Fraction) → IsPeakWith g used wire (most_of budget) peak
+pub peak_within : (g : Grid) (used : ℕ → ℕ) (wire : ℕ) (budget : Option Budget) (peak : Option Fraction) → IsPeakWith g used wire (most_of budget) peak
     → AreFractionsWithin (version_of budget) peak
 peak_within g used wire None None is = λ f none. absurd (cc none)
 peak_within g used wire None (Some f) is = λ h same.

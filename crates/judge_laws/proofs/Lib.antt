@@ -16,3 +16,4 @@ pub mod OneTextVerdict
 pub mod Kept
 pub mod OpenPrices
 pub mod OtherPrices
+pub mod RoutesAlone

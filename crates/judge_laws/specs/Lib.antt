@@ -5,4 +5,5 @@ pub use Rattle.route_judge.specs.Orders
 pub use Rattle.route_text.specs.Written
 pub mod Meeting
 pub mod OpenPrices
+pub mod RoutesAlone
 pub mod TextVerdicts

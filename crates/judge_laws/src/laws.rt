@@ -29,6 +29,7 @@ ghost use Rattle.route_judge.specs.NetSets.{AreSetsOf, AreJoining};
 ghost use Rattle.route_judge.specs.Orders.{AreRoutes};
 ghost use Rattle.judge_laws.specs.Meeting.{ClaimsTruly, Meet};
 ghost use Rattle.judge_laws.specs.OpenPrices.{with_prices};
+ghost use Rattle.judge_laws.specs.RoutesAlone.{IsCertOfRoutes};
 ghost use Rattle.judge_laws.specs.TextVerdicts.{AreTextsOf, IsVerdictOn};
 
 /// The blocks that are written for sets that join the nets of a design without walls are routes of it, which give the nets these
@@ -101,4 +102,17 @@ pub fn certificates_with_another_bound_are_accepted()
     ensures bounds { (d : Design) (cert : Cert) (budget : Option Budget) (prices : List ℕ) (found : Option Fraction)
         → ArePricesWith d.grid prices budget → IsBoundOrNone d prices budget found
         → StatesBound d (with_prices d.grid cert budget prices found) }
+{}
+
+/// Where nothing can be objected to routes, nothing can be to them and the certificate of them alone. Its text reads back, and it
+/// states a bound of the design.
+pub fn certificates_of_routes_are_accepted()
+    ensures accepted { (d : Design) (over : List Ground) (blocks : List Block) (cert : Cert)
+        → AreRoutes d blocks → IsCertOfRoutes d over blocks cert → IsJudged d over blocks cert None }
+    ensures within { (d : Design) (over : List Ground) (blocks : List Block) (cert : Cert)
+        → AreGrounds d.grid d.nets over → IsCertOfRoutes d over blocks cert → IsCertWithin cert }
+    ensures reads_back { (d : Design) (over : List Ground) (blocks : List Block) (cert : Cert)
+        → AreGrounds d.grid d.nets over → IsCertOfRoutes d over blocks cert → IsCertOf (cert_text cert) cert }
+    ensures bounds { (d : Design) (over : List Ground) (blocks : List Block) (cert : Cert)
+        → IsCertOfRoutes d over blocks cert → StatesBound d cert }
 {}

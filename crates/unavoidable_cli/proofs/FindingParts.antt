@@ -86,5 +86,6 @@ better_most d old new edges least most at (inr is) = inr (record {
   is_new = is.is_new;
   is_bound = is.is_bound;
   above = is.above;
+  any_budget = is.any_budget;
   pricing = (is.pricing.0, is.pricing.1, omega (arith, is.pricing.2, at));
 })

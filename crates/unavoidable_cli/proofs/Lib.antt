@@ -3,3 +3,5 @@ pub mod FindingParts
 pub mod NewCerts
 pub mod TwoLists
 pub mod WholeRuns
+pub mod GivenCerts
+pub mod ZeroBounds

@@ -1,5 +1,5 @@
 -- The ways in which a run ends: with what comes of what was read, refused, and on words that are no command.
-use Rattle.std.proofs.Common.{◌≡◌, ℕ, take, Ok, Err, refl}
+use Rattle.std.proofs.Common.{◌≡◌, ℕ, List, take, Option, Some, None, Ok, Err, refl}
 use Rattle.gr_desk.specs.declared.port.Port.TheVariants.{CertOut}
 use Rattle.gr_desk.specs.Told.{Told}
 use Rattle.command_runs.specs.declared.refusal.Refusal.{Refusal}
@@ -12,14 +12,18 @@ use Rattle.command_runs.proofs.FilePorts.{AreInputs, AreOutputs}
 use Rattle.command_runs.proofs.Traces.{none_in, touches-none}
 use Rattle.unavoidable_cli.specs.declared.outcome.Outcome.{Outcome}
 use Rattle.unavoidable_cli.specs.FoundHeadline.{IsOutcome, IsUnavoidableOutcome, run_outcome}
-use Rattle.unavoidable_cli.specs.UnavoidableRun.{IsUnavoidableRun, unavoidable_files, unavoidable_sources}
+use Rattle.unavoidable_cli.specs.UnavoidableRun.{IsUnavoidableRun, cert_sources, unavoidable_files, unavoidable_sources}
 use Rattle.unavoidable_cli.specs.UnavoidableRuns.{IsUsageRun}
 use Rattle.unavoidable_cli.specs.Words.{UnavoidableTask, usage_text}
 
 -- ---- its files
 
+cert-inputs : (cert : Option (List ℕ)) → AreInputs (cert_sources cert)
+cert-inputs None = tt
+cert-inputs (Some name) = (refl, tt)
+
 unavoidable-inputs : (q : UnavoidableTask) → AreInputs (unavoidable_sources q)
-unavoidable-inputs q = (refl, (refl, (refl, tt)))
+unavoidable-inputs q = (refl, (refl, cert-inputs q.cert))
 
 pub unavoidable-outputs : (q : UnavoidableTask) → AreOutputs (unavoidable_files q)
 unavoidable-outputs q = (refl, none_in CertOut, tt)

@@ -1,8 +1,10 @@
--- What is found of a design, of blocks and of a certificate that the judge accepts.
-use Rattle.std.specs.Prelude.{◌≡◌, ◌≤◌, ◌<◌, ◌⊎◌, ℕ, List, [], Option, None, IsSomeAnd}
+-- What is found of a design, of blocks and of a certificate that the judge accepts. Where none is given, that of the routes alone
+-- stands for it.
+use Rattle.std.specs.Prelude.{◌≡◌, ◌≤◌, ◌<◌, ◌⊎◌, ℕ, List, [], Option, None, IfSome, IsSomeAnd}
 use Rattle.cert_text.specs.declared.cert.Cert.{Cert}
 use Rattle.cert_text.specs.Certs.{IsCertOf}
 use Rattle.cert_text.specs.CertText.{cert_text}
+use Rattle.dual_bound.specs.Bounds.{BoundsDesign}
 use Rattle.dual_bound.specs.DesignBounds.{IsBoundOrNone}
 use Rattle.dual_bound.specs.LeastOverflow.{ShowsOverflow}
 use Rattle.dual_bound.specs.Prices.{free_budget}
@@ -38,12 +40,14 @@ pub record IsPricing (d : Design) (prices : List ℕ) (edges : List PricedEdge) 
 
 -- the new certificate has a greater bound than the old one, which the prices of these edges show: it is the bound of the design
 -- at a price list, where a wirelength that is to be kept costs nothing, and but for bound, prices and the price of the wirelength
--- the two are equal. The overflow that these prices show is at most the one that is found.
+-- the two are equal. So the bound holds whatever the budget is, and without one, where it is that of the open edges alone. The
+-- overflow that these prices show is at most the one that is found.
 pub record IsBetter (d : Design) (old new : Cert) (edges : List PricedEdge) (least : ℕ) : Type 0 where
   pub prices : List ℕ
   pub is_new : new ≡ with_prices d.grid old (free_budget (most_of old.budget)) prices new.bound
   pub is_bound : IsBoundOrNone d prices new.budget new.bound
   pub above : IsAbove new.bound old.bound
+  pub any_budget : IfSome new.bound (λ f. (most : Option ℕ) → BoundsDesign d most f.num f.den)
   pub pricing : (shown : ℕ) × IsPricing d prices edges shown × (shown ≤ least)
 
 -- or it is the old one, and no edges are named

@@ -1,7 +1,8 @@
 -- What the program `unavoidable` promises: `run_unavoidable`, which its `main` calls, ensures `IsWholeRun` and nothing else.
 --
 -- Read in this order:
---   FoundHeadline   what a run has to leave: what is found where the judge accepts routes and certificate, and else the reason
+--   FoundHeadline   what a run has to leave: what is found where the judge accepts the routes, and the certificate if there is one, and
+--                   else the reason
 --   Findings        what is true of what is found
 --   UnavoidableRun  which files a run reads and makes
 --   Words           which words are a command, and what they ask for
@@ -16,7 +17,7 @@ use Rattle.command_runs.specs.declared.refusal.Refusal.TheVariants.{NoCommand}
 use Rattle.command_runs.specs.Lines.{status_of}
 use Rattle.command_runs.specs.Traces.{ReportsSince, TouchesOnly}
 use Rattle.unavoidable_cli.specs.UnavoidableRun.{IsUnavoidableRun}
-use Rattle.unavoidable_cli.specs.Words.{are_four_names, unavoidable_task_of_words, usage_text}
+use Rattle.unavoidable_cli.specs.Words.{are_names, unavoidable_task_of_words, usage_text}
 
 -- a run on words that are no command
 pub record IsUsageRun (before after : Told) (status : ℕ) : Type 0 where
@@ -31,6 +32,6 @@ pub record IsUsageRun (before after : Told) (status : ℕ) : Type 0 where
 
 -- a run of the program: on which words it began, what the desk told before and after it, and the status that it ended with
 pub record IsWholeRun {Z : Type 0} (words : List (String Z)) (before after : Told) (status : ℕ) : Type 0 where
-  pub no_command : are_four_names (map string_bytes words) ≡ false → IsUsageRun before after status
-  pub command : are_four_names (map string_bytes words) ≡ true
+  pub no_command : are_names (map string_bytes words) ≡ false → IsUsageRun before after status
+  pub command : are_names (map string_bytes words) ≡ true
       → IsUnavoidableRun (unavoidable_task_of_words (map string_bytes words)) before after status

@@ -1,4 +1,4 @@
-//! What is found of routes and a certificate that the judge accepts.
+//! What is found of routes that the judge accepts, with a certificate or without.
 
 use crate::priced_edge::PricedEdge;
 use cert_text::Cert;
@@ -8,9 +8,9 @@ use grid_graph::Design;
 #[derive(Drop)]
 pub struct Finding {
     pub design: Design,
-    /// The given certificate, or one with a greater bound, and prices that show it.
+    /// The certificate that was begun with, or one with a greater bound, and prices that show it.
     pub new: Cert,
-    /// The edges that the new certificate prices above 0, in rising order; none where it is the given one.
+    /// The edges that the new certificate prices above 0, in rising order; none where it is the one that was begun with.
     pub bottleneck: Vec<PricedEdge>,
     /// Every routing has at least so much overflow.
     pub overflow: u64,

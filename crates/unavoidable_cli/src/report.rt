@@ -8,7 +8,7 @@ ghost use Rattle.unavoidable_cli.specs.Report.{HasEdges, finding_report};
 use crate::finding::Finding;
 use crate::priced_edge::PricedEdge;
 use cert_text::put_labelled_fraction;
-use command_runs::{Said, put_fields, put_line};
+use command_runs::{Said, put_budget, put_fields, put_line};
 use gr_desk::{Desk, Pen};
 use grid_base::Piece;
 use grid_graph::Grid;
@@ -61,5 +61,6 @@ impl Said for Finding {
         put_line(pen, b"overflow", &[self.overflow]);
         put_edges(pen, b"cut", grid, self.cut.as_slice());
         put_line(pen, b"routes", &[self.routes]);
+        put_budget(pen, self.new.budget);
     }
 }

@@ -8,12 +8,13 @@ ghost use Rattle.unavoidable_cli.specs.UnavoidableRun.{IsUnavoidableRun, unavoid
 ghost use Rattle.unavoidable_cli.specs.Words.{unavoidable_task_of};
 
 use crate::finding::Finding;
+use crate::given::read_given;
 use crate::names::Names;
 use crate::outcome::{Outcome, outcome_of};
 use command_runs::{Refusal, make_cert, refuse, say, say_unwritten};
 use gr_desk::{Desk, Failed};
 use grid_base::NoMemory;
-use judge_cli::{Answer, read_certified};
+use judge_cli::Answer;
 use std::alloc::Global;
 use std::thread::Threads;
 
@@ -26,7 +27,7 @@ pub(crate) fn show<R: Threads + Sync, D: Desk>(
 ) -> u8
     ensures { IsUnavoidableRun (unavoidable_task_of names.now) (D.told desk.old) (D.told desk.new) result }
 {
-    match read_certified(alloc, desk, names.input, names.routes, names.certificate) {
+    match read_given(alloc, desk, names) {
         Ok(read) => match outcome_of(rt, alloc, read) {
             Ok(Outcome::Found(finding)) => finish(desk, names, &finding),
             Ok(Outcome::Objected(reason)) => say(desk, &Answer::No(reason), true),

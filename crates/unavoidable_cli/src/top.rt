@@ -15,7 +15,7 @@ use std::thread::Threads;
 /// | Status | Comes |
 /// |---|---|
 /// | 0 | the new certificate is written, and what was found is reported |
-/// | 1 | routes and certificate are not accepted, and the report says why |
+/// | 1 | the routes, or routes and certificate, are not accepted, and the report says why |
 /// | 2 | the words are no command |
 /// | 3 | the input is no design |
 /// | 4 | the routes are no route text, or the certificate is none |

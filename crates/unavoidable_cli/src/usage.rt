@@ -23,7 +23,7 @@ impl Said for Usage {
     ghost text = { λ _. usage_text };
 
     fn put<D: Desk>(&self, pen: &mut Pen<'_, D>) {
-        pen.put(b"refused 2\nusage: unavoidable IN ROUTES CERT NEW\n");
+        pen.put(b"refused 2\nusage: unavoidable IN ROUTES [CERT] NEW\n");
     }
 }
 

@@ -4,7 +4,7 @@ ghost use Rattle.std.specs.Prelude.{◌≡◌, ◌&&◌, false, map, true, strin
 ghost use Rattle.std.specs.List.{list_all, list_any};
 ghost use Rattle.std.specs.Str.{bytes_eq};
 ghost use Rattle.command_words.specs.CommandLine as command_line;
-ghost use Rattle.unavoidable_cli.specs.Words.{are_four_names, unavoidable_task_of, unavoidable_task_of_words};
+ghost use Rattle.unavoidable_cli.specs.Words.{are_names, unavoidable_task_of, unavoidable_task_of_words};
 
 use crate::names::Names;
 
@@ -43,18 +43,30 @@ fn are_differing_names(words: &[String]) -> bool
     true
 }
 
-/// The files that the words name; `None` where they are no command. A command is four names of files, no two of them equal.
+/// The files that the words name; `None` where they are no command. A command is three or four names of files, no two of them
+/// equal.
 pub(crate) fn names_of(words: &[String]) -> Option<Names<'_>>
-    ensures { MatchOption result (are_four_names (map string_bytes words.now) ≡ false)
-        (λ names. (are_four_names (map string_bytes words.now) ≡ true) × (unavoidable_task_of names ≡ unavoidable_task_of_words (map string_bytes words.now))) }
+    ensures { MatchOption result (are_names (map string_bytes words.now) ≡ false)
+        (λ names. (are_names (map string_bytes words.now) ≡ true) × (unavoidable_task_of names ≡ unavoidable_task_of_words (map string_bytes words.now))) }
 {
-    if words.len() != 4 || !are_differing_names(words) {
+    if !are_differing_names(words) {
         return None;
     }
-    Some(Names {
-        input: words[0].as_str(),
-        routes: words[1].as_str(),
-        certificate: words[2].as_str(),
-        new_certificate: words[3].as_str(),
-    })
+    if words.len() == 3 {
+        return Some(Names {
+            input: words[0].as_str(),
+            routes: words[1].as_str(),
+            certificate: None,
+            new_certificate: words[2].as_str(),
+        });
+    }
+    if words.len() == 4 {
+        return Some(Names {
+            input: words[0].as_str(),
+            routes: words[1].as_str(),
+            certificate: Some(words[2].as_str()),
+            new_certificate: words[3].as_str(),
+        });
+    }
+    None
 }

@@ -14,6 +14,17 @@ use unavoidable_cli::run_unavoidable;
 /// Where the words of a run belong, in the order of work.
 const PORTS: [Port; 4] = [Port::In, Port::RoutesIn, Port::CertIn, Port::CertOut];
 
+/// The same where there are three of them.
+const PORTS_ALONE: [Port; 3] = [Port::In, Port::RoutesIn, Port::CertOut];
+
+/// Where the words of a line belong.
+fn ports_of(line: &str) -> &'static [Port] {
+    match line.split(' ').count() {
+        3 => &PORTS_ALONE,
+        _ => &PORTS,
+    }
+}
+
 /// The first so many words, each with its port.
 fn names_of(
     alloc: Global,
@@ -21,7 +32,7 @@ fn names_of(
     count: usize,
 ) -> Result<Vec<(Port, &'static str)>, Fail> {
     let mut names = Vec::new(alloc);
-    for (port, word) in PORTS.iter().zip(line.split(' ')).take(count) {
+    for (port, word) in ports_of(line).iter().zip(line.split(' ')).take(count) {
         names.push((*port, word))?;
     }
     if names.len() != count {

@@ -17,6 +17,7 @@ returns-clause-better c =
       is_new = ap (λ (b : Option Budget). whole b c.in_ok-prices.prices) c.free_budget.ensures ∙ ap (λ (ps : List ℕ). whole (free_budget (most_of cert.budget)) ps) c.in_ok-prices.ensures;
       is_bound = subst (λ (b : Option Budget). IsBoundOrNone d list.prices.now b list.shown.bound) (sym c.free_budget.ensures) (c.requires.list.bound (most_of cert.budget));
       above = c.requires.above;
+      any_budget = c.requires.list.bounds;
       pricing = (
         list.shown.overflow,
         record { are_prices = c.requires.list.are_prices; edges_are = c.in_ok-edges.ensures; shows = c.requires.list.overflow },
