@@ -462,6 +462,8 @@ cp "$examples"/*.routes "$examples"/*.cert .
 program=$room/unavoidable
 expect 'a block with too few exits' 0 "$(cat "$here/few_exits.findings")" few_exits.gr few_exits.routes few_exits.cert new.cert
 made 'the certificate of its exits' new.cert "$examples/few_exits_cut.cert"
+expect 'the block, by its routes alone' 0 "$(cat "$here/few_exits.findings")" few_exits.gr few_exits.routes new.cert
+made 'the certificate of its exits, by the routes alone' new.cert "$examples/few_exits_cut.cert"
 expect 'a net with room' 0 'bound 1/2
 bottleneck 0
 overflow 0
@@ -479,7 +481,7 @@ cut 2
 routes 47992' many.gr "$room/many.routes" many.cert new.cert
 made 'their certificate' new.cert many.cert
 # shown NAME DESIGN NETS WIRELENGTH OVERFLOW PEAK PRICES BOUND EDGES: of a.routes, whose certificate claims no bound, the edges are
-# shown to have this bound, and to be where all of the overflow is
+# shown to have this bound, and to be where all of the overflow is; so they are where no certificate is given
 shown() {
     {
         printf '%s\n' 'grouter certificate 1' "nets $3" 'forced 0' "overflow $5" "wirelength $4" "peak $6" 'bound 0/1' "prices $7"
@@ -487,14 +489,18 @@ shown() {
     } >a.cert
     priced=$(echo "$9" | sed 's/$/ 32768/')
     count=$(echo "$9" | grep -c .)
-    expect "$1" 0 "bound $8
+    found="bound $8
 bottleneck $count
 $priced
 overflow $5
 cut $count
 $priced
-routes $5" "$2" a.routes a.cert new.cert
-    rm "$2" a.routes a.cert new.cert
+routes $5"
+    expect "$1" 0 "$found" "$2" a.routes a.cert new.cert
+    mv new.cert a.cert
+    expect "$1, by the routes alone" 0 "$found" "$2" a.routes new.cert
+    made "$1, by the routes alone: the certificate" new.cert a.cert
+    rm "$2" a.routes a.cert
 }
 # across CAPACITY NETS: nets from left to right over two columns of 24 tiles, each along its row, and as many to a row as can be
 across() {
@@ -546,12 +552,14 @@ peak 3/2
 bound 4/3' judge few_exits.gr few_exits.routes few_exits_cut.cert
 program=$room/unavoidable
 expect 'an objection' 1 'no 47 0' detour.gr cut_off.routes detour.cert new.cert
+expect 'an objection to routes alone' 1 'no 47 0' detour.gr cut_off.routes new.cert
 expect 'a bound that is not shown' 1 'no 52 1/2 41633/378056' detour.gr detour.routes overstated.cert new.cert
 usage='refused 2
-usage: unavoidable IN ROUTES CERT NEW'
+usage: unavoidable IN ROUTES [CERT] NEW'
 expect 'no words to unavoidable' 2 "$usage"
-expect 'no name for the new certificate' 2 "$usage" few_exits.gr few_exits.routes few_exits.cert
+expect 'no name for the new certificate' 2 "$usage" few_exits.gr few_exits.routes
 expect 'a new certificate in the place of the given one' 2 "$usage" few_exits.gr few_exits.routes few_exits.cert few_exits.cert
+expect 'a new certificate in the place of the routes' 2 "$usage" few_exits.gr few_exits.routes few_exits.routes
 expect 'an option of no program' 2 "$usage" few_exits.gr few_exits.routes few_exits.cert new.cert --rounds 3
 expect 'a name that is an option' 2 "$usage" few_exits.gr few_exits.routes few_exits.cert --help
 expect 'words that are no text' 2 "$usage" few_exits.gr few_exits.routes few_exits.cert "$(printf '\377.cert')"

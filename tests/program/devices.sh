@@ -145,6 +145,7 @@ climb|grouter|climb wide.gr wide.routes wide.cert OUT --turns 1
 guide|grouter|guide many.gr many.routes OUT
 reroute|reroute|many.gr many.routes OUT --rounds 0 --passes 0
 unavoidable|unavoidable|wide.gr wide.routes wide.cert OUT
+unavoidable, by routes alone|unavoidable|wide.gr wide.routes OUT
 congestion_map|congestion_map|wide.gr wide.routes OUT'
 for design in many wide; do
     "$room/grouter" route $design.gr $design.routes $design.cert --phases 1 --rounds 0 >/dev/null

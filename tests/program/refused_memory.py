@@ -66,6 +66,7 @@ LINES = [
     ("grouter climb few_exits.gr few_exits.routes few_exits.cert out.cert", ["out.cert"]),
     ("grouter guide detour.gr detour.routes out.guide", ["out.guide"]),
     ("unavoidable few_exits.gr few_exits.routes few_exits.cert out.cert", ["out.cert"]),
+    ("unavoidable few_exits.gr few_exits.routes out.cert", ["out.cert"]),
     ("reroute few_exits.gr out.routes", ["out.routes"]),
     ("reroute few_exits.gr few_exits.routes out.routes --workers 4", ["out.routes"]),
     ("congestion_map few_exits.gr few_exits.routes out.svg --cut few_exits_cut.cert", ["out.svg"]),
@@ -80,6 +81,7 @@ LINES = [
     ("grouter route missing.gr out.routes out.cert", []),
     ("grouter eco detour.gr detour.routes wrong.edits out.routes", []),
     ("unavoidable detour.gr detour.routes overstated.cert out.cert", []),
+    ("unavoidable detour.gr cut_off.routes out.cert", []),
     ("reroute detour.gr cut_off.routes out.routes", []),
     ("congestion_map detour.gr cut_off.routes out.csv", []),
 ]

@@ -127,8 +127,7 @@ bound 0/1;bottleneck 0;overflow 0;cut 0;routes 0;
 grouter certificate 1;nets 0;forced 0;overflow 0;wirelength 0;peak 0/1;bound 0/1;prices 2;1;1;";
 
 /// The same of routes alone. Where no list shows a bound above 0, the new certificate has equal prices of 0.
-const FOUND_ALONE: &str =
-    "# Every mixture has a load of 6 on the cut's two edges with capacity 4.
+const FOUND_ALONE: &str = "# Every mixture has a load of 6 on the cut's two edges with capacity 4.
 3 a.gr a.routes new.cert
 CUT|a 0;(5,5,1)-(15,5,1);!;b 1;(5,5,1)-(15,5,1);!;c 2;(5,15,1)-(15,15,1);!;|
 0
