@@ -530,6 +530,29 @@ row 0 2 1 '0 0 10 10' "$(awk 'BEGIN { print 5; for (k = 0; k < 5; k++) printf "n
 awk 'BEGIN { for (k = 0; k < 5; k++) print "n", k, k < 3 ? "(5,5,1)-(15,5,1) !" : "(5,5,1)-(5,5,2) (5,5,2)-(15,5,2) (15,5,1)-(15,5,2) !" }' >a.routes
 shown 'a tile edge that is open on two layers' layers.gr 5 9 6 3/1 2 5/2 '(5,5,1)-(15,5,1)
 (5,5,2)-(15,5,2)'
+# better routes, what no routing on the nets' grounds does better, and both judged
+program=$room/reroute
+expect 'the block routed better' 0 'nets 8
+forced 0
+routed 8
+rerouted 0
+rounds 53
+overflow 4
+wirelength 49
+peak 3/2
+given 0 0' few_exits.gr better.routes
+program=$room/unavoidable
+expect 'what none does better' 0 "$(cat "$here/few_exits.findings")" few_exits.gr better.routes better.cert
+program=$room/grouter
+expect 'the better routes and their certificate' 0 'yes
+nets 8
+forced 0
+beyond 0
+overflow 4
+wirelength 49
+peak 3/2
+bound 4/3' judge few_exits.gr better.routes better.cert
+rm better.routes better.cert
 program=$room/grouter
 measured='nets 12000
 forced 0

@@ -112,9 +112,9 @@ routes_accepted d over blocks cert routes is =
 -- ---- its limits
 
 bound_small : (g : Grid) (budget : Option Budget) (bound : Option Fraction) → budget ≡ None → IsBoundWithoutPrices g bound → AreFractionsWithin (version_of budget) bound
-bound_small g (Some b) bound no is = absurd (cc no)
-bound_small g None None no is = λ h none. absurd (cc none)
-bound_small g None (Some f) no is = λ h same.
+bound_small g (Some b) bound none is = absurd (cc none)
+bound_small g None None none is = λ h some. absurd (cc some)
+bound_small g None (Some f) none is = λ h same.
     let zero_of : f.num * 1 ≡ 0 * f.den = omega (arith, is.1) in
     let least : f.den ≤ 1 = least_denominator 0 1 f (omega arith) zero_of in
     subst (λ (x : Fraction). x.den ≤ 2 ^ 57) (same_Some f h same) (omega (arith, least))
@@ -147,7 +147,7 @@ routes_within d over blocks cert grounds is =
         (size_of d.grid).within.vertex_limit,
       );
       prices = subst (λ (prices : List ℕ). All (λ price. price ≤ max_stated_price) prices) (sym is.equal_prices)
-          (λ k p below. omega (arith, get_or-replicate (open_count d.grid) k 0 p (omega (arith, below, length-replicate (open_count d.grid) 0))));
+          (λ k p below. omega (arith, get_or-replicate {A = ℕ} (open_count d.grid) k 0 p (omega (arith, below, length-replicate {A = ℕ} (open_count d.grid) 0))));
     }
 
 -- ---- its bound
