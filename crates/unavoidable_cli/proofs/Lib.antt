@@ -3,5 +3,4 @@ pub mod FindingParts
 pub mod NewCerts
 pub mod TwoLists
 pub mod WholeRuns
-pub mod GivenCerts
 pub mod ZeroBounds

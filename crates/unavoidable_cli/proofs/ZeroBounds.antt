@@ -1,5 +1,5 @@
 -- Where routes have a peak there is an open edge, so 0 bounds a design.
-use Rattle.std.proofs.Common.{◌≡◌, ◌≢◌, ◌<◌, ℕ, Some, None, Option, true, ltb, refl, sym, subst, ⊎_elim, arith}
+use Rattle.std.proofs.Common.{◌≡◌, ◌≢◌, ◌*◌, ◌<◌, ℕ, Some, None, Option, true, ltb, refl, sym, subst, ⊎_elim, arith}
 use Rattle.std.proofs.lemmas.Bool.{cases_eq, lt-ltb}
 use Rattle.dual_bound.proofs.Closed.{at_edge, at_wirelength}
 use Rattle.fractions.specs.declared.fraction.Fraction.{Fraction}

@@ -1,10 +1,9 @@
 -- The promise of a run, where its words are a command.
-use Rattle.std.specs.Prelude.{ℕ, List, [], ◌∷◌, ◌++◌, Option, Some, None}
-use Rattle.gr_desk.specs.declared.port.Port.TheVariants.{CertIn, CertOut}
+use Rattle.std.specs.Prelude.{ℕ, List, [], ◌∷◌, Option, Some, None}
+use Rattle.gr_desk.specs.declared.port.Port.TheVariants.{In, RoutesIn, CertIn, CertOut}
 use Rattle.gr_desk.specs.Told.{Told}
 use Rattle.command_runs.specs.CommandRun.{IsCommandRun}
 use Rattle.command_runs.specs.Sources.{Source}
-use Rattle.judge_cli.specs.MeasureRun.{measure_sources}
 use Rattle.unavoidable_cli.specs.FoundHeadline.{IsUnavoidableOutcome}
 use Rattle.unavoidable_cli.specs.Words.{UnavoidableTask}
 
@@ -15,7 +14,7 @@ cert_sources (Some name) = record { port = CertIn; name = name } ∷ []
 
 -- what it reads, in the order of `measure` and of `judge`: the design, the routes, and then the certificate
 abbrev pub unavoidable_sources : UnavoidableTask → List Source
-unavoidable_sources q = measure_sources (record { input = q.input; routes = q.routes }) ++ cert_sources q.cert
+unavoidable_sources q = record { port = In; name = q.input } ∷ record { port = RoutesIn; name = q.routes } ∷ cert_sources q.cert
 
 -- the file that it makes: the new certificate
 abbrev pub unavoidable_files : UnavoidableTask → List Source

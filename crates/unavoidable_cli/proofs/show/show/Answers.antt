@@ -17,7 +17,7 @@ finish-requires g c =
     let f = c.in-Ok-Found.finding in
     let is : IsOutcomeOf r.routed.grounded.design r.routed.grounded.grounds.items r.routed.blocks r.cert (Found f) =
     rw c.in-Ok-Found.field-0-is at c.in-Ok-Found.ensures in
-    finding_edges r.routed.grounded.grounds.items r.routed.blocks is.1.0 f is.1.1.1
+    finding_edges r.routed.grounded.grounds.items r.routed.blocks is.1.0 f is.1.2
 
 pub returns-in-Ok-Found : goal.returns-in-Ok-Found
 returns-in-Ok-Found g c =
