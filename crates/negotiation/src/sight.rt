@@ -2,7 +2,7 @@
 
 use grid_base::NoMemory;
 use grid_graph::{Design, Ground};
-use net_search::Field;
+use net_search::{Field, Stage};
 use tree_growth::Growth;
 use tree_set::Tree;
 
@@ -22,13 +22,26 @@ impl Sight<'_> {
     ghost use Rattle.std.specs.Prelude.{◌<◌, IfOk, length};
     ghost use Rattle.negotiation.specs.Searches.{IsFoundFor, IsSight};
 
-    /// A new set for the net at this place, where one is found.
+    /// A new set for the net at this place, where one is found. The set that the net has is none after the start: who gets it would
+    /// take away and put in the same.
     pub fn search(&self, net: u32, growth: &mut Growth) -> Result<Option<Tree>, NoMemory>
         requires sight { IsSight self.now }
         requires net { net < length self.now.design.now.nets }
         ensures { IfOk result (IsFoundFor self.now.design.now net) }
     {
-        let net = net as usize;
+        let found = self.grown(net as usize, growth)?;
+        if self.field.stage != Stage::Start && is_set(&found, &self.trees[net as usize]) {
+            return Ok(None);
+        }
+        Ok(found)
+    }
+
+    /// A set for the net at this place, where one is found.
+    fn grown(&self, net: usize, growth: &mut Growth) -> Result<Option<Tree>, NoMemory>
+        requires sight { IsSight self.now }
+        requires net { net < length self.now.design.now.nets }
+        ensures { IfOk result (IsFoundFor self.now.design.now net) }
+    {
         growth.tree(
             &self.design.grid,
             self.field,
@@ -38,5 +51,13 @@ impl Sight<'_> {
             self.turn,
             self.margins[net],
         )
+    }
+}
+
+/// Whether what was found is this set.
+fn is_set(found: &Option<Tree>, tree: &Tree) -> bool {
+    match found {
+        Some(new) => new.pieces() == tree.pieces(),
+        None => false,
     }
 }

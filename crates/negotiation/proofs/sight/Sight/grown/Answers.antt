@@ -4,7 +4,7 @@ use Rattle.grid_graph.specs.declared.ground.Ground.{Ground}
 use Rattle.grid_graph.specs.declared.net_spec.NetSpec.{NetSpec}
 use Rattle.grid_graph.specs.Grounds.{IsGround}
 use Rattle.negotiation.proofs.Found.{AllZip-long, At-read_of, found_route}
-use Rattle.negotiation.proofs.sight.Sight.search.Goals as goal
+use Rattle.negotiation.proofs.sight.Sight.grown.Goals as goal
 
 pub bounds-self-net : goal.bounds-self-net
 bounds-self-net c =
