@@ -6,6 +6,7 @@ ghost use Rattle.negotiation.specs.Searches.{ArePlaces};
 ghost use Rattle.negotiation.specs.Tools.{AreToolsFor};
 
 use crate::due::Due;
+use crate::overfull::holds_overfull;
 use crate::tools::Tools;
 use grid_base::NoMemory;
 use grid_graph::Design;
@@ -52,7 +53,7 @@ pub(crate) fn overfull_nets(
 {
     let mut nets = Vec::new(alloc);
     for net in 0..design.nets.list().len() {
-        let is_overfull = state.holds_overfull(design, net);
+        let is_overfull = holds_overfull(design, state, net);
         push_if(&mut nets, net as u32, is_overfull)?;
     }
     Ok(nets)

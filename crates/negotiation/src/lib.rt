@@ -27,6 +27,7 @@ mod extents;
 mod lowest_layers;
 mod negotiating;
 mod order;
+mod overfull;
 mod rerouted;
 mod rerouting;
 mod round_prices;

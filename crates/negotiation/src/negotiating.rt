@@ -12,6 +12,7 @@ ghost use Rattle.negotiation.specs.Tools.{AreToolsFor};
 use crate::batches::{next_batch, overfull_nets};
 use crate::drawn::shuffle;
 use crate::due::Due;
+use crate::overfull::holds_overfull;
 use crate::tools::Tools;
 use grid_base::NoMemory;
 use grid_graph::{Design, Ground};
@@ -170,7 +171,7 @@ fn widen_if_overfull(design: &Design, state: &RoutingState, tools: &mut Tools, n
     requires net { net < length design.now.nets }
     ensures tools { AreToolsFor design.now tools.new }
 {
-    if state.holds_overfull(design, net) {
+    if holds_overfull(design, state, net) {
         tools.widen(design, net);
     }
 }

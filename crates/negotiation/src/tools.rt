@@ -5,6 +5,7 @@ ghost use Rattle.std.specs.Prelude.{◌≡◌, IfOk, length};
 use crate::due::Due;
 use crate::extent::Extent;
 use crate::extents::extents_of;
+use crate::overfull::holds_overfull;
 use crate::round_prices::RoundPrices;
 use crate::searching::search_batch;
 use crate::sight::Sight;
@@ -147,7 +148,7 @@ impl Tools {
         requires net { net < length design.now.nets }
     {
         due == Due::Improvable && state.trees()[net].pieces().len() as u64 > self.extents[net].least
-            || state.holds_overfull(design, net)
+            || holds_overfull(design, state, net)
     }
 }
 
