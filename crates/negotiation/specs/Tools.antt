@@ -4,10 +4,9 @@ use Rattle.grid_graph.specs.declared.design.Design.{Design}
 use Rattle.grid_graph.specs.Grids.{edge_numbers}
 use Rattle.negotiation.specs.declared.tools.Tools.{Tools}
 
--- there is a worker, a reach and a margin for each net, a price for each edge number, and room for a net in a batch
+-- there is a worker, a reach and a margin for each net, and a price for each edge number
 pub record AreToolsFor (d : Design) (t : Tools) : Type 0 where
   pub workers : 0 < length t.growths.items
   pub extents : length t.extents.items ≡ length d.nets
   pub margins : length t.margins.items ≡ length d.nets
   pub prices : length t.prices.prices.items ≡ edge_numbers d.grid
-  pub batch : 0 < t.batch_size

@@ -5,6 +5,7 @@ ghost use Rattle.routing_state.specs.States.{IsStateOf};
 ghost use Rattle.negotiation.specs.Searches.{ArePlaces};
 ghost use Rattle.negotiation.specs.Tools.{AreToolsFor};
 
+use crate::batch_sizes::batch_size;
 use crate::due::Due;
 use crate::overfull::holds_overfull;
 use crate::tools::Tools;
@@ -30,11 +31,12 @@ pub(crate) fn next_batch(
     ensures batch { IfOk result (λ _. ArePlaces design.now batch.new.items) }
     ensures on { IfOk result (λ at. (from < at) × (at ≤ length order.now)) }
 {
+    let size = batch_size(design.nets.list().len(), order.len(), due);
     batch.clear();
     for at in from..order.len() {
         let is_due = tools.is_due(design, state, order[at] as usize, due);
         push_if(batch, order[at], is_due)?;
-        if batch.len() >= tools.batch_size() {
+        if batch.len() >= size {
             return Ok(at + 1);
         }
     }

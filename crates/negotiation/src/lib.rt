@@ -18,6 +18,7 @@
 //! they find stands in the order of the nets, so the outcome depends on no number of workers.
 #![tactic(auto)]
 
+mod batch_sizes;
 mod batches;
 mod descending;
 mod drawn;

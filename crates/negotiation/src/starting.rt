@@ -10,6 +10,7 @@ ghost use Rattle.negotiation.specs.Searches.{AreFound, ArePlaces, IsFoundFor};
 ghost use Rattle.negotiation.specs.Steps.{IsRenewed};
 ghost use Rattle.negotiation.specs.Tools.{AreToolsFor};
 
+use crate::batch_sizes::pass_batch;
 use crate::order::short_first;
 use crate::spanning::spanning_set;
 use crate::tools::Tools;
@@ -39,9 +40,10 @@ pub(crate) fn start<R: Threads + Sync>(
     ensures tools { IfOk result (λ _. AreToolsFor design.now tools.new) }
 {
     let order = short_first(alloc, tools.extents(), missing)?;
+    let size = pass_batch(design.nets.list().len());
     let mut at = 0;
     'batches: while at < order.len() {
-        let end = at.saturating_add(tools.batch_size()).min(order.len());
+        let end = at.saturating_add(size).min(order.len());
         let batch = &order[at..end];
         let found = tools.search(rt, alloc, design, grounds, state, Stage::Start, batch)?;
         put_routes(alloc, design, grounds, state, batch, found)?;

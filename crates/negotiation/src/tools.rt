@@ -22,23 +22,15 @@ use tree_set::Tree;
 const FIRST_MARGIN: u32 = 6;
 /// The margin of a net grows up to this.
 const MOST_MARGIN: u32 = 30;
-/// A batch has one net for so many of the design. With few nets in a batch the workers wait for one another, with many they
-/// don't see that nets of the batch get into each other's way.
-const NETS_PER_PLACE: usize = 2500;
-/// The fewest nets of a batch.
-const LEAST_BATCH: usize = 4;
-/// The most nets of a batch.
-const MOST_BATCH: usize = 32;
 
-/// The tables of each worker, how far each net reaches and may look beyond its box, the prices, how many nets are in a batch,
-/// and whose turn it is among a net's terminals to be the first.
+/// The tables of each worker, how far each net reaches and may look beyond its box, the prices, and whose turn it is among a net's
+/// terminals to be the first.
 #[derive(Drop)]
 pub(crate) struct Tools {
     growths: Vec<Growth>,
     extents: Vec<Extent>,
     margins: Vec<u32>,
     prices: RoundPrices,
-    batch_size: usize,
     turn: usize,
 }
 
@@ -61,7 +53,6 @@ impl Tools {
             extents: extents_of(alloc, design)?,
             margins: vec![in alloc; FIRST_MARGIN; nets]?,
             prices: RoundPrices::none(alloc, &design.grid)?,
-            batch_size: (nets / NETS_PER_PLACE).max(LEAST_BATCH).min(MOST_BATCH),
             turn: 0,
         })
     }
@@ -71,13 +62,6 @@ impl Tools {
         ensures { result.now ≡ self.now.extents.items }
     {
         self.extents.as_slice()
-    }
-
-    /// How many nets are in a batch.
-    pub fn batch_size(&self) -> usize
-        ensures { result ≡ self.now.batch_size }
-    {
-        self.batch_size
     }
 
     /// New sets for these nets, in their order, where they are found: all are searched for beside the sets that now are.
