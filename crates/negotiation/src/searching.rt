@@ -11,8 +11,8 @@ use std::thread::{Threads, join};
 use tree_growth::Growth;
 use tree_set::Tree;
 
-/// A worker of its own is worth its start for so many nets.
-const LEAST_RUN: usize = 4;
+/// A worker of its own is worth its start for so much work.
+const LEAST_RUN: u64 = 100;
 
 /// New sets for these nets, in their order, by one worker. All searches see the same.
 fn search_in_turn(
@@ -32,8 +32,8 @@ fn search_in_turn(
     Ok(found)
 }
 
-/// The same by as many workers as there are growths, each of which searches for some nets that follow one another. What is found
-/// doesn't depend on how many there are.
+/// The same by as many workers as there are growths, each of which searches for some nets that follow one another and are about as
+/// much work as those of the others. What is found doesn't depend on how many there are.
 pub(crate) fn search_batch<R: Threads + Sync>(
     rt: &R,
     alloc: Global,
@@ -46,11 +46,13 @@ pub(crate) fn search_batch<R: Threads + Sync>(
     requires workers { 0 < length growths.old }
     ensures found { IfOk result (λ found. AreFound sight.entry.design.now nets.now found.items) }
 {
-    if growths.len() == 1 || nets.len() < 2 * LEAST_RUN {
+    let work = sight.work_on(nets);
+    if growths.len() == 1 || nets.len() == 1 || work < 2 * LEAST_RUN {
         return search_in_turn(alloc, sight, nets, &mut growths[0]);
     }
     let (few, more) = growths.split_at_mut(growths.len() / 2);
-    let (front, back) = nets.split_at(nets.len() / 2);
+    let half = sight.first_with(nets, work / 2);
+    let (front, back) = nets.split_at(half);
     let (left, right) = join(
         rt,
         move || -> Result<Vec<Option<Tree>>, NoMemory>

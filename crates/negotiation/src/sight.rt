@@ -18,9 +18,12 @@ pub(crate) struct Sight<'a> {
     pub turn: usize,
 }
 
+/// What the work on a net is beside that on the pieces of its set, by pieces.
+const WORK_ON_NET: u64 = 8;
+
 impl Sight<'_> {
-    ghost use Rattle.std.specs.Prelude.{◌<◌, IfOk, length};
-    ghost use Rattle.negotiation.specs.Searches.{IsFoundFor, IsSight};
+    ghost use Rattle.std.specs.Prelude.{◌<◌, ◌≤◌, IfOk, length};
+    ghost use Rattle.negotiation.specs.Searches.{ArePlaces, IsFoundFor, IsSight};
 
     /// A new set for the net at this place, where one is found. The set that the net has is none after the start: who gets it would
     /// take away and put in the same.
@@ -34,6 +37,42 @@ impl Sight<'_> {
             return Ok(None);
         }
         Ok(found)
+    }
+
+    /// How much work it is to search for these nets: a guess from the sets that they have.
+    pub fn work_on(&self, nets: &[u32]) -> u64
+        requires sight { IsSight self.now }
+        requires nets { ArePlaces self.now.design.now nets.now }
+    {
+        let mut work: u64 = 0;
+        for net in nets {
+            work = work.saturating_add(self.work_on_net(*net));
+        }
+        work
+    }
+
+    /// How many of these nets, from the first on, are so much work together, or a little more.
+    pub fn first_with(&self, nets: &[u32], work: u64) -> usize
+        requires sight { IsSight self.now }
+        requires nets { ArePlaces self.now.design.now nets.now }
+        ensures { result ≤ length nets.now }
+    {
+        let mut done: u64 = 0;
+        for at in 0..nets.len() {
+            if done >= work {
+                return at;
+            }
+            done = done.saturating_add(self.work_on_net(nets[at]));
+        }
+        nets.len()
+    }
+
+    /// How much work it is to search for a net.
+    fn work_on_net(&self, net: u32) -> u64
+        requires sight { IsSight self.now }
+        requires net { net < length self.now.design.now.nets }
+    {
+        (self.trees[net as usize].pieces().len() as u64).saturating_add(WORK_ON_NET)
     }
 
     /// A set for the net at this place, where one is found.

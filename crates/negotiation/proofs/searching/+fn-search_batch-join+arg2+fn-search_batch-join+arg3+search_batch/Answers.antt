@@ -1,4 +1,4 @@
-use Rattle.std.proofs.Common.{◌≡◌, ◌++◌, ◌/◌, ℕ, List, length, subst}
+use Rattle.std.proofs.Common.{◌≡◌, ◌++◌, ℕ, List, subst}
 use Rattle.std.proofs.lemmas.List.{take-append-drop}
 use Rattle.negotiation.specs.Searches.{AreFound, IsFoundFor}
 use Rattle.negotiation.proofs.Found.{AllZip-behind}
@@ -11,7 +11,7 @@ returns g t c =
     let front : List ℕ = c.split_at.result.0.now in
     let back : List ℕ = c.split_at.result.1.now in
     let whole : front ++ back ≡ nets =
-    rw (c.split_at.ensures.front, c.split_at.ensures.back) (take-append-drop (length nets / 2) nets) in
+    rw (c.split_at.ensures.front, c.split_at.ensures.back) (take-append-drop c.first_with-half.result nets) in
     let left = rw c.in_ok-found.was at c.join-left.ensures.first in
     let right = rw c.in_ok-behind.was at c.join-left.ensures.second in
     record {
