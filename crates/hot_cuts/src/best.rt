@@ -1,7 +1,7 @@
 //! The best prices so far.
 
-use crate::contraction::Link;
 use crate::estimate::Estimate;
+use crate::part::Link;
 use grid_base::NoMemory;
 use std::alloc::Global;
 
@@ -20,6 +20,14 @@ struct Offer {
 }
 
 impl Offer {
+    /// No prices.
+    fn none(alloc: Global) -> Offer {
+        Offer {
+            prices: Vec::new(alloc),
+            estimate: Estimate::NONE,
+        }
+    }
+
     /// Prices of links.
     fn of(
         alloc: Global,
@@ -39,21 +47,30 @@ impl Offer {
             estimate,
         })
     }
+
+    /// Adds the prices of another part.
+    fn add(&mut self, other: &Offer) -> Result<(), NoMemory> {
+        self.prices.extend_from_slice(other.prices.as_slice())?;
+        self.estimate.add(other.estimate);
+        Ok(())
+    }
 }
 
 /// The best prices so far: those of the greatest bound, and those that prove the most overflow.
 #[derive(Drop)]
 pub(crate) struct Best {
-    bound: Option<Offer>,
-    overflow: Option<Offer>,
+    bound: Offer,
+    overflow: Offer,
 }
 
 impl Best {
     /// There are none so far.
-    pub const NONE: Best = Best {
-        bound: None,
-        overflow: None,
-    };
+    pub fn none(alloc: Global) -> Best {
+        Best {
+            bound: Offer::none(alloc),
+            overflow: Offer::none(alloc),
+        }
+    }
 
     /// Takes prices of links where they are better.
     pub fn take(
@@ -63,38 +80,43 @@ impl Best {
         prices: &[u64],
         estimate: Estimate,
     ) -> Result<(), NoMemory> {
-        if estimate.has_greater_bound(&estimate_of(&self.bound)) {
-            self.bound = Some(Offer::of(alloc, links, prices, estimate)?);
+        if estimate.has_greater_bound(self.bound.estimate) {
+            self.bound = Offer::of(alloc, links, prices, estimate)?;
         }
-        if estimate.proves_more_overflow(&estimate_of(&self.overflow)) {
-            self.overflow = Some(Offer::of(alloc, links, prices, estimate)?);
+        if estimate.proves_more_overflow(self.overflow.estimate) {
+            self.overflow = Offer::of(alloc, links, prices, estimate)?;
         }
         Ok(())
     }
 
+    /// Takes the best prices of another part: the overflow that both prove adds up, and of the bounds the greater one counts.
+    pub fn join(&mut self, part: Best) -> Result<(), NoMemory> {
+        let Best { bound, overflow } = part;
+        self.overflow.add(&overflow)?;
+        if bound.estimate.has_greater_bound(self.bound.estimate) {
+            self.bound = bound;
+        }
+        Ok(())
+    }
+
+    /// Takes the best prices of another graph where they are better.
+    pub fn improve(&mut self, other: Best) {
+        let Best { bound, overflow } = other;
+        if bound.estimate.has_greater_bound(self.bound.estimate) {
+            self.bound = bound;
+        }
+        if overflow.estimate.proves_more_overflow(self.overflow.estimate) {
+            self.overflow = overflow;
+        }
+    }
+
     /// The prices of the greatest bound.
     pub fn for_bound(&self) -> &[TilePrice] {
-        prices_of(&self.bound)
+        self.bound.prices.as_slice()
     }
 
     /// The prices that prove the most overflow.
     pub fn for_overflow(&self) -> &[TilePrice] {
-        prices_of(&self.overflow)
-    }
-}
-
-/// The prices of an offer; no prices where there is none.
-fn prices_of(offer: &Option<Offer>) -> &[TilePrice] {
-    match offer {
-        Some(offer) => offer.prices.as_slice(),
-        None => &[],
-    }
-}
-
-/// What an offer seems to prove: nothing where there is none.
-fn estimate_of(offer: &Option<Offer>) -> Estimate {
-    match offer {
-        Some(offer) => offer.estimate,
-        None => Estimate::NONE,
+        self.overflow.prices.as_slice()
     }
 }

@@ -1,117 +1,192 @@
 //! The graph of regions and of the hot tile edges between them.
 
-use crate::regions::{Regions, ends_of, regions_of};
-use crate::tile_use::{TileTotal, TileUse};
+use crate::bundles::{Bundle, Ends};
+use crate::part::{Link, Part};
+use crate::regions::{ends_of, regions_of, touching_regions};
+use crate::spread_nets::{MOST_ENDS, SpreadNet};
+use crate::tile_use::TileUse;
+use crate::tile_view::TileView;
 use grid_base::{NoMemory, Size};
 use std::alloc::Global;
 
-/// A hot tile edge between two regions, which are given by their numbers as nodes.
+/// Stands for the part of a node that is in none.
+const NO_PART: u32 = u32::MAX;
+
+/// A region by its part and its number there.
 #[derive(Debug, Drop, Clone, Copy, PartialEq, Eq)]
-pub(crate) struct Link {
-    pub one: u32,
-    pub other: u32,
-    pub tile_edge: u32,
-    pub capacity: u64,
+struct Node {
+    part: u32,
+    number: u32,
+}
+
+impl Node {
+    /// The region of the most tiles, which is node 0 of each part.
+    const OUTSIDE: Node = Node {
+        part: NO_PART,
+        number: 0,
+    };
+
+    /// The number in a part: that of the outside where the node is in another one.
+    fn number_in(self, part: u32) -> u32 {
+        if self.part == part { self.number } else { 0 }
+    }
 }
 
 /// What is left of the tiles where all but the hottest tile edges cost nothing: each region is a node.
 ///
-/// What nets cost at least stays the same, since a way inside a region costs nothing.
+/// What nets cost at least stays the same, since a way inside a region costs nothing. The graph falls into parts, which have the
+/// outside in common: what a net costs is the sum of what it costs in each of them.
 #[derive(Drop)]
 pub(crate) struct Contraction {
-    pub links: Vec<Link>,
-    nodes: u32,
-    node_of_tile: Vec<u32>,
+    pub parts: Vec<Part>,
+    nodes: Vec<Node>,
 }
-
-/// Stands for the node of a region that no link leaves.
-pub(crate) const NO_NODE: u32 = u32::MAX;
 
 impl Contraction {
     /// Contracts all open tile edges but the first `count`. The links are those of the first that lie between two regions: the
     /// others can be gone around.
     pub fn of(
         alloc: Global,
+        view: &TileView,
+        uses: &[TileUse],
+        count: usize,
+    ) -> Result<Contraction, NoMemory> {
+        let mut contraction = Contraction::without_links(alloc, view.size, uses, count)?;
+        for hot in uses.iter().take(count) {
+            contraction.link(view, *hot)?;
+        }
+        contraction.bring(view.nets.as_slice())?;
+        Ok(contraction)
+    }
+
+    /// The nodes of all tiles. The lowest tile of a region is numbered first, and the lowest of a part before all others of it.
+    fn without_links(
+        alloc: Global,
         size: Size,
-        totals: &[TileTotal],
         uses: &[TileUse],
         count: usize,
     ) -> Result<Contraction, NoMemory> {
         let tiles = size.cols() * size.rows();
         let mut regions = regions_of(alloc, size, uses, count)?;
+        let outside = regions.greatest(alloc, tiles)?;
+        let mut touching = touching_regions(alloc, size, uses, count, &mut regions, outside)?;
         let mut contraction = Contraction {
-            links: Vec::new(alloc),
-            nodes: 0,
-            node_of_tile: vec![in alloc; NO_NODE; tiles as usize]?,
+            parts: Vec::new(alloc),
+            nodes: vec![in alloc; Node::OUTSIDE; tiles as usize]?,
         };
-        for hot in uses.iter().take(count) {
-            contraction.link(size, totals, &mut regions, hot.tile_edge)?;
-        }
         for tile in 0..tiles {
-            contraction.spread(tile, regions.find(tile));
+            let region = regions.find(tile);
+            if region != tile {
+                contraction.set_node(tile, contraction.node_of(region));
+            } else if region != outside {
+                contraction.add_region(alloc, region, touching.find(region))?;
+            }
         }
         Ok(contraction)
     }
 
-    /// How many nodes there are.
-    pub fn nodes(&self) -> u32 {
-        self.nodes
-    }
-
-    /// The node of a tile's region.
-    pub fn node_of(&self, tile: u32) -> u32 {
-        self.node_of_tile
-            .get(tile as usize)
-            .copied()
-            .unwrap_or(NO_NODE)
-    }
-
-    /// Adds a tile edge where it lies between two regions.
-    fn link(
-        &mut self,
-        size: Size,
-        totals: &[TileTotal],
-        regions: &mut Regions,
-        tile_edge: u32,
-    ) -> Result<(), NoMemory> {
-        let (start, end) = ends_of(size, tile_edge);
-        let (one, other) = (regions.find(start), regions.find(end));
-        if one == other {
-            return Ok(());
+    /// Brings the nets into the parts in which they have ends.
+    fn bring(&mut self, nets: &[SpreadNet]) -> Result<(), NoMemory> {
+        for net in nets {
+            let nodes = self.nodes_of(net);
+            for end in 0..MOST_ENDS {
+                let part = nodes[end].part;
+                if !has_part(&nodes[..end], part) {
+                    self.add_net(nodes, part, net.demand)?;
+                }
+            }
         }
-        let capacity = totals
-            .get(tile_edge as usize)
-            .map_or(0, |total| total.capacity);
-        let link = Link {
-            one: self.numbered(one),
-            other: self.numbered(other),
-            tile_edge,
-            capacity,
-        };
-        self.links.push(link)?;
         Ok(())
     }
 
-    /// The node of the region for which a tile stands: a new one where it has none.
-    fn numbered(&mut self, tile: u32) -> u32 {
-        let known = self.node_of(tile);
-        if known != NO_NODE {
-            return known;
+    /// Gives a region the next number in the part of the region that stands for it, which is a new one where it is that region.
+    fn add_region(&mut self, alloc: Global, region: u32, lead: u32) -> Result<(), NoMemory> {
+        let part = if lead == region {
+            self.add_part(alloc)?
+        } else {
+            self.node_of(lead).part
+        };
+        if let Some(joined) = self.parts.get_mut(part as usize) {
+            let number = joined.add_node();
+            self.set_node(region, Node { part, number });
         }
-        let node = self.nodes;
-        self.nodes = node.saturating_add(1);
-        self.set_node(tile, node);
-        node
+        Ok(())
     }
 
-    /// Gives a tile the node of the tile that stands for its region.
-    fn spread(&mut self, tile: u32, region: u32) {
-        self.set_node(tile, self.node_of(region));
+    /// The number of one part more.
+    fn add_part(&mut self, alloc: Global) -> Result<u32, NoMemory> {
+        let Ok(part) = u32::try_from(self.parts.len()) else {
+            return Err(NoMemory);
+        };
+        self.parts.push(Part::new(alloc))?;
+        Ok(part)
     }
 
-    fn set_node(&mut self, tile: u32, node: u32) {
-        if let Some(place) = self.node_of_tile.get_mut(tile as usize) {
+    /// Adds a tile edge where it lies between two regions.
+    fn link(&mut self, view: &TileView, hot: TileUse) -> Result<(), NoMemory> {
+        let (start, end) = ends_of(view.size, hot.tile_edge);
+        let (one, other) = (self.node_of(start), self.node_of(end));
+        if one != other
+            && let Some(part) = self.parts.get_mut(one.part.min(other.part) as usize)
+        {
+            part.links.push(Link {
+                one: one.number,
+                other: other.number,
+                tile_edge: hot.tile_edge,
+                capacity: view.capacity(hot.tile_edge),
+                is_overfull: hot.is_overfull(),
+            })?;
+        }
+        Ok(())
+    }
+
+    /// Adds a net to a part, by the nodes of its ends.
+    fn add_net(
+        &mut self,
+        nodes: [Node; MOST_ENDS],
+        part: u32,
+        demand: u64,
+    ) -> Result<(), NoMemory> {
+        let mut ends = Ends::NONE;
+        for node in nodes {
+            ends = ends.with(node.number_in(part));
+        }
+        if let Some(part) = self.parts.get_mut(part as usize) {
+            part.add_net(Bundle { ends, demand })?;
+        }
+        Ok(())
+    }
+
+    /// The nodes of a net's tiles.
+    fn nodes_of(&self, net: &SpreadNet) -> [Node; MOST_ENDS] {
+        let mut nodes = [Node::OUTSIDE; MOST_ENDS];
+        for end in 0..MOST_ENDS {
+            nodes[end] = self.node_of(net.tiles[end]);
+        }
+        nodes
+    }
+
+    /// The node of a tile's region.
+    fn node_of(&self, tile: u32) -> Node {
+        self.nodes
+            .get(tile as usize)
+            .copied()
+            .unwrap_or(Node::OUTSIDE)
+    }
+
+    fn set_node(&mut self, tile: u32, node: Node) {
+        if let Some(place) = self.nodes.get_mut(tile as usize) {
             *place = node;
         }
     }
+}
+
+/// Whether one of the nodes is in a part.
+fn has_part(nodes: &[Node], part: u32) -> bool {
+    for node in nodes {
+        if node.part == part {
+            return true;
+        }
+    }
+    false
 }

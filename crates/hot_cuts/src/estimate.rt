@@ -24,20 +24,26 @@ impl Estimate {
         self.cost = self.cost.saturating_add(product(demand, cost));
     }
 
+    /// Adds what is estimated of another part.
+    pub fn add(&mut self, other: Estimate) {
+        self.cost = self.cost.saturating_add(other.cost);
+        self.capacity_cost = self.capacity_cost.saturating_add(other.capacity_cost);
+    }
+
     /// Whether the bound is greater than another one.
-    pub fn has_greater_bound(&self, other: &Estimate) -> bool {
+    pub fn has_greater_bound(self, other: Estimate) -> bool {
         let one = self.cost.saturating_mul(other.capacity_cost);
         let two = other.cost.saturating_mul(self.capacity_cost);
         self.capacity_cost > 0 && (other.capacity_cost == 0 || one > two)
     }
 
     /// Whether more overflow is proved than by another one, where both have the same greatest price.
-    pub fn proves_more_overflow(&self, other: &Estimate) -> bool {
+    pub fn proves_more_overflow(self, other: Estimate) -> bool {
         self.excess() > other.excess()
     }
 
     /// What the nets cost beyond the capacities.
-    fn excess(&self) -> u128 {
+    fn excess(self) -> u128 {
         self.cost.saturating_sub(self.capacity_cost)
     }
 }

@@ -1,7 +1,8 @@
 //! Trees on the graph of regions.
 
-use crate::bundles::{Ends, MOST_ENDS};
-use crate::contraction::Link;
+use crate::bundles::Ends;
+use crate::part::Link;
+use crate::spread_nets::MOST_ENDS;
 use grid_base::NoMemory;
 use std::alloc::Global;
 

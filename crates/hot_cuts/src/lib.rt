@@ -25,10 +25,14 @@ mod growth;
 mod maker;
 mod market;
 mod numbers;
+mod part;
 mod pricing;
 mod regions;
 mod rules;
+mod spread_nets;
+mod tile_cuts;
 mod tile_use;
+mod tile_view;
 
 pub use maker::{HotCuts, hot_cuts};
 pub use pricing::price_list;

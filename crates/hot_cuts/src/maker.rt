@@ -4,13 +4,15 @@ ghost use Rattle.std.specs.Prelude.{IfOk};
 ghost use Rattle.edge_prices.specs.Weights.{AreEdgePrices};
 
 use crate::best::{Best, TilePrice};
-use crate::bundles::bundles_of;
-use crate::contraction::{Contraction, Link};
+use crate::contraction::Contraction;
 use crate::market::Market;
 use crate::numbers::tile_edges;
+use crate::part::{Link, Part};
 use crate::pricing::price_list;
 use crate::rules::Goal;
-use crate::tile_use::{count_overfull, fullest_first, tile_totals};
+use crate::tile_cuts::fuller_cuts;
+use crate::tile_use::{TileUse, fullest_first};
+use crate::tile_view::TileView;
 use edge_prices::MAX_PRICE;
 use grid_base::NoMemory;
 use grid_graph::{Design, Grid};
@@ -19,10 +21,7 @@ use std::alloc::Global;
 /// So many of the fullest tile edges are tried for cuts.
 const COUNTS: [usize; 7] = [10, 20, 40, 80, 160, 320, 640];
 
-/// Mean prices below these are also tried as 0.
-const LEAST_PRICES: [u64; 3] = [0, MAX_PRICE as u64 / 64, MAX_PRICE as u64 / 4];
-
-/// Graphs with more nodes times links times bundles than this are passed over: their rounds could take a minute.
+/// Parts with more nodes times links times bundles than this are passed over: their rounds could take a minute.
 const MOST_WORK: u64 = 1 << 29;
 
 /// Two price lists of the edges. Each shows something of both, so whoever wants to know the most takes the greater of what they
@@ -70,60 +69,85 @@ fn edge_prices_of(alloc: Global, grid: &Grid, priced: &[TilePrice]) -> Result<Ve
     price_list(alloc, grid, tile_prices.as_slice())
 }
 
-/// The best prices on cuts of some numbers of the fullest tile edges, and of those that are overfull.
+/// The best prices on cuts of some numbers of the fullest tile edges: those that routes fill most, and those round the tiles
+/// that all routes fill most.
 fn best_prices(
     alloc: Global,
     design: &Design,
     loads: &[u64],
     rounds: u32,
 ) -> Result<Best, NoMemory> {
-    let size = design.grid.size();
-    let totals = tile_totals(alloc, &design.grid, loads)?;
-    let uses = fullest_first(alloc, totals.as_slice())?;
-    let (totals, uses) = (totals.as_slice(), uses.as_slice());
-    let mut best = Best::NONE;
-    let overfull = Contraction::of(alloc, size, totals, uses, count_overfull(uses))?;
-    try_prices(alloc, design, &overfull, Goal::Overflow, rounds, &mut best)?;
-    for count in COUNTS {
-        let hottest = Contraction::of(alloc, size, totals, uses, count)?;
-        try_prices(alloc, design, &hottest, Goal::Bound, rounds, &mut best)?;
-    }
+    let view = TileView::of(alloc, design, loads)?;
+    let cuts = fuller_cuts(alloc, &view)?;
+    let by_loads = fullest_first(alloc, view.totals.as_slice())?;
+    let by_cuts = fullest_first(alloc, cuts.as_slice())?;
+    let mut best = Best::none(alloc);
+    try_counts(alloc, &view, by_loads.as_slice(), rounds, &mut best)?;
+    try_counts(alloc, &view, by_cuts.as_slice(), rounds, &mut best)?;
     Ok(best)
 }
 
-/// Tries prices on the links of a contraction: one price for all, the mean prices of some rounds, and one price for those
-/// whose mean price is high.
-fn try_prices(
+/// Tries cuts of some numbers of the first tile edges.
+fn try_counts(
     alloc: Global,
-    design: &Design,
-    contraction: &Contraction,
-    goal: Goal,
+    view: &TileView,
+    uses: &[TileUse],
     rounds: u32,
     best: &mut Best,
 ) -> Result<(), NoMemory> {
-    let links = contraction.links.as_slice();
-    let bundles = bundles_of(alloc, design, contraction)?;
-    if work_of(contraction, bundles.len()) > MOST_WORK {
-        return Ok(());
-    }
-    let mut market = Market::new(alloc, contraction.nodes(), links, bundles.as_slice())?;
-    let equal = vec![in alloc; u64::from(MAX_PRICE); links.len()]?;
-    try_list(alloc, links, &mut market, equal.as_slice(), best)?;
-    market.run(goal, rounds)?;
-    for least in LEAST_PRICES {
-        let mean = market.mean_prices(alloc, least)?;
-        try_list(alloc, links, &mut market, mean.as_slice(), best)?;
-        let flat = flattened(alloc, mean.as_slice())?;
-        try_list(alloc, links, &mut market, flat.as_slice(), best)?;
+    for count in COUNTS {
+        let mut graph = Contraction::of(alloc, view, uses, count)?;
+        best.improve(best_of_parts(alloc, &mut graph, rounds)?);
     }
     Ok(())
 }
 
+/// The best prices on all parts of a graph.
+fn best_of_parts(alloc: Global, graph: &mut Contraction, rounds: u32) -> Result<Best, NoMemory> {
+    let mut joined = Best::none(alloc);
+    for part in graph.parts.iter_mut() {
+        joined.join(best_of_part(alloc, part, rounds)?)?;
+    }
+    Ok(joined)
+}
+
+/// The best prices on the links of a part: one price for all, or the mean prices of some rounds, or one price for those whose
+/// mean price is high.
+fn best_of_part(alloc: Global, part: &mut Part, rounds: u32) -> Result<Best, NoMemory> {
+    let mut best = Best::none(alloc);
+    let bundles = part.bundles(alloc)?;
+    let links = part.links.as_slice();
+    if work_of(part, bundles.len()) > MOST_WORK {
+        return Ok(best);
+    }
+    let mut market = Market::new(alloc, part.nodes, links, bundles.as_slice())?;
+    let equal = vec![in alloc; u64::from(MAX_PRICE); links.len()]?;
+    try_list(alloc, links, &mut market, equal.as_slice(), &mut best)?;
+    for goal in [Goal::Bound, Goal::Overflow] {
+        market.run(goal, rounds)?;
+        try_means(alloc, links, &mut market, &mut best)?;
+    }
+    Ok(best)
+}
+
 /// What the ways of so many bundles may take, where each looks at all links for each node.
-fn work_of(contraction: &Contraction, bundles: usize) -> u64 {
-    u64::from(contraction.nodes())
-        .saturating_mul(contraction.links.len() as u64)
+fn work_of(part: &Part, bundles: usize) -> u64 {
+    u64::from(part.nodes)
+        .saturating_mul(part.links.len() as u64)
         .saturating_mul(bundles as u64)
+}
+
+/// Tries the mean prices of the rounds, and one price for those that are high.
+fn try_means(
+    alloc: Global,
+    links: &[Link],
+    market: &mut Market,
+    best: &mut Best,
+) -> Result<(), NoMemory> {
+    let mean = market.mean_prices(alloc)?;
+    try_list(alloc, links, market, mean.as_slice(), best)?;
+    let flat = flattened(alloc, mean.as_slice())?;
+    try_list(alloc, links, market, flat.as_slice(), best)
 }
 
 /// Tries one list of prices.
@@ -138,11 +162,12 @@ fn try_list(
     best.take(alloc, links, prices, estimate)
 }
 
-/// The greatest price in place of each that is not 0.
+/// The greatest price in place of each that is not much less, and else none.
 fn flattened(alloc: Global, prices: &[u64]) -> Result<Vec<u64>, NoMemory> {
+    let greatest = u64::from(MAX_PRICE);
     let mut flat = Vec::new(alloc);
     for price in prices {
-        flat.push(if *price > 0 { u64::from(MAX_PRICE) } else { 0 })?;
+        flat.push(if *price < greatest / 4 { 0 } else { greatest })?;
     }
     Ok(flat)
 }

@@ -1,9 +1,9 @@
 //! Rounds in which nets and prices answer each other.
 
 use crate::bundles::{Bundle, total_demand};
-use crate::contraction::Link;
 use crate::estimate::Estimate;
 use crate::growth::Growth;
+use crate::part::Link;
 use crate::rules::{Goal, fullness, steep_price};
 use edge_prices::MAX_PRICE;
 use grid_base::NoMemory;
@@ -57,7 +57,7 @@ impl<'a> Market<'a> {
     /// Leads so many rounds from no loads at all. The sums are of the prices in the later half of them.
     pub fn run(&mut self, goal: Goal, rounds: u32) -> Result<(), NoMemory> {
         self.loads.fill(0);
-        self.prices.fill(TOP);
+        self.start_prices();
         for round in 0..rounds {
             if round <= rounds / 2 {
                 self.sums.fill(0);
@@ -70,14 +70,20 @@ impl<'a> Market<'a> {
         Ok(())
     }
 
-    /// The mean prices of the later rounds, of which the greatest is `MAX_PRICE`, and those below `least` are 0.
-    pub fn mean_prices(&self, alloc: Global, least: u64) -> Result<Vec<u64>, NoMemory> {
+    /// Gives the overfull links the greatest price, and all others none.
+    fn start_prices(&mut self) {
+        for (link, price) in self.links.iter().zip(self.prices.iter_mut()) {
+            *price = if link.is_overfull { TOP } else { 0 };
+        }
+    }
+
+    /// The mean prices of the later rounds, of which the greatest is `MAX_PRICE`.
+    pub fn mean_prices(&self, alloc: Global) -> Result<Vec<u64>, NoMemory> {
         let greatest = self.sums.iter().copied().max().unwrap_or(0);
         let mut prices = Vec::new(alloc);
         for sum in self.sums.iter() {
             let scaled = sum.saturating_mul(u64::from(MAX_PRICE));
-            let price = scaled.checked_div(greatest).unwrap_or(0);
-            prices.push(if price < least { 0 } else { price })?;
+            prices.push(scaled.checked_div(greatest).unwrap_or(0))?;
         }
         Ok(prices)
     }

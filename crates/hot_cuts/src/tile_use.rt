@@ -9,10 +9,7 @@ use std::cmp::Reverse;
 /// So much stands for a tile edge whose capacity is just in use.
 const FULL: u64 = 1 << 20;
 
-/// So many tile edges at most count as overfull: the time that prices take grows faster than their number.
-const MOST_OVERFULL: usize = 1000;
-
-/// What the edges over a tile edge carry together, and what they can carry.
+/// What some edges carry together, and what they can carry.
 #[derive(Debug, Drop, Clone, Copy, PartialEq, Eq)]
 pub(crate) struct TileTotal {
     pub load: u64,
@@ -20,8 +17,14 @@ pub(crate) struct TileTotal {
 }
 
 impl TileTotal {
-    /// With one more open edge.
-    fn with(self, load: u64, capacity: u64) -> TileTotal {
+    /// No edges.
+    pub const NONE: TileTotal = TileTotal {
+        load: 0,
+        capacity: 0,
+    };
+
+    /// With so much more.
+    pub fn with(self, load: u64, capacity: u64) -> TileTotal {
         TileTotal {
             load: self.load.saturating_add(load),
             capacity: self.capacity.saturating_add(capacity),
@@ -31,6 +34,15 @@ impl TileTotal {
     /// The load by the capacity, where there is capacity.
     fn fullness(self) -> Option<u64> {
         self.load.saturating_mul(FULL).checked_div(self.capacity)
+    }
+
+    /// The fuller one of two.
+    pub fn fuller(self, other: TileTotal) -> TileTotal {
+        if other.fullness() > self.fullness() {
+            other
+        } else {
+            self
+        }
     }
 }
 
@@ -48,18 +60,14 @@ impl TileUse {
     }
 }
 
-/// The totals of all tile edges, by their numbers on layer 0.
+/// What the edges over each tile edge carry and can carry, by its number on layer 0.
 pub(crate) fn tile_totals(
     alloc: Global,
     grid: &Grid,
     loads: &[u64],
 ) -> Result<Vec<TileTotal>, NoMemory> {
     let per_layer = tile_edges(grid);
-    let none = TileTotal {
-        load: 0,
-        capacity: 0,
-    };
-    let mut totals = vec![in alloc; none; per_layer as usize]?;
+    let mut totals = vec![in alloc; TileTotal::NONE; per_layer as usize]?;
     for e in 0..2 * grid.size().vertices() {
         let capacity = grid.capacity(Edge(e));
         if capacity > 0
@@ -72,7 +80,7 @@ pub(crate) fn tile_totals(
     Ok(totals)
 }
 
-/// The open tile edges, the fullest first.
+/// The open tile edges by what counts for each of them, the fullest first.
 pub(crate) fn fullest_first(alloc: Global, totals: &[TileTotal]) -> Result<Vec<TileUse>, NoMemory> {
     let mut uses = Vec::new(alloc);
     for (tile_edge, total) in totals.iter().enumerate() {
@@ -85,13 +93,4 @@ pub(crate) fn fullest_first(alloc: Global, totals: &[TileTotal]) -> Result<Vec<T
     }
     uses.sort_unstable();
     Ok(uses)
-}
-
-/// How many of the tile edges have more load than capacity, as far as they are among the first `MOST_OVERFULL`. The fullest
-/// come first.
-pub(crate) fn count_overfull(uses: &[TileUse]) -> usize {
-    uses.iter()
-        .take(MOST_OVERFULL)
-        .take_while(|tile_use| tile_use.is_overfull())
-        .count()
 }
