@@ -105,7 +105,10 @@ impl Best {
         if bound.estimate.has_greater_bound(self.bound.estimate) {
             self.bound = bound;
         }
-        if overflow.estimate.proves_more_overflow(self.overflow.estimate) {
+        if overflow
+            .estimate
+            .proves_more_overflow(self.overflow.estimate)
+        {
             self.overflow = overflow;
         }
     }

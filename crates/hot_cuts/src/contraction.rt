@@ -34,8 +34,8 @@ impl Node {
 
 /// What is left of the tiles where all but the hottest tile edges cost nothing: each region is a node.
 ///
-/// What nets cost at least stays the same, since a way inside a region costs nothing. The graph falls into parts, which have the
-/// outside in common: what a net costs is the sum of what it costs in each of them.
+/// What nets cost at least stays the same, since a way inside a region costs nothing. Without the outside, which is the region
+/// of the most tiles, the graph falls apart: what a net costs is the sum of what it costs in each part.
 #[derive(Drop)]
 pub(crate) struct Contraction {
     pub parts: Vec<Part>,
@@ -59,7 +59,7 @@ impl Contraction {
         Ok(contraction)
     }
 
-    /// The nodes of all tiles. The lowest tile of a region is numbered first, and the lowest of a part before all others of it.
+    /// The parts with their nodes. What stands for a region, or for a part, is its lowest tile, which so comes first.
     fn without_links(
         alloc: Global,
         size: Size,
@@ -88,12 +88,18 @@ impl Contraction {
     /// Brings the nets into the parts in which they have ends.
     fn bring(&mut self, nets: &[SpreadNet]) -> Result<(), NoMemory> {
         for net in nets {
-            let nodes = self.nodes_of(net);
-            for end in 0..MOST_ENDS {
-                let part = nodes[end].part;
-                if !has_part(&nodes[..end], part) {
-                    self.add_net(nodes, part, net.demand)?;
-                }
+            self.bring_net(net)?;
+        }
+        Ok(())
+    }
+
+    /// Brings a net once into each part that one of its nodes is in.
+    fn bring_net(&mut self, net: &SpreadNet) -> Result<(), NoMemory> {
+        let nodes = self.nodes_of(net);
+        for end in 0..MOST_ENDS {
+            let part = nodes[end].part;
+            if !has_part(&nodes[..end], part) {
+                self.add_net(nodes, part, net.demand)?;
             }
         }
         Ok(())
@@ -140,7 +146,7 @@ impl Contraction {
         Ok(())
     }
 
-    /// Adds a net to a part, by the nodes of its ends.
+    /// Adds a net with these nodes to a part, if it is one, and the net leaves its node there.
     fn add_net(
         &mut self,
         nodes: [Node; MOST_ENDS],

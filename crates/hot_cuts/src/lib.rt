@@ -10,9 +10,11 @@
 //! ```
 //!
 //! Where all but some tile edges cost nothing, tiles that the others join are one node, and what is left is a graph of few
-//! nodes. On it, nets and prices answer each other for some rounds.
+//! nodes. It falls into parts, on each of which nets and prices answer each other for some rounds. What prices on different
+//! parts prove of the overflow adds up.
 //!
-//! It stands on `groups`, `edge_prices`, `grid_graph` and `grid_base`. Want of memory alone is a free answer. Promised: both
+//! It stands on `groups`, `edge_prices`, `grid_graph` and `grid_base`, and on `lower_bound` for the terminals by which the bound
+//! of a net is found. Want of memory alone is a free answer. Promised: both
 //! lists are price lists of the edges. How much they prove no clause says.
 
 #![tactic(auto)]

@@ -34,8 +34,8 @@ pub struct HotCuts {
     pub for_overflow: Vec<u32>,
 }
 
-/// Price lists that prove much of a design, from the loads of good routes, of which there is one per edge number. Where no tile
-/// edge is on a cut, all prices are 0.
+/// Price lists that prove much of a design, from the loads of routes, of which there is one per edge number. They prove more the
+/// better the routes are; much of it needs no routes. Where no tile edge is on a cut, all prices are 0.
 ///
 /// In a round each bundle of nets takes a way once, at prices that are renewed before, on the graph of the regions between the
 /// hot tile edges. For the bound the method is the one of multiplicative weights, as Müller, Radke and Vygen use it in "Faster
@@ -162,7 +162,7 @@ fn try_list(
     best.take(alloc, links, prices, estimate)
 }
 
-/// The greatest price in place of each that is not much less, and else none.
+/// The greatest price in place of each that is a quarter of it at least, and 0 in place of the others.
 fn flattened(alloc: Global, prices: &[u64]) -> Result<Vec<u64>, NoMemory> {
     let greatest = u64::from(MAX_PRICE);
     let mut flat = Vec::new(alloc);

@@ -54,7 +54,8 @@ impl<'a> Market<'a> {
         })
     }
 
-    /// Leads so many rounds from no loads at all. The sums are of the prices in the later half of them.
+    /// Leads so many rounds, from no loads and from prices on the overfull links alone. The sums are of the prices in the later
+    /// half of them.
     pub fn run(&mut self, goal: Goal, rounds: u32) -> Result<(), NoMemory> {
         self.loads.fill(0);
         self.start_prices();

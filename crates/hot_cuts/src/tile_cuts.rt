@@ -14,10 +14,32 @@ struct TileCuts {
 }
 
 impl TileCuts {
+    /// The cuts of all tiles of a view.
+    fn of(alloc: Global, view: &TileView) -> Result<TileCuts, NoMemory> {
+        let tiles = view.size.cols() * view.size.rows();
+        let mut cuts = TileCuts {
+            totals: vec![in alloc; TileTotal::NONE; tiles as usize]?,
+        };
+        for tile_edge in 0..2 * tiles {
+            let (start, end) = ends_of(view.size, tile_edge);
+            cuts.add(start, 0, view.capacity(tile_edge));
+            cuts.add(end, 0, view.capacity(tile_edge));
+        }
+        cuts.add_nets(view.nets.as_slice());
+        Ok(cuts)
+    }
+
     /// Adds to what nets carry out of a tile, and to what its tile edges can carry.
     fn add(&mut self, tile: u32, load: u64, capacity: u64) {
         if let Some(total) = self.totals.get_mut(tile as usize) {
             *total = total.with(load, capacity);
+        }
+    }
+
+    /// Adds nets.
+    fn add_nets(&mut self, nets: &[SpreadNet]) {
+        for net in nets {
+            self.add_net(net);
         }
     }
 
@@ -40,26 +62,9 @@ impl TileCuts {
     }
 }
 
-/// The cuts of all tiles.
-fn tile_cuts(alloc: Global, view: &TileView) -> Result<TileCuts, NoMemory> {
-    let tiles = view.size.cols() * view.size.rows();
-    let mut cuts = TileCuts {
-        totals: vec![in alloc; TileTotal::NONE; tiles as usize]?,
-    };
-    for tile_edge in 0..2 * tiles {
-        let (start, end) = ends_of(view.size, tile_edge);
-        cuts.add(start, 0, view.capacity(tile_edge));
-        cuts.add(end, 0, view.capacity(tile_edge));
-    }
-    for net in view.nets.iter() {
-        cuts.add_net(net);
-    }
-    Ok(cuts)
-}
-
-/// For each open tile edge the fuller one of the cuts round its two tiles.
+/// For each open tile edge the fuller one of the cuts round its two tiles, and nothing for the others.
 pub(crate) fn fuller_cuts(alloc: Global, view: &TileView) -> Result<Vec<TileTotal>, NoMemory> {
-    let cuts = tile_cuts(alloc, view)?;
+    let cuts = TileCuts::of(alloc, view)?;
     let mut fuller = Vec::new(alloc);
     for tile_edge in 0..2 * (view.size.cols() * view.size.rows()) {
         let (start, end) = ends_of(view.size, tile_edge);
