@@ -27,6 +27,8 @@ ROW 0 144 grid 2 2 1;vertical capacity 100;horizontal capacity 2;minimum width 1
 ROW 0 144 grid 5 3 1;vertical capacity 20;horizontal capacity 20;minimum width 1;minimum spacing 1;via spacing 1;0 0 10 10;num net 2;a 0 2 1;5 5 1;45 5 1;b 1 2 1;5 25 1;45 25 1;3;1 0 1 2 0 1 0;1 1 1 2 1 1 2;1 2 1 2 2 1 0;|1 2,9 2,10 4,11 2,12 4,14 4,16 4,19 2|2/1 2
 # five nets out of the tile in the middle, whose four exits have room for one each
 ROW 0 144 grid 3 3 1;vertical capacity 20;horizontal capacity 20;minimum width 1;minimum spacing 1;via spacing 1;0 0 10 10;num net 5;a 0 2 1;15 15 1;5 5 1;b 1 2 1;15 15 1;25 5 1;c 2 2 1;15 15 1;5 25 1;d 3 2 1;15 15 1;25 25 1;e 4 2 1;15 15 1;5 15 1;4;1 1 1 2 1 1 2;0 1 1 1 1 1 2;1 1 1 1 2 1 2;1 0 1 1 1 1 2;|1 2,2 2,3 2,6 4,8 2,9 2,11 2,12 2|5/4 2
+# the same without routes: the nets leave that tile whatever their routes
+ROW 0 144 grid 3 3 1;vertical capacity 20;horizontal capacity 20;minimum width 1;minimum spacing 1;via spacing 1;0 0 10 10;num net 5;a 0 2 1;15 15 1;5 5 1;b 1 2 1;15 15 1;25 5 1;c 2 2 1;15 15 1;5 25 1;d 3 2 1;15 15 1;25 25 1;e 4 2 1;15 15 1;5 15 1;4;1 1 1 2 1 1 2;0 1 1 1 1 1 2;1 1 1 1 2 1 2;1 0 1 1 1 1 2;||5/4 2
 # three nets out of such a tile: there is room for all
 ROW 0 144 grid 3 3 1;vertical capacity 20;horizontal capacity 20;minimum width 1;minimum spacing 1;via spacing 1;0 0 10 10;num net 3;a 0 2 1;15 15 1;5 15 1;b 1 2 1;15 15 1;25 15 1;c 2 2 1;15 15 1;15 25 1;4;1 1 1 2 1 1 2;0 1 1 1 1 1 2;1 1 1 1 2 1 2;1 0 1 1 1 1 2;|6 2,8 2,9 2|3/4 0
 # there is no open edge
