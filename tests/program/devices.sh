@@ -452,11 +452,17 @@ endless 'a design without end' 3 'refused 3 13' route /dev/zero out.routes out.c
 endless 'routes without end' 4 'refused 4 35' measure one_net.gr /dev/stdin
 endless 'a certificate without end' 4 'refused 4 35' judge one_net.gr one_net.routes /dev/zero
 endless 'edits without end' 4 'refused 4 35' eco one_net.gr one_net.routes /dev/stdin out.routes
-said 'refused 8'
+# the text of a design is not kept, that of routes is
+said 'refused 3 13'
 # shellcheck disable=SC3045
 (ulimit -v 300000 && exec "$program" route /dev/zero out.routes out.cert) </dev/null >"$room/said" 2>"$room/complained"
 got=$?
-judge 'a design without end, and little memory' 8
+judge 'a design without end, and little memory' 3
+said 'refused 8'
+# shellcheck disable=SC3045
+yes 'a 0 !' | (ulimit -v 300000 && exec "$program" measure one_net.gr /dev/stdin) >"$room/said" 2>"$room/complained"
+got=$?
+judge 'routes without end, and little memory' 8
 left 'no routes of these' out.routes - none
 left 'no certificate of these' out.cert - none
 
