@@ -8,7 +8,7 @@ use Rattle.std.proofs.lemmas.Option.{same_Some}
 use Rattle.grid_base.specs.declared.piece.Piece.{Piece}
 use Rattle.grid_base.specs.declared.piece.Piece.TheVariants.{Edge, Via}
 use Rattle.grid_base.specs.Lists.{At, HasNoRepeats}
-use Rattle.grid_base.specs.Walks.{InPieces, JoinsList}
+use Rattle.grid_base.specs.Walks.{InPieces, InVertices, Joins, JoinsList}
 use Rattle.grid_base.proofs.Walks.{WalkBetween-superset}
 use Rattle.grid_graph.specs.declared.grid.Grid.{Grid}
 use Rattle.grid_graph.specs.declared.ground.Ground.{Ground}
@@ -18,6 +18,8 @@ use Rattle.grid_graph.specs.Grids.{size_of, Allows, demand_on, edge_numbers, ent
 use Rattle.grid_graph.specs.Grounds.{IsGround}
 use Rattle.edge_prices.specs.Weights.{cost, edge_cost, is_open}
 use Rattle.edge_prices.proofs.GroundPieces.{allowed_number, pieces_with-WeighsOnlyPieces}
+use Rattle.grid_graph.specs.Weighed.{IsAllowed}
+use Rattle.label_search.specs.Sets.{IsSetOf, weight}
 use Rattle.label_search.proofs.Sets.{piece_cases}
 use Rattle.edge_prices.specs.declared.budget.Budget.{Budget}
 use Rattle.edge_prices.specs.Budgets.{price_per_piece}
@@ -196,18 +198,25 @@ one_ground g n Open WithChoked a b = absurd (b.0 a)
 one_ground g n WithChoked Open a b = absurd (a.0 b)
 one_ground g n WithChoked WithChoked a b = refl
 
-pub net_bound_at_most : (g : Grid) (prices : List ℕ) (budget : Option Budget) (n : NetSpec) (bound : ℕ) → IsBoundOfNet g prices budget n bound → IsAtMostEachRoute g prices budget n bound
-net_bound_at_most g prices budget n bound is set route =
-    let same : route.over ≡ is.over = one_ground g n route.over is.over route.is_ground is.is_ground in
-    let inside : All (Allows g is.over) set = subst (λ (o : Ground). All (Allows g o) set) same route.inside in
-    let thin = thinned g prices budget n.width is.over set inside in
+-- a number that no set of the net's ground costs less than that joins the terminals is at most what each route costs
+pub at_most_each_route : (g : Grid) (prices : List ℕ) (budget : Option Budget) (n : NetSpec) (over : Ground) (low : ℕ) → IsGround g n.terminals over
+    → ((set : List (Piece × ℕ)) → IsSetOf (costed g n.width over prices (price_per_piece budget)) set → Joins (size_of g) (IsAllowed set) (InVertices n.terminals) → low ≤ weight set)
+    → IsAtMostEachRoute g prices budget n low
+at_most_each_route g prices budget n over low is_ground bounds set route =
+    let same : route.over ≡ over = one_ground g n route.over over route.is_ground is_ground in
+    let inside : All (Allows g over) set = subst (λ (o : Ground). All (Allows g o) set) same route.inside in
+    let thin = thinned g prices budget n.width over set inside in
     let q = price_per_piece budget in
-    let allowed : All (Allows g is.over) thin.thin = λ k d low. All-contains (Allows g is.over) set (get_or thin.thin k d) inside (thin.within _ (Contains-get_or thin.thin k d low)) in
+    let allowed : All (Allows g over) thin.thin = λ k d low. All-contains (Allows g over) set (get_or thin.thin k d) inside (thin.within _ (Contains-get_or thin.thin k d low)) in
     let joins : JoinsList (size_of g) thin.thin n.terminals = λ a b at_a at_b. WalkBetween-superset (size_of g) (InPieces set) (InPieces thin.thin) thin.all a b (route.joined a b at_a at_b) in
-    let costs = costed_set g n.width is.over prices q thin.thin n.terminals thin.once allowed joins in
-    let only = pieces_with-WeighsOnlyPieces g is.over (λ p. cost g n.width prices p + q) in
-    let low = net_bound_low (size_of g) (costed g n.width is.over prices q) n.terminals bound only is.is_bound costs.costs costs.is_set costs.joins in
+    let costs = costed_set g n.width over prices q thin.thin n.terminals thin.once allowed joins in
     let more = priced-le (price_at g prices budget) (tree_load g n.width thin.thin) (tree_load g n.width set) (range_with_len 0 (entries g))
     (λ r. load_below (holds thin.thin r) (holds set r) (length thin.thin) (length set) (demand_on g n.width r) thin.short
     (λ held. member_is_held set r (thin.within _ (held_is_member thin.thin r held))) (r == edge_numbers g)) in
-    omega (arith, low, costs.weighs, thin.cheap, more)
+    omega (arith, bounds costs.costs costs.is_set costs.joins, costs.weighs, thin.cheap, more)
+
+pub net_bound_at_most : (g : Grid) (prices : List ℕ) (budget : Option Budget) (n : NetSpec) (bound : ℕ) → IsBoundOfNet g prices budget n bound → IsAtMostEachRoute g prices budget n bound
+net_bound_at_most g prices budget n bound is =
+    let only = pieces_with-WeighsOnlyPieces g is.over (λ p. cost g n.width prices p + price_per_piece budget) in
+    at_most_each_route g prices budget n is.over bound is.is_ground
+    (λ set is_set joins. net_bound_low (size_of g) (costed g n.width is.over prices (price_per_piece budget)) n.terminals bound only is.is_bound set is_set joins)

@@ -13,3 +13,4 @@ pub mod Parts
 pub mod Prices
 pub mod ClassOrders
 pub mod Classes
+pub mod WholeWires

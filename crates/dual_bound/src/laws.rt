@@ -14,6 +14,7 @@ ghost use Rattle.dual_bound.specs.Bounds.{IsResource, BoundsDesign};
 ghost use Rattle.dual_bound.specs.DesignBounds.{IsAtMostEachRoute, IsSumOfBounds};
 ghost use Rattle.dual_bound.specs.LeastOverflow.{IsMostOfPrices, least_overflow};
 ghost use Rattle.dual_bound.specs.Prices.{ArePricesWith, capacity_cost};
+ghost use Rattle.dual_bound.specs.WholeWires.{AreUnits, IsMostOfUnits, whole_cost};
 
 /// Weak duality. At any price list at which the capacities cost something, the sum of what the nets' routes cost at least
 /// bounds the design when it is divided by what the capacities cost, and so does each smaller ratio. Net bounds are such
@@ -38,4 +39,14 @@ pub fn prices_show_overflow()
         → AreEdgePrices d.grid prices → IsMostOfPrices prices price
         → IsSumOfBounds d.grid prices None d.nets total → IsRouting d.grid d.nets trees
         → least_overflow total (capacity_cost d.grid prices None) price ≤ overflow d.grid (load d.grid d.nets trees) }
+{}
+
+/// The same of whole wires, and of any numbers that are at most what the nets' routes cost. Where nets use whole units of an
+/// edge, a load beyond its capacity is beyond it by what is missing to one unit more, at least; so the greatest price is that
+/// of a unit by this part of it, and the capacities count by their whole units.
+pub fn whole_wires_show_overflow()
+    ensures { (d : Design) (prices : List ℕ) (units : ℕ → ℕ) (most : ℕ) (lows : List ℕ) (trees : List (List Piece))
+        → AreEdgePrices d.grid prices → AreUnits d units → IsMostOfUnits d.grid prices units most
+        → AllZip (IsAtMostEachRoute d.grid prices None) d.nets lows → IsRouting d.grid d.nets trees
+        → least_overflow (sum lows) (whole_cost d.grid prices units) most ≤ overflow d.grid (load d.grid d.nets trees) }
 {}

@@ -12,7 +12,7 @@
 //! ```
 //!
 //! `what_prices_show` finds the bound and the overflow in one pass over the nets, at edge prices alone: the bound then serves
-//! each budget whose wirelength costs nothing.
+//! each budget whose wirelength costs nothing. `whole_wires_show_overflow` is the law for whoever bounds the nets otherwise.
 //!
 //! It stands on `lower_bound` for the bounds of the nets, on `tree_set` for fractions, budgets and routings, on `edge_prices`,
 //! `grid_graph` and `grid_base` for prices and designs, and on `rayon` for threads.
@@ -31,6 +31,8 @@ mod numerator;
 mod priced;
 mod shown;
 
+pub use class_order::{ClassedNet, nets_by_class};
 pub use design_bound::bound;
-pub use laws::{prices_show_overflow, weak_duality};
-pub use shown::{Shown, what_prices_show};
+pub use laws::{prices_show_overflow, weak_duality, whole_wires_show_overflow};
+pub use net_bounds::total_of;
+pub use shown::{Shown, greatest_price, what_prices_show};

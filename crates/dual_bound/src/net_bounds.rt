@@ -4,7 +4,7 @@ ghost use Rattle.std.specs.Prelude.{◌≡◌, ◌<◌, ◌^◌, length};
 ghost use Rattle.std.specs.List.{sum};
 
 use crate::bound_labels::BoundLabels;
-use crate::class_order::ClassedNet;
+use crate::class_order::{ClassedNet, nets_by_class};
 use crate::priced::Priced;
 use grid_base::{NoMemory, Size};
 use lower_bound::ClassCosts;
@@ -14,7 +14,7 @@ use steiner_exact::TreeLabels;
 use steiner_tables::ROOTED_MASKS;
 
 /// The sum of numbers.
-fn total_of(numbers: &[u64]) -> u128
+pub fn total_of(numbers: &[u64]) -> u128
     requires { length numbers.now < 2 ^ 64 }
     ensures { result ≡ sum numbers.now }
 {
@@ -113,7 +113,7 @@ impl Priced<'_> {
         if from == to {
             return Ok(0);
         }
-        let nets = self.nets_by_class(alloc, from, to)?;
+        let nets = nets_by_class(alloc, self.design, self.grounds, from, to)?;
         let mut costs = ClassCosts::new(
             alloc,
             &self.design.grid,

@@ -73,7 +73,7 @@ pub fn what_prices_show<R: Threads + Sync>(
 }
 
 /// The greatest price of a list; 0 where it is empty.
-fn greatest_price(prices: &[u32]) -> u32
+pub fn greatest_price(prices: &[u32]) -> u32
     ensures { IsGreatestPrice prices.now result }
 {
     let mut greatest = 0;

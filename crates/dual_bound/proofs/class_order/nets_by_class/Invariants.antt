@@ -1,6 +1,6 @@
 use Rattle.std.proofs.Common.{◌≤◌, All}
 use Rattle.dual_bound.specs.ClassOrders.{IsPlaceOf, HasEachPlace}
-use Rattle.dual_bound.proofs.priced.Priced.nets_by_class.Given as goal
+use Rattle.dual_bound.proofs.class_order.nets_by_class.Given as goal
 
 -- the nets from the first one up to this place
 abbrev pub invariant-loop-place : goal.invariant-loop-place

@@ -3,7 +3,7 @@ use Rattle.std.proofs.lemmas.List.Elements.{All-push}
 use Rattle.std.proofs.lemmas.List.Sorted.{All-permutation}
 use Rattle.dual_bound.specs.ClassOrders.{IsPlaceOf, HasEachPlace}
 use Rattle.dual_bound.proofs.ClassOrders.{placed_more, placed_anew}
-use Rattle.dual_bound.proofs.priced.Priced.nets_by_class.Goals as goal
+use Rattle.dual_bound.proofs.class_order.nets_by_class.Goals as goal
 
 pub loop-place-preserved : goal.loop-place-preserved
 loop-place-preserved c =
