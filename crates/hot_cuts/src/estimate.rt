@@ -1,6 +1,8 @@
-//! What prices seem to prove.
+//! What prices prove.
 
-/// What nets seem to cost at prices of links, and what all capacities cost.
+use tile_graphs::FULL;
+
+/// What nets cost at prices of links, and what all capacities cost.
 #[derive(Debug, Drop, Clone, Copy, PartialEq, Eq)]
 pub(crate) struct Estimate {
     cost: u128,
@@ -37,13 +39,20 @@ impl Estimate {
         self.capacity_cost > 0 && (other.capacity_cost == 0 || one > two)
     }
 
+    /// The bound, in parts of `FULL`.
+    pub fn level(self) -> u64 {
+        let cost = self.cost.saturating_mul(u128::from(FULL));
+        let level = cost.checked_div(self.capacity_cost).unwrap_or(0);
+        u64::try_from(level).unwrap_or(u64::MAX)
+    }
+
     /// Whether more overflow is proved than by another one, where both have the same greatest price.
     pub fn proves_more_overflow(self, other: Estimate) -> bool {
         self.excess() > other.excess()
     }
 
     /// What the nets cost beyond the capacities.
-    fn excess(self) -> u128 {
+    pub fn excess(self) -> u128 {
         self.cost.saturating_sub(self.capacity_cost)
     }
 }

@@ -10,31 +10,24 @@
 //! ```
 //!
 //! Where all but some tile edges cost nothing, tiles that the others join are one node, and what is left is a graph of few
-//! nodes. It falls into parts, on each of which nets and prices answer each other for some rounds. What prices on different
-//! parts prove of the overflow adds up.
+//! nodes. It falls into parts, on each of which nets and prices answer each other for some rounds: nets take least trees of up
+//! to eight of their nodes, those of all their terminals. What prices on different parts prove of the overflow adds up, so the
+//! best ones of each place are joined, and from these some rounds more are led.
 //!
-//! It stands on `groups`, `edge_prices`, `grid_graph` and `grid_base`, and on `lower_bound` for the terminals by which the bound
-//! of a net is found. Want of memory alone is a free answer. Promised: both
-//! lists are price lists of the edges. How much they prove no clause says.
+//! It stands on `tile_graphs` for designs seen from above and the graphs, and on `edge_prices`, `grid_graph` and `grid_base`.
+//! Want of memory alone is a free answer. Promised: both lists are price lists of the edges. How much they prove no clause says.
 
 #![tactic(auto)]
 
-mod best;
-mod bundles;
-mod contraction;
 mod estimate;
-mod growth;
+mod least_trees;
 mod maker;
 mod market;
-mod numbers;
-mod part;
+mod offers;
 mod pricing;
-mod regions;
 mod rules;
-mod spread_nets;
-mod tile_cuts;
-mod tile_use;
-mod tile_view;
+mod search;
+mod trial;
 
 pub use maker::{HotCuts, hot_cuts};
 pub use pricing::price_list;

@@ -6,11 +6,11 @@ ghost use Rattle.grid_graph.specs.Grids as grids;
 ghost use Rattle.edge_prices.specs.Limits.{max_price};
 ghost use Rattle.edge_prices.specs.Weights.{AreEdgePrices};
 
-use crate::numbers::tile_edges;
 use edge_prices::MAX_PRICE;
 use grid_base::{Edge, NoMemory};
 use grid_graph::Grid;
 use std::alloc::Global;
+use tile_graphs::tile_edges;
 
 /// The price list in which each open edge has the price of its tile edge, by its number on layer 0: at most `MAX_PRICE`, and 0
 /// where the list of the tile edges ends before it.

@@ -1,33 +1,31 @@
 //! Rules by which prices follow loads.
 
-use edge_prices::{LAST_INDEX, price_at};
-
-/// So much stands for a link whose capacity is just in use.
-const FULL: u64 = 1 << 20;
-
-/// So many steps of the price table lie between a link without load and the fullest one.
-const STEPS: u64 = 680;
+use edge_prices::MAX_PRICE;
 
 /// What prices are to prove.
 #[derive(Debug, Drop, Clone, Copy, PartialEq, Eq)]
 pub(crate) enum Goal {
-    /// How full the fullest edge is: prices rise steeply to that of the fullest link.
+    /// How full the fullest edge is.
     Bound,
-    /// Overflow: prices rise where the load is above the capacity, and fall where it is below.
+    /// Overflow.
     Overflow,
 }
 
-/// The load by the capacity; 0 where there is none.
-pub(crate) fn fullness(load: u64, capacity: u64) -> u64 {
-    load.saturating_mul(FULL).checked_div(capacity).unwrap_or(0)
-}
+/// So many parts of a price are counted where prices rise and fall.
+pub(crate) const GRAIN: u64 = 1 << 16;
 
-/// A price that falls by one step of the table for each of the `STEPS` parts in which the link is less full than the fullest.
-pub(crate) fn steep_price(full: u64, peak: u64) -> u64 {
-    let less = peak.saturating_sub(full).saturating_mul(STEPS);
-    let below = less.checked_div(peak).unwrap_or(0);
-    if below > u64::from(LAST_INDEX) {
-        return 0;
-    }
-    u64::from(price_at(LAST_INDEX - below as u32))
+/// The greatest price, in these parts.
+pub(crate) const TOP: u64 = MAX_PRICE as u64 * GRAIN;
+
+/// How far prices rise and fall in the first round, in these parts. In each round it is this by the round's number.
+pub(crate) const FIRST_STEP: u64 = TOP / 2;
+
+/// The same where good prices are known.
+pub(crate) const LATER_STEP: u64 = TOP / 8;
+
+/// A part of a number, as great as another one is of all.
+pub(crate) fn part_of(number: u64, part: u64, all: u64) -> u64 {
+    let product = u128::from(number) * u128::from(part);
+    let share = product.checked_div(u128::from(all)).unwrap_or(0);
+    u64::try_from(share).unwrap_or(u64::MAX)
 }

@@ -7,7 +7,7 @@ ghost use Rattle.grid_graph.specs.Grids.{size_of};
 use grid_graph::Grid;
 
 /// How many edge numbers a layer has: the number of tile edges.
-pub(crate) fn tile_edges(grid: &Grid) -> u32
+pub fn tile_edges(grid: &Grid) -> u32
     ensures value { result ≡ 2 * tiles (size_of grid.now) }
     ensures some { 0 < result }
 {

@@ -7,11 +7,11 @@ use std::alloc::Global;
 use std::cmp::Reverse;
 
 /// So much stands for a tile edge whose capacity is just in use.
-const FULL: u64 = 1 << 20;
+pub const FULL: u64 = 1 << 20;
 
 /// What some edges carry together, and what they can carry.
 #[derive(Debug, Drop, Clone, Copy, PartialEq, Eq)]
-pub(crate) struct TileTotal {
+pub struct TileTotal {
     pub load: u64,
     pub capacity: u64,
 }
@@ -31,7 +31,23 @@ impl TileTotal {
         }
     }
 
-    /// The load by the capacity, where there is capacity.
+    /// Whether there is any capacity.
+    pub fn is_open(self) -> bool {
+        self.capacity > 0
+    }
+
+    /// What is carried beyond the capacity.
+    pub fn excess(self) -> u64 {
+        self.load.saturating_sub(self.capacity)
+    }
+
+    /// Whether more is carried than at a level, in parts of `FULL`.
+    pub fn is_fuller(self, level: u64) -> bool {
+        let held = u128::from(self.capacity) * u128::from(level);
+        u128::from(self.load) * u128::from(FULL) > held
+    }
+
+    /// The load by the capacity, in parts of `FULL`, where there is capacity.
     fn fullness(self) -> Option<u64> {
         self.load.saturating_mul(FULL).checked_div(self.capacity)
     }
@@ -48,16 +64,9 @@ impl TileTotal {
 
 /// An open tile edge with how full it is. The fuller one comes first, and of equally full ones that of the lower number.
 #[derive(Debug, Drop, Clone, Copy, PartialEq, Eq, PartialOrd, Ord)]
-pub(crate) struct TileUse {
+pub struct TileUse {
     fullness: Reverse<u64>,
-    pub tile_edge: u32,
-}
-
-impl TileUse {
-    /// Whether more is in use than the capacity.
-    pub fn is_overfull(&self) -> bool {
-        self.fullness.0 > FULL
-    }
+    tile_edge: u32,
 }
 
 /// What the edges over each tile edge carry and can carry, by its number on layer 0.
@@ -80,11 +89,40 @@ pub(crate) fn tile_totals(
     Ok(totals)
 }
 
+/// Marks the tile edges that are filled to a level at least, in parts of `FULL`.
+pub fn marks_by_level(
+    alloc: Global,
+    totals: &[TileTotal],
+    level: u64,
+) -> Result<Vec<bool>, NoMemory> {
+    let mut marks = Vec::new(alloc);
+    for total in totals {
+        marks.push(total.fullness() >= Some(level))?;
+    }
+    Ok(marks)
+}
+
+/// Marks so many of the tile edges that come first.
+pub fn marks_by_count(
+    alloc: Global,
+    uses: &[TileUse],
+    count: usize,
+    tile_edges: usize,
+) -> Result<Vec<bool>, NoMemory> {
+    let mut marks = vec![in alloc; false; tile_edges]?;
+    for used in uses.iter().take(count) {
+        if let Some(mark) = marks.get_mut(used.tile_edge as usize) {
+            *mark = true;
+        }
+    }
+    Ok(marks)
+}
+
 /// The open tile edges by what counts for each of them, the fullest first.
-pub(crate) fn fullest_first(alloc: Global, totals: &[TileTotal]) -> Result<Vec<TileUse>, NoMemory> {
+pub fn fullest_first(alloc: Global, totals: &[TileTotal]) -> Result<Vec<TileUse>, NoMemory> {
     let mut uses = Vec::new(alloc);
-    for (tile_edge, total) in totals.iter().enumerate() {
-        if let (Some(fullness), Ok(tile_edge)) = (total.fullness(), u32::try_from(tile_edge)) {
+    for (tile_edge, total) in (0..u32::MAX).zip(totals) {
+        if let Some(fullness) = total.fullness() {
             uses.push(TileUse {
                 fullness: Reverse(fullness),
                 tile_edge,

@@ -1,7 +1,6 @@
 //! Cuts round single tiles.
 
 use crate::regions::ends_of;
-use crate::spread_nets::{MOST_ENDS, SpreadNet};
 use crate::tile_use::TileTotal;
 use crate::tile_view::TileView;
 use grid_base::NoMemory;
@@ -16,16 +15,15 @@ struct TileCuts {
 impl TileCuts {
     /// The cuts of all tiles of a view.
     fn of(alloc: Global, view: &TileView) -> Result<TileCuts, NoMemory> {
-        let tiles = view.size.cols() * view.size.rows();
         let mut cuts = TileCuts {
-            totals: vec![in alloc; TileTotal::NONE; tiles as usize]?,
+            totals: vec![in alloc; TileTotal::NONE; view.tiles() as usize]?,
         };
-        for tile_edge in 0..2 * tiles {
+        for (tile_edge, total) in (0..u32::MAX).zip(view.totals.iter()) {
             let (start, end) = ends_of(view.size, tile_edge);
-            cuts.add(start, 0, view.capacity(tile_edge));
-            cuts.add(end, 0, view.capacity(tile_edge));
+            cuts.add(start, 0, total.capacity);
+            cuts.add(end, 0, total.capacity);
         }
-        cuts.add_nets(view.nets.as_slice());
+        cuts.add_nets(view);
         Ok(cuts)
     }
 
@@ -36,20 +34,17 @@ impl TileCuts {
         }
     }
 
-    /// Adds nets.
-    fn add_nets(&mut self, nets: &[SpreadNet]) {
-        for net in nets {
-            self.add_net(net);
+    /// Adds the nets of a view.
+    fn add_nets(&mut self, view: &TileView) {
+        for net in view.nets.list() {
+            self.add_net(view.nets.tiles_of(*net), net.demand);
         }
     }
 
     /// Adds a net, which leaves each of its tiles.
-    fn add_net(&mut self, net: &SpreadNet) {
-        for end in 0..MOST_ENDS {
-            let tile = net.tiles[end];
-            if !net.tiles[..end].contains(&tile) {
-                self.add(tile, net.demand, 0);
-            }
+    fn add_net(&mut self, tiles: &[u32], demand: u64) {
+        for tile in tiles {
+            self.add(*tile, demand, 0);
         }
     }
 
@@ -63,14 +58,17 @@ impl TileCuts {
 }
 
 /// For each open tile edge the fuller one of the cuts round its two tiles, and nothing for the others.
-pub(crate) fn fuller_cuts(alloc: Global, view: &TileView) -> Result<Vec<TileTotal>, NoMemory> {
+pub fn fuller_cuts(alloc: Global, view: &TileView) -> Result<Vec<TileTotal>, NoMemory> {
     let cuts = TileCuts::of(alloc, view)?;
     let mut fuller = Vec::new(alloc);
-    for tile_edge in 0..2 * (view.size.cols() * view.size.rows()) {
+    for (tile_edge, total) in (0..u32::MAX).zip(view.totals.iter()) {
         let (start, end) = ends_of(view.size, tile_edge);
         let cut = cuts.get(start).fuller(cuts.get(end));
-        let is_open = view.capacity(tile_edge) > 0;
-        fuller.push(if is_open { cut } else { TileTotal::NONE })?;
+        fuller.push(if total.is_open() {
+            cut
+        } else {
+            TileTotal::NONE
+        })?;
     }
     Ok(fuller)
 }

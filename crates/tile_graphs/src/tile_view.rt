@@ -1,6 +1,6 @@
 //! Designs seen from above.
 
-use crate::spread_nets::{SpreadNet, spread_nets};
+use crate::tile_nets::TileNets;
 use crate::tile_use::{TileTotal, tile_totals};
 use grid_base::{NoMemory, Size};
 use grid_graph::Design;
@@ -8,12 +8,11 @@ use std::alloc::Global;
 
 /// A design without its layers, and the loads of its routes.
 #[derive(Drop)]
-pub(crate) struct TileView {
+pub struct TileView {
     pub size: Size,
     /// By the numbers of the tile edges.
     pub totals: Vec<TileTotal>,
-    /// The nets that are not in one tile.
-    pub nets: Vec<SpreadNet>,
+    pub nets: TileNets,
 }
 
 impl TileView {
@@ -22,14 +21,12 @@ impl TileView {
         Ok(TileView {
             size: design.grid.size(),
             totals: tile_totals(alloc, &design.grid, loads)?,
-            nets: spread_nets(alloc, design)?,
+            nets: TileNets::of(alloc, design)?,
         })
     }
 
-    /// What the edges over a tile edge can carry.
-    pub fn capacity(&self, tile_edge: u32) -> u64 {
-        self.totals
-            .get(tile_edge as usize)
-            .map_or(0, |total| total.capacity)
+    /// How many tiles there are.
+    pub fn tiles(&self) -> u32 {
+        self.size.cols() * self.size.rows()
     }
 }

@@ -1,63 +1,48 @@
 //! Nets in bundles.
 
-use crate::spread_nets::MOST_ENDS;
+use crate::ends::Ends;
 use grid_base::NoMemory;
 use std::alloc::Global;
-
-/// Stands for no node.
-pub(crate) const NO_NODE: u32 = u32::MAX;
 
 /// No bundle of two nets or more has much more than this part of all demands.
 const PARTS: u64 = 1000;
 
-/// The nodes of a net, each once and in rising order, and then `NO_NODE`.
-#[derive(Debug, Drop, Clone, Copy, PartialEq, Eq, PartialOrd, Ord)]
-pub(crate) struct Ends {
-    pub nodes: [u32; MOST_ENDS],
-}
-
-impl Ends {
-    /// No nodes.
-    pub const NONE: Ends = Ends {
-        nodes: [NO_NODE; MOST_ENDS],
-    };
-
-    /// With one node more, where it is new and there is room.
-    pub fn with(self, node: u32) -> Ends {
-        let mut nodes = self.nodes;
-        for place in 0..MOST_ENDS {
-            if nodes[place] == node {
-                return self;
-            }
-            if nodes[place] == NO_NODE {
-                nodes[place] = node;
-                nodes.sort_unstable();
-                return Ends { nodes };
-            }
-        }
-        self
-    }
-
-    /// Whether there are two nodes at least.
-    pub fn are_apart(self) -> bool {
-        self.nodes[1] != NO_NODE
-    }
-}
-
 /// Nets with the same ends, and what they use together of an edge.
 #[derive(Debug, Drop, Clone, Copy, PartialEq, Eq, PartialOrd, Ord)]
-pub(crate) struct Bundle {
+pub struct Bundle {
     pub ends: Ends,
     pub demand: u64,
 }
 
 /// What all bundles use together.
-pub(crate) fn total_demand(bundles: &[Bundle]) -> u64 {
+pub fn total_demand(bundles: &[Bundle]) -> u64 {
     let mut total: u64 = 0;
     for bundle in bundles {
         total = total.saturating_add(bundle.demand);
     }
     total
+}
+
+/// The most sets of ends that a bundle has.
+pub fn most_sets(bundles: &[Bundle]) -> u32 {
+    let mut most = 0;
+    for bundle in bundles {
+        most = most.max(bundle.ends.sets());
+    }
+    most
+}
+
+/// How often least trees of the bundles look at links, of which there are so many, and at labels of so many nodes, where they
+/// look at each link once for each set of ends.
+pub(crate) fn looks_of(bundles: &[Bundle], links: u64, nodes: u64) -> u64 {
+    let mut looks: u64 = 0;
+    for bundle in bundles {
+        let sets = u64::from(bundle.ends.sets());
+        let of_labels = nodes.saturating_mul(sets / 4);
+        let of_set = links.saturating_add(of_labels);
+        looks = looks.saturating_add(sets.saturating_mul(of_set));
+    }
+    looks
 }
 
 /// Neighbours with the same ends in one bundle, as long as it is small.

@@ -1,10 +1,9 @@
 //! The graph of regions and of the hot tile edges between them.
 
-use crate::bundles::{Bundle, Ends};
-use crate::part::{Link, Part};
+use crate::bundles::Bundle;
+use crate::ends::Ends;
+use crate::part::Part;
 use crate::regions::{ends_of, regions_of, touching_regions};
-use crate::spread_nets::{MOST_ENDS, SpreadNet};
-use crate::tile_use::TileUse;
 use crate::tile_view::TileView;
 use grid_base::{NoMemory, Size};
 use std::alloc::Global;
@@ -32,44 +31,43 @@ impl Node {
     }
 }
 
-/// What is left of the tiles where all but the hottest tile edges cost nothing: each region is a node.
+/// What is left of the tiles where all but the hot tile edges cost nothing: each region is a node.
 ///
 /// What nets cost at least stays the same, since a way inside a region costs nothing. Without the outside, which is the region
 /// of the most tiles, the graph falls apart: what a net costs is the sum of what it costs in each part.
 #[derive(Drop)]
-pub(crate) struct Contraction {
+pub struct Contraction {
     pub parts: Vec<Part>,
     nodes: Vec<Node>,
 }
 
 impl Contraction {
-    /// Contracts all open tile edges but the first `count`. The links are those of the first that lie between two regions: the
+    /// Contracts all open tile edges but the hot ones. The links are those of the hot ones that lie between two regions: the
     /// others can be gone around.
-    pub fn of(
-        alloc: Global,
-        view: &TileView,
-        uses: &[TileUse],
-        count: usize,
-    ) -> Result<Contraction, NoMemory> {
-        let mut contraction = Contraction::without_links(alloc, view.size, uses, count)?;
-        for hot in uses.iter().take(count) {
-            contraction.link(view, *hot)?;
+    pub fn of(alloc: Global, view: &TileView, are_hot: &[bool]) -> Result<Contraction, NoMemory> {
+        let mut contraction = Contraction::without_links(alloc, view, are_hot)?;
+        for (tile_edge, is_hot) in (0..u32::MAX).zip(are_hot) {
+            if *is_hot {
+                contraction.link(view.size, tile_edge)?;
+            }
         }
-        contraction.bring(view.nets.as_slice())?;
+        for part in contraction.parts.iter_mut() {
+            part.make_links(view.totals.as_slice())?;
+        }
+        contraction.bring_nets(alloc, view)?;
         Ok(contraction)
     }
 
     /// The parts with their nodes. What stands for a region, or for a part, is its lowest tile, which so comes first.
     fn without_links(
         alloc: Global,
-        size: Size,
-        uses: &[TileUse],
-        count: usize,
+        view: &TileView,
+        are_hot: &[bool],
     ) -> Result<Contraction, NoMemory> {
-        let tiles = size.cols() * size.rows();
-        let mut regions = regions_of(alloc, size, uses, count)?;
+        let tiles = view.tiles();
+        let mut regions = regions_of(alloc, view, are_hot)?;
         let outside = regions.greatest(alloc, tiles)?;
-        let mut touching = touching_regions(alloc, size, uses, count, &mut regions, outside)?;
+        let mut touching = touching_regions(alloc, view, are_hot, &mut regions, outside)?;
         let mut contraction = Contraction {
             parts: Vec::new(alloc),
             nodes: vec![in alloc; Node::OUTSIDE; tiles as usize]?,
@@ -86,20 +84,23 @@ impl Contraction {
     }
 
     /// Brings the nets into the parts in which they have ends.
-    fn bring(&mut self, nets: &[SpreadNet]) -> Result<(), NoMemory> {
-        for net in nets {
-            self.bring_net(net)?;
+    fn bring_nets(&mut self, alloc: Global, view: &TileView) -> Result<(), NoMemory> {
+        let mut nodes = Vec::new(alloc);
+        for net in view.nets.list() {
+            self.find_nodes(view.nets.tiles_of(*net), &mut nodes)?;
+            self.bring_net(nodes.as_slice(), net.demand)?;
         }
         Ok(())
     }
 
     /// Brings a net once into each part that one of its nodes is in.
-    fn bring_net(&mut self, net: &SpreadNet) -> Result<(), NoMemory> {
-        let nodes = self.nodes_of(net);
-        for end in 0..MOST_ENDS {
-            let part = nodes[end].part;
-            if !has_part(&nodes[..end], part) {
-                self.add_net(nodes, part, net.demand)?;
+    fn bring_net(&mut self, nodes: &[Node], demand: u64) -> Result<(), NoMemory> {
+        for (place, node) in nodes.iter().enumerate() {
+            if !has_part(nodes, place, node.part)
+                && let Some(part) = self.parts.get_mut(node.part as usize)
+            {
+                let ends = ends_in(nodes, node.part);
+                part.add_net(Bundle { ends, demand })?;
             }
         }
         Ok(())
@@ -129,47 +130,27 @@ impl Contraction {
     }
 
     /// Adds a tile edge where it lies between two regions.
-    fn link(&mut self, view: &TileView, hot: TileUse) -> Result<(), NoMemory> {
-        let (start, end) = ends_of(view.size, hot.tile_edge);
+    fn link(&mut self, size: Size, tile_edge: u32) -> Result<(), NoMemory> {
+        let (start, end) = ends_of(size, tile_edge);
         let (one, other) = (self.node_of(start), self.node_of(end));
         if one != other
             && let Some(part) = self.parts.get_mut(one.part.min(other.part) as usize)
         {
-            part.links.push(Link {
-                one: one.number,
-                other: other.number,
-                tile_edge: hot.tile_edge,
-                capacity: view.capacity(hot.tile_edge),
-                is_overfull: hot.is_overfull(),
-            })?;
+            part.add_edge(one.number, other.number, tile_edge)?;
         }
         Ok(())
     }
 
-    /// Adds a net with these nodes to a part, if it is one, and the net leaves its node there.
-    fn add_net(
-        &mut self,
-        nodes: [Node; MOST_ENDS],
-        part: u32,
-        demand: u64,
-    ) -> Result<(), NoMemory> {
-        let mut ends = Ends::NONE;
-        for node in nodes {
-            ends = ends.with(node.number_in(part));
-        }
-        if let Some(part) = self.parts.get_mut(part as usize) {
-            part.add_net(Bundle { ends, demand })?;
+    /// Makes a list of the nodes of tiles, each once.
+    fn find_nodes(&self, tiles: &[u32], nodes: &mut Vec<Node>) -> Result<(), NoMemory> {
+        nodes.clear();
+        for tile in tiles {
+            let node = self.node_of(*tile);
+            if !nodes.contains(&node) {
+                nodes.push(node)?;
+            }
         }
         Ok(())
-    }
-
-    /// The nodes of a net's tiles.
-    fn nodes_of(&self, net: &SpreadNet) -> [Node; MOST_ENDS] {
-        let mut nodes = [Node::OUTSIDE; MOST_ENDS];
-        for end in 0..MOST_ENDS {
-            nodes[end] = self.node_of(net.tiles[end]);
-        }
-        nodes
     }
 
     /// The node of a tile's region.
@@ -187,9 +168,18 @@ impl Contraction {
     }
 }
 
-/// Whether one of the nodes is in a part.
-fn has_part(nodes: &[Node], part: u32) -> bool {
+/// The ends that a net with these nodes has in a part, where all nodes of other parts are the outside.
+fn ends_in(nodes: &[Node], part: u32) -> Ends {
+    let mut ends = Ends::NONE;
     for node in nodes {
+        ends = ends.with(node.number_in(part));
+    }
+    ends
+}
+
+/// Whether one of the nodes before a place is in a part.
+fn has_part(nodes: &[Node], place: usize, part: u32) -> bool {
+    for node in nodes.iter().take(place) {
         if node.part == part {
             return true;
         }

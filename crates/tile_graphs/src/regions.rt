@@ -1,6 +1,6 @@
 //! Regions of tiles.
 
-use crate::tile_use::TileUse;
+use crate::tile_view::TileView;
 use grid_base::{Axis, Edge, NoMemory, Size};
 use groups::Groups;
 use std::alloc::Global;
@@ -12,6 +12,12 @@ pub(crate) struct Regions {
 }
 
 impl Regions {
+    /// Each tile is a region.
+    pub fn single(alloc: Global, size: Size) -> Result<Regions, NoMemory> {
+        let groups = Groups::single(alloc, (size.cols() * size.rows()) as usize)?;
+        Ok(Regions { groups })
+    }
+
     /// The tile that stands for a region: that of one of its tiles, which is its lowest.
     pub fn find(&mut self, tile: u32) -> u32 {
         if (tile as usize) < self.groups.parents.len() {
@@ -33,46 +39,51 @@ impl Regions {
     }
 
     /// Makes one region of those of two tiles.
-    fn join(&mut self, one: u32, other: u32) {
+    pub fn join(&mut self, one: u32, other: u32) {
         let tiles = self.groups.parents.len();
         if (one as usize) < tiles && (other as usize) < tiles {
             self.groups.unite(one as usize, other as usize);
         }
     }
+
+    /// Makes one region of two, if none is the outside.
+    fn join_inside(&mut self, one: u32, other: u32, outside: u32) {
+        if one != outside && other != outside {
+            self.join(one, other);
+        }
+    }
 }
 
-/// The regions that all open tile edges but the first `count` make.
+/// The regions that all open tile edges but the hot ones make.
 pub(crate) fn regions_of(
     alloc: Global,
-    size: Size,
-    uses: &[TileUse],
-    count: usize,
+    view: &TileView,
+    are_hot: &[bool],
 ) -> Result<Regions, NoMemory> {
-    let groups = Groups::single(alloc, (size.cols() * size.rows()) as usize)?;
-    let mut regions = Regions { groups };
-    for cold in uses.iter().skip(count) {
-        let (start, end) = ends_of(size, cold.tile_edge);
-        regions.join(start, end);
+    let mut regions = Regions::single(alloc, view.size)?;
+    for ((tile_edge, total), is_hot) in (0..u32::MAX).zip(view.totals.iter()).zip(are_hot) {
+        if total.is_open() && !*is_hot {
+            let (start, end) = ends_of(view.size, tile_edge);
+            regions.join(start, end);
+        }
     }
     Ok(regions)
 }
 
-/// The regions in sets of those that the first `count` tile edges join without the outside.
+/// The regions in sets of those that the hot tile edges join without the outside.
 pub(crate) fn touching_regions(
     alloc: Global,
-    size: Size,
-    uses: &[TileUse],
-    count: usize,
+    view: &TileView,
+    are_hot: &[bool],
     regions: &mut Regions,
     outside: u32,
 ) -> Result<Regions, NoMemory> {
-    let groups = Groups::single(alloc, (size.cols() * size.rows()) as usize)?;
-    let mut touching = Regions { groups };
-    for hot in uses.iter().take(count) {
-        let (start, end) = ends_of(size, hot.tile_edge);
-        let (one, other) = (regions.find(start), regions.find(end));
-        if one != outside && other != outside {
-            touching.join(one, other);
+    let mut touching = Regions::single(alloc, view.size)?;
+    for (tile_edge, is_hot) in (0..u32::MAX).zip(are_hot) {
+        let (start, end) = ends_of(view.size, tile_edge);
+        if *is_hot {
+            let (one, other) = (regions.find(start), regions.find(end));
+            touching.join_inside(one, other, outside);
         }
     }
     Ok(touching)

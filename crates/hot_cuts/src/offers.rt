@@ -1,0 +1,140 @@
+//! Prices that are offered, with what they prove.
+
+use crate::estimate::Estimate;
+use grid_base::NoMemory;
+use std::alloc::Global;
+use std::cmp::Reverse;
+use tile_graphs::{Part, TileTotal};
+
+/// The price of a tile edge.
+#[derive(Debug, Drop, Clone, Copy, PartialEq, Eq)]
+pub(crate) struct TilePrice {
+    pub tile_edge: u32,
+    pub price: u32,
+}
+
+/// Prices of tile edges above 0, with what they prove.
+#[derive(Drop)]
+pub(crate) struct Offer {
+    pub prices: Vec<TilePrice>,
+    pub estimate: Estimate,
+}
+
+impl Offer {
+    /// No prices.
+    pub fn none(alloc: Global) -> Offer {
+        Offer {
+            prices: Vec::new(alloc),
+            estimate: Estimate::NONE,
+        }
+    }
+
+    /// Prices of the links of a part.
+    pub fn of(
+        alloc: Global,
+        part: &Part,
+        prices: &[u64],
+        estimate: Estimate,
+    ) -> Result<Offer, NoMemory> {
+        let mut offered = Vec::new(alloc);
+        for edge in part.edges.iter() {
+            let price = prices.get(edge.link as usize).copied().unwrap_or(0);
+            let tile_edge = edge.tile_edge;
+            let price = u32::try_from(price).unwrap_or(0);
+            if price > 0 {
+                offered.push(TilePrice { tile_edge, price })?;
+            }
+        }
+        Ok(Offer {
+            prices: offered,
+            estimate,
+        })
+    }
+
+    /// Adds the prices of another place.
+    pub fn add(&mut self, other: &Offer) -> Result<(), NoMemory> {
+        self.prices.extend_from_slice(other.prices.as_slice())?;
+        self.estimate.add(other.estimate);
+        Ok(())
+    }
+
+    /// Whether none of the marked tile edges has a price.
+    fn is_apart(&self, marks: &[bool]) -> bool {
+        for priced in self.prices.iter() {
+            let mark = marks.get(priced.tile_edge as usize);
+            if mark.copied().unwrap_or(true) {
+                return false;
+            }
+        }
+        true
+    }
+
+    /// Marks the tile edges that have a price.
+    pub fn mark(&self, marks: &mut [bool]) {
+        for priced in self.prices.iter() {
+            if let Some(mark) = marks.get_mut(priced.tile_edge as usize) {
+                *mark = true;
+            }
+        }
+    }
+
+    /// By how much routes overfill the tile edges that have a price, of which these are the totals.
+    pub fn most_excess(&self, totals: &[TileTotal]) -> u64 {
+        let mut most: u64 = 0;
+        for priced in self.prices.iter() {
+            let total = totals.get(priced.tile_edge as usize).copied();
+            most = most.saturating_add(total.unwrap_or(TileTotal::NONE).excess());
+        }
+        most
+    }
+}
+
+/// Prices of tile edges by the numbers of these, which are so many.
+pub(crate) fn by_tile_edges(
+    alloc: Global,
+    prices: &[TilePrice],
+    count: usize,
+) -> Result<Vec<u32>, NoMemory> {
+    let mut tile_prices = vec![in alloc; 0u32; count]?;
+    for priced in prices {
+        if let Some(price) = tile_prices.get_mut(priced.tile_edge as usize) {
+            *price = priced.price;
+        }
+    }
+    Ok(tile_prices)
+}
+
+/// The best offers that price none of the tile edges that a better one prices. What they prove of the overflow adds up.
+pub(crate) fn joined(alloc: Global, offers: &[Offer], count: usize) -> Result<Offer, NoMemory> {
+    let mut all = Offer::none(alloc);
+    let mut marks = vec![in alloc; false; count]?;
+    for standing in standings(alloc, offers)? {
+        if let Some(offer) = offers.get(standing.place)
+            && offer.is_apart(marks.as_slice())
+        {
+            offer.mark(marks.as_mut_slice());
+            all.add(offer)?;
+        }
+    }
+    Ok(all)
+}
+
+/// Where an offer is in a list. The one that proves the most overflow comes first.
+#[derive(Debug, Drop, Clone, Copy, PartialEq, Eq, PartialOrd, Ord)]
+struct Standing {
+    excess: Reverse<u128>,
+    place: usize,
+}
+
+/// The places of the offers in order.
+fn standings(alloc: Global, offers: &[Offer]) -> Result<Vec<Standing>, NoMemory> {
+    let mut standings = Vec::new(alloc);
+    for (place, offer) in offers.iter().enumerate() {
+        standings.push(Standing {
+            excess: Reverse(offer.estimate.excess()),
+            place,
+        })?;
+    }
+    standings.sort_unstable();
+    Ok(standings)
+}

@@ -1,0 +1,53 @@
+//! The nodes that a net has to join.
+
+/// Stands for no node.
+const NO_NODE: u32 = u32::MAX;
+
+/// So many nodes of a net are looked at: by so many it is found what a net costs at least.
+pub const MOST_ENDS: usize = 8;
+
+/// The nodes of a net, each once and in rising order, and then `NO_NODE`.
+#[derive(Debug, Drop, Clone, Copy, PartialEq, Eq, PartialOrd, Ord)]
+pub struct Ends {
+    pub nodes: [u32; MOST_ENDS],
+}
+
+impl Ends {
+    /// No nodes.
+    pub const NONE: Ends = Ends {
+        nodes: [NO_NODE; MOST_ENDS],
+    };
+
+    /// With one node more, where it is new and there is room.
+    pub fn with(self, node: u32) -> Ends {
+        let mut nodes = self.nodes;
+        for place in 0..MOST_ENDS {
+            if nodes[place] == node {
+                return self;
+            }
+            if nodes[place] == NO_NODE {
+                nodes[place] = node;
+                nodes.sort_unstable();
+                return Ends { nodes };
+            }
+        }
+        self
+    }
+
+    /// Whether there are two nodes at least.
+    pub fn are_apart(self) -> bool {
+        self.nodes[1] != NO_NODE
+    }
+
+    /// How many sets there are of the nodes but the first one.
+    pub fn sets(self) -> u32 {
+        let mut sets: u32 = 1;
+        for place in 1..MOST_ENDS {
+            if self.nodes[place] == NO_NODE {
+                return sets;
+            }
+            sets = sets.saturating_mul(2);
+        }
+        sets
+    }
+}

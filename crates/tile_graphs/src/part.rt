@@ -1,0 +1,159 @@
+//! Parts of the graph of regions.
+
+use crate::bundles::{Bundle, looks_of, merged};
+use crate::tile_use::TileTotal;
+use grid_base::NoMemory;
+use std::alloc::Global;
+
+/// A hot tile edge between two regions, which are given by their numbers as nodes, the lower one first, and the number of its
+/// link.
+#[derive(Debug, Drop, Clone, Copy, PartialEq, Eq, PartialOrd, Ord)]
+pub struct HotEdge {
+    one: u32,
+    other: u32,
+    pub tile_edge: u32,
+    pub link: u32,
+}
+
+/// All hot tile edges between two regions.
+#[derive(Debug, Drop, Clone, Copy, PartialEq, Eq)]
+pub struct Link {
+    pub one: u32,
+    pub other: u32,
+    pub total: TileTotal,
+}
+
+/// Nodes that hot tile edges join without the outside, with the outside as node 0, and the nets that have ends there.
+#[derive(Drop)]
+pub struct Part {
+    pub nodes: u32,
+    pub links: Vec<Link>,
+    pub edges: Vec<HotEdge>,
+    nets: Vec<Bundle>,
+}
+
+impl Part {
+    /// The outside alone.
+    pub fn new(alloc: Global) -> Part {
+        Part {
+            nodes: 1,
+            links: Vec::new(alloc),
+            edges: Vec::new(alloc),
+            nets: Vec::new(alloc),
+        }
+    }
+
+    /// The number of one node more.
+    pub fn add_node(&mut self) -> u32 {
+        let node = self.nodes;
+        self.nodes = node.saturating_add(1);
+        node
+    }
+
+    /// Adds a tile edge between two nodes, which is in no link so far.
+    pub fn add_edge(&mut self, one: u32, other: u32, tile_edge: u32) -> Result<(), NoMemory> {
+        self.edges.push(HotEdge {
+            one: one.min(other),
+            other: one.max(other),
+            tile_edge,
+            link: 0,
+        })?;
+        Ok(())
+    }
+
+    /// Adds a net that has two ends at least.
+    pub fn add_net(&mut self, net: Bundle) -> Result<(), NoMemory> {
+        if net.ends.are_apart() {
+            self.nets.push(net)?;
+        }
+        Ok(())
+    }
+
+    /// Makes the links of the tile edges, of which these are the totals.
+    pub fn make_links(&mut self, totals: &[TileTotal]) -> Result<(), NoMemory> {
+        self.edges.sort_unstable();
+        for edge in self.edges.iter_mut() {
+            let total = totals.get(edge.tile_edge as usize).copied();
+            add_to_links(&mut self.links, *edge, total.unwrap_or(TileTotal::NONE))?;
+            let last = self.links.len().saturating_sub(1);
+            edge.link = u32::try_from(last).unwrap_or(0);
+        }
+        Ok(())
+    }
+
+    /// The nets in bundles.
+    pub fn bundles(&mut self, alloc: Global) -> Result<Vec<Bundle>, NoMemory> {
+        self.nets.sort_unstable();
+        merged(alloc, self.nets.as_slice())
+    }
+
+    /// How often a round of the bundles looks at links and labels.
+    pub fn looks(&self, bundles: &[Bundle]) -> u64 {
+        looks_of(bundles, self.links.len() as u64, u64::from(self.nodes))
+    }
+
+    /// Whether routes fill a link more than at a level, or nothing is known of routes. Else no prices prove more than the level.
+    pub fn may_be_fuller(&self, level: u64) -> bool {
+        let mut is_unused = true;
+        for link in self.links.iter() {
+            if link.total.is_fuller(level) {
+                return true;
+            }
+            is_unused &= link.total.load == 0;
+        }
+        is_unused
+    }
+
+    /// By how much routes overfill the links.
+    pub fn excess(&self) -> u64 {
+        let mut excess: u64 = 0;
+        for link in self.links.iter() {
+            excess = excess.saturating_add(link.total.excess());
+        }
+        excess
+    }
+
+    /// By how much routes overfill the tile edges that are not settled.
+    pub fn open_excess(&self, totals: &[TileTotal], are_settled: &[bool]) -> u64 {
+        let mut open: u64 = 0;
+        for edge in self.edges.iter() {
+            let place = edge.tile_edge as usize;
+            let total = totals.get(place).copied().unwrap_or(TileTotal::NONE);
+            if !are_settled.get(place).copied().unwrap_or(true) {
+                open = open.saturating_add(total.excess());
+            }
+        }
+        open
+    }
+
+    /// For each link the greatest of these prices of its tile edges.
+    pub fn prices_of(&self, alloc: Global, tile_prices: &[u32]) -> Result<Vec<u64>, NoMemory> {
+        let mut prices = vec![in alloc; 0u64; self.links.len()]?;
+        for edge in self.edges.iter() {
+            let tile_price = tile_prices.get(edge.tile_edge as usize).copied();
+            if let Some(price) = prices.get_mut(edge.link as usize) {
+                *price = (*price).max(u64::from(tile_price.unwrap_or(0)));
+            }
+        }
+        Ok(prices)
+    }
+}
+
+/// Adds a tile edge to the last link, or to a new one where that joins other nodes.
+fn add_to_links(links: &mut Vec<Link>, edge: HotEdge, total: TileTotal) -> Result<(), NoMemory> {
+    let is_joined = match links.last() {
+        Some(link) => link.one == edge.one && link.other == edge.other,
+        None => false,
+    };
+    if !is_joined {
+        links.push(Link {
+            one: edge.one,
+            other: edge.other,
+            total: TileTotal::NONE,
+        })?;
+    }
+    if let Some(link) = links.last_mut() {
+        link.total = link.total.with(total.load, total.capacity);
+    }
+    Ok(())
+}

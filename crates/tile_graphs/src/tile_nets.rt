@@ -1,0 +1,87 @@
+//! Nets by their tiles.
+
+ghost use Rattle.std.specs.Prelude.{◌<◌, length};
+
+use grid_base::{Edge, NoMemory};
+use grid_graph::Design;
+use std::alloc::Global;
+
+/// Which of all tiles are those of a net, and what the net uses of an edge.
+#[derive(Debug, Drop, Clone, Copy, PartialEq, Eq)]
+pub struct TileNet {
+    first: usize,
+    past: usize,
+    pub demand: u64,
+}
+
+/// The nets of a design that are not in one tile, each with the tiles of all its terminals.
+#[derive(Drop)]
+pub struct TileNets {
+    tiles: Vec<u32>,
+    nets: Vec<TileNet>,
+}
+
+impl TileNets {
+    /// The nets of a design.
+    pub fn of(alloc: Global, design: &Design) -> Result<TileNets, NoMemory> {
+        let mut nets = TileNets {
+            tiles: Vec::new(alloc),
+            nets: Vec::new(alloc),
+        };
+        for place in 0..design.nets.list().len() {
+            nets.add(alloc, design, place)?;
+        }
+        Ok(nets)
+    }
+
+    /// The nets.
+    pub fn list(&self) -> &[TileNet] {
+        self.nets.as_slice()
+    }
+
+    /// The tiles of a net, each once.
+    pub fn tiles_of(&self, net: TileNet) -> &[u32] {
+        match self.tiles.as_slice().get(net.first..net.past) {
+            Some(tiles) => tiles,
+            None => &[],
+        }
+    }
+
+    /// Adds the net at a place, if it has two tiles at least.
+    fn add(&mut self, alloc: Global, design: &Design, place: usize) -> Result<(), NoMemory>
+        requires { place < length design.now.nets }
+    {
+        let tiles = tiles_of_net(alloc, design, place)?;
+        if tiles.len() > 1 {
+            let first = self.tiles.len();
+            self.tiles.extend_from_slice(tiles.as_slice())?;
+            self.nets.push(TileNet {
+                first,
+                past: self.tiles.len(),
+                demand: u64::from(demand_of_net(design, place)),
+            })?;
+        }
+        Ok(())
+    }
+}
+
+/// The tiles of the net at a place, each once and in rising order.
+fn tiles_of_net(alloc: Global, design: &Design, place: usize) -> Result<Vec<u32>, NoMemory>
+    requires { place < length design.now.nets }
+{
+    let size = design.grid.size();
+    let mut tiles = Vec::new(alloc);
+    for terminal in design.nets.list()[place].terminals.list() {
+        tiles.push(terminal.0 % (size.cols() * size.rows()))?;
+    }
+    tiles.sort_unstable();
+    tiles.dedup();
+    Ok(tiles)
+}
+
+/// What the net at a place uses of an edge of the lowest layer.
+fn demand_of_net(design: &Design, place: usize) -> u32
+    requires { place < length design.now.nets }
+{
+    design.grid.demand(design.nets.list()[place].width, Edge(0))
+}
