@@ -23,4 +23,6 @@ mod settings;
 #[cfg(test)]
 mod share_tests;
 #[cfg(test)]
+mod shown_tests;
+#[cfg(test)]
 mod worker_tests;

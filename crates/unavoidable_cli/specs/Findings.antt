@@ -14,6 +14,7 @@ use Rattle.grid_base.specs.declared.piece.Piece.{Piece}
 use Rattle.grid_graph.specs.declared.design.Design.{Design}
 use Rattle.grid_graph.specs.declared.ground.Ground.{Ground}
 use Rattle.judge_laws.specs.OpenPrices.{with_prices}
+use Rattle.overflow_bounds.specs.Shown.{IsNoneOrShownByWires}
 use Rattle.route_judge.specs.Bounds.{IsAtMostFound}
 use Rattle.route_judge.specs.Judgements.{IsJudged, StatesBound}
 use Rattle.route_judge.specs.NetSets.{AreSetsOf}
@@ -56,9 +57,25 @@ IsSameOrBetter d old new edges least = (new ≡ old) × (edges ≡ []) ⊎ IsBet
 
 -- ---- the least overflow
 
+-- a price list shows so much overflow: by the net bounds, or by numbers that are at most what the routes of each net cost, and by
+-- whole units of what nets use
+abbrev pub ShowsLeast : Design → List ℕ → ℕ → Type 0
+ShowsLeast d prices least = ShowsOverflow d prices least ⊎ IsNoneOrShownByWires d prices least
+
+-- and it shows no more by the net bounds
+abbrev pub ShowsNoMoreByBounds : Design → List ℕ → ℕ → Type 0
+ShowsNoMoreByBounds d prices least = (shown : ℕ) × ShowsOverflow d prices shown × (shown ≤ least)
+
+-- a price list prices these edges, and shows so much overflow in one of these ways, and no more by the net bounds
+pub record IsCut (d : Design) (prices : List ℕ) (edges : List PricedEdge) (least : ℕ) : Type 0 where
+  pub are_prices : AreEdgePrices d.grid prices
+  pub edges_are : edges ≡ priced_edges d.grid prices
+  pub shows : ShowsLeast d prices least
+  pub no_more : ShowsNoMoreByBounds d prices least
+
 -- a price list that prices these edges shows so much overflow, which is some; or none is shown, and no edges are named
 abbrev pub IsNoneOrShown : Design → ℕ → List PricedEdge → Type 0
-IsNoneOrShown d least edges = (least ≡ 0) × (edges ≡ []) ⊎ (0 < least) × ((prices : List ℕ) × IsPricing d prices edges least)
+IsNoneOrShown d least edges = (least ≡ 0) × (edges ≡ []) ⊎ (0 < least) × ((prices : List ℕ) × IsCut d prices edges least)
 
 -- no routing of whole routes, each on its net's ground, has less overflow; routes that go beyond their grounds may have less
 abbrev pub IsUnavoidable : Design → ℕ → Type 0

@@ -9,7 +9,7 @@
 --   Report          the report, and
 --   PricedEdges     its lines for edges
 -- and in the crates below: `CommandRun` of `command_runs` for what a run leaves on each status, which is the same for every command,
--- `Refusals`, `Traces` and `Outputs` there for its words, and `LeastOverflow` of `dual_bound` for what a price list shows.
+-- `Refusals`, `Traces` and `Outputs` there for its words, and `LeastOverflow` and `WholeWires` of `dual_bound` and `Shown` of `overflow_bounds` for what a price list shows.
 use Rattle.std.specs.Prelude.{◌≡◌, ℕ, List, [], map, string_bytes, true, false}
 use Rattle.std.specs.declared.string.String.{String}
 use Rattle.gr_desk.specs.Told.{Told}

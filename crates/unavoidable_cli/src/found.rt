@@ -8,13 +8,14 @@ ghost use Rattle.route_judge.specs.Judgements.{IsJudged, StatesBound};
 ghost use Rattle.route_judge.specs.Limits.{AreBlocks};
 ghost use Rattle.route_judge.specs.Orders.{AreRoutes};
 ghost use Rattle.unavoidable_cli.specs.Findings.{IsFinding, IsNoneOrShown, IsOverflowOfBlocks};
-ghost use Rattle.unavoidable_cli.specs.ShownLists.{IsShownList, ShowsNoLess};
+ghost use Rattle.unavoidable_cli.specs.ShownLists.{IsShownOverflow, ShowsNoLess};
 
 use crate::finding::Finding;
 use crate::improved::improve;
 use crate::price_lists::priced_edges;
 use crate::priced_edge::PricedEdge;
-use crate::shown_list::{ShownList, best_for_bound, best_for_overflow, shown_lists};
+use crate::shown_list::{best_for_bound, shown_lists};
+use crate::shown_overflow::{ShownOverflow, most_overflow};
 use cert_text::Cert;
 use command_runs::GroundedDesign;
 use grid_base::NoMemory;
@@ -46,18 +47,22 @@ fn cuts_of(
 }
 
 /// The edges whose prices show the list's overflow; none where this is 0.
-fn cut_of(alloc: Global, design: &Design, list: ShownList<'_>) -> Result<Vec<PricedEdge>, NoMemory>
-    requires { IsShownList design.now list }
-    ensures { IfOk result (λ edges. IsNoneOrShown design.now list.entry.shown.overflow edges.items) }
+fn cut_of(
+    alloc: Global,
+    design: &Design,
+    list: ShownOverflow<'_>,
+) -> Result<Vec<PricedEdge>, NoMemory>
+    requires { IsShownOverflow design.now list }
+    ensures { IfOk result (λ edges. IsNoneOrShown design.now list.entry.overflow edges.items) }
 {
-    if list.shown.overflow == 0 {
+    if list.overflow == 0 {
         return Ok(Vec::new(alloc));
     }
     priced_edges(alloc, &design.grid, list.prices)
 }
 
 /// What two price lists show of a design, and of blocks with so much overflow and a certificate that are accepted: each list
-/// serves where it shows more.
+/// serves where it shows more, for overflow by the net bounds, by least trees of more terminals or by whole wires.
 fn finding_by<R: Threads + Sync>(
     rt: &R,
     alloc: Global,
@@ -81,14 +86,14 @@ fn finding_by<R: Threads + Sync>(
 {
     let GroundedDesign { design, grounds } = grounded;
     let (first, second) = shown_lists(rt, alloc, &design, grounds.as_slice(), cuts)?;
-    let most = best_for_overflow(first, second);
+    let most = most_overflow(alloc, &design, grounds.as_slice(), first, second)?;
     let cut = cut_of(alloc, &design, most)?;
     let better = improve(alloc, &design, cert, best_for_bound(first, second))?;
     Ok(Finding {
         design,
         new: better.cert,
         bottleneck: better.edges,
-        overflow: most.shown.overflow,
+        overflow: most.overflow,
         cut,
         routes: overflow,
     })

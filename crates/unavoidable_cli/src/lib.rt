@@ -19,7 +19,7 @@
 //! greater bound and the prices that show it, so anybody can judge it again.
 //!
 //! It stands on `command_runs` for how every run ends, on `judge_cli` and `route_judge` to read and to judge, on `hot_cuts` for
-//! price lists, on `dual_bound` for what they show, on `judge_laws` for the prices that a certificate lists and for the laws that
+//! price lists, on `dual_bound` and `overflow_bounds` for what they show, on `judge_laws` for the prices that a certificate lists and for the laws that
 //! the new one is accepted, on `route_text` and `cert_text` for texts, on `tree_set`, `edge_prices`, `grid_graph` and `grid_base`,
 //! on `command_words` for what a name of a file is, and on `gr_desk`.
 //!
@@ -43,6 +43,7 @@ mod report;
 mod routes_alone;
 mod show;
 mod shown_list;
+mod shown_overflow;
 mod top;
 mod usage;
 mod words;

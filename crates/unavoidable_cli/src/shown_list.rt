@@ -85,16 +85,3 @@ pub(crate) fn best_for_bound<'a>(first: ShownList<'a>, second: ShownList<'a>) ->
         first
     }
 }
-
-/// The list of the greater overflow.
-pub(crate) fn best_for_overflow<'a>(first: ShownList<'a>, second: ShownList<'a>) -> ShownList<'a>
-    ensures one { (result ≡ first.entry) ⊎ (result ≡ second.entry) }
-    ensures not_first { first.entry.shown.overflow ≤ result.shown.overflow }
-    ensures not_second { second.entry.shown.overflow ≤ result.shown.overflow }
-{
-    if second.shown.overflow > first.shown.overflow {
-        second
-    } else {
-        first
-    }
-}

@@ -135,6 +135,22 @@ bound 3/2;bottleneck 2;(5,5,1)-(15,5,1) 32768;(5,15,1)-(15,15,1) 32768;overflow 
 -
 grouter certificate 1;nets 3;forced 0;overflow 2;wirelength 3;peak 2/1;bound 3/2;prices 4;32768;0;0;32768;
 
+# Each of the cut's two edges has a capacity of 3, which holds one net of 2 and one more by half. Some mixture has 3 on each, and every routing of whole nets two on one of them.
+3 a.gr a.routes new.cert
+ROW 0 144 grid 2 2 1;vertical capacity 100;horizontal capacity 3;minimum width 1;minimum spacing 1;via spacing 1;0 0 10 10;num net 3;a 0 2 1;5 5 1;15 5 1;b 1 2 1;5 5 1;15 5 1;c 2 2 1;5 15 1;15 15 1;0;|a 0;(5,5,1)-(15,5,1);!;b 1;(5,5,1)-(15,5,1);!;c 2;(5,15,1)-(15,15,1);!;|
+0
+bound 1/1;bottleneck 2;(5,5,1)-(15,5,1) 32768;(5,15,1)-(15,15,1) 32768;overflow 1;cut 2;(5,5,1)-(15,5,1) 32768;(5,15,1)-(15,15,1) 32768;routes 1;
+-
+grouter certificate 1;nets 3;forced 0;overflow 1;wirelength 3;peak 4/3;bound 1/1;prices 4;32768;0;0;32768;
+
+# Five nets out of a tile whose exit has room for one, and three nets of eleven terminals in three parts, of which five terminals see two. The bound is that of the first place, and the overflow that of both.
+3 a.gr a.routes new.cert
+ROW 0 144 grid 17 2 1;vertical capacity 20;horizontal capacity 20;minimum width 1;minimum spacing 1;via spacing 1;0 0 10 10;num net 8;a 0 2 1;35 15 1;25 5 1;b 1 2 1;35 15 1;25 5 1;c 2 2 1;35 15 1;25 5 1;d 3 2 1;35 15 1;25 5 1;e 4 2 1;35 15 1;25 5 1;f 5 11 1;5 5 1;35 5 1;45 5 1;85 5 1;95 5 1;105 5 1;65 5 1;125 5 1;135 5 1;165 5 1;165 15 1;g 6 11 1;5 5 1;35 5 1;45 5 1;85 5 1;95 5 1;105 5 1;65 5 1;125 5 1;135 5 1;165 5 1;165 15 1;h 7 11 1;5 5 1;35 5 1;45 5 1;85 5 1;95 5 1;105 5 1;65 5 1;125 5 1;135 5 1;165 5 1;165 15 1;8;5 0 1 6 0 1 0;6 0 1 7 0 1 0;6 0 1 6 1 1 2;10 0 1 11 0 1 2;10 1 1 11 1 1 2;2 1 1 3 1 1 0;3 1 1 4 1 1 0;3 0 1 3 1 1 2;|a 0;(25,5,1)-(35,5,1);(35,5,1)-(35,15,1);!;b 1;(25,5,1)-(35,5,1);(35,5,1)-(35,15,1);!;c 2;(25,5,1)-(35,5,1);(35,5,1)-(35,15,1);!;d 3;(25,5,1)-(35,5,1);(35,5,1)-(35,15,1);!;e 4;(25,5,1)-(35,5,1);(35,5,1)-(35,15,1);!;f 5;(5,5,1)-(55,5,1);(75,5,1)-(165,5,1);(55,15,1)-(75,15,1);(55,5,1)-(55,15,1);(65,5,1)-(65,15,1);(75,5,1)-(75,15,1);(165,5,1)-(165,15,1);!;g 6;(5,5,1)-(55,5,1);(75,5,1)-(165,5,1);(55,15,1)-(75,15,1);(55,5,1)-(55,15,1);(65,5,1)-(65,15,1);(75,5,1)-(75,15,1);(165,5,1)-(165,15,1);!;h 7;(5,5,1)-(55,5,1);(75,5,1)-(105,5,1);(115,5,1)-(165,5,1);(55,15,1)-(75,15,1);(105,15,1)-(115,15,1);(55,5,1)-(55,15,1);(65,5,1)-(65,15,1);(75,5,1)-(75,15,1);(105,5,1)-(105,15,1);(115,5,1)-(115,15,1);(165,5,1)-(165,15,1);!;|
+0
+bound 5/1;bottleneck 1;(35,5,1)-(35,15,1) 32768;overflow 14;cut 4;(35,5,1)-(35,15,1) 32768;(65,5,1)-(65,15,1) 32768;(105,5,1)-(115,5,1) 32768;(105,15,1)-(115,15,1) 32768;routes 14;
+-
+grouter certificate 1;nets 8;forced 0;overflow 14;wirelength 72;peak 5/1;bound 5/1;prices 45;0;0;0;0;0;0;0;32768;0;0;0;0;0;0;0;0;0;0;0;0;0;0;0;0;0;0;0;0;0;0;0;0;0;0;0;0;0;0;0;0;0;0;0;0;0;
+
 # All three nets in one row, as another router may write them. Two pieces are named twice.
 3 a.gr a.routes new.cert
 CUT|c 2 7 (15,5,1) - (5,5,1) (5,5,1)-(5,15,1)(15,5,1)-(15,15,1)(5,9,1)-(5,15,1)! b 1 (0,0,1)-(20,9,1) ! a 0 (15,5,1)-(5,5,1) (5,5,1)-(15,5,1)!
