@@ -1,12 +1,13 @@
 #!/usr/bin/env python3
 """Routes a design, and times `climb` and `unavoidable` on its routes and its certificate.
 
-    bench/climb_speed.py DESIGN [--turns N ..] [--route WORD ..] [--grouter PROGRAM] [--unavoidable PROGRAM]
+    bench/climb_speed.py DESIGN [--turns N ..] [--route WORD ..] [--keep FOLDER] [--grouter PROGRAM] [--unavoidable PROGRAM]
 
 `route` runs with its default options, or with those behind --route, which come last and have a `+` for each `--` (`--route +budget
 850000 +workers 4`). Then come `climb` with each number of --turns (4 and 16) and `unavoidable`, each from the certificate of
-`route`, and `judge` has to say yes to each new certificate. It prints a line of a table for each run: the turn that is answered,
-the bound, the seconds on the clock, those of the processor in user mode, and the memory.
+`route`, and `judge` has to say yes to each new certificate. Routes and certificate go to a folder that is removed, unless --keep
+names one. It prints a line of a table for each run: the turn that is answered, the bound, the seconds on the clock, those of the
+processor in user mode, and the memory.
 """
 import argparse
 import os
@@ -33,9 +34,12 @@ def main():
     words.add_argument('--grouter', default=built('grouter'))
     words.add_argument('--unavoidable', default=built('unavoidable'))
     words.add_argument('--route', nargs='*', default=[])
+    words.add_argument('--keep')
     asked = words.parse_args()
     options = ['--' + word[1:] if word.startswith('+') else word for word in asked.route]
-    with tempfile.TemporaryDirectory() as room:
+    with tempfile.TemporaryDirectory() as removed:
+        room = asked.keep or removed
+        os.makedirs(room, exist_ok=True)
         routes, cert, new = (os.path.join(room, name) for name in ('routes', 'cert', 'new'))
         files = asked.design, routes, cert, new
         runs = [('route', (asked.grouter, 'route', *files[:3], *options))]

@@ -1,12 +1,13 @@
 #!/usr/bin/env python3
 """Runs the built `reroute` on drawn designs, and looks at all that it writes with plain counting.
 
-    tests/program/drawn_reroutes.py [COUNT [SEED [REROUTE [GROUTER]]]]
+    tests/program/drawn_reroutes.py [COUNT [SEED [REROUTE [GROUTER [UNAVOIDABLE]]]]]
 
 By hand, outside the gate: 200 designs take some minutes. Without words it draws 200 designs from seed 1, and takes the programs
 that `rt run` left in crates/*/out. Of each design it asks that
 
-- `measure` says yes to the new routes, and names the overflow and the wirelength of the report;
+- `judge` says yes to the new routes, with the certificate that `unavoidable` makes for them;
+- `measure` names the overflow and the wirelength of the report;
 - a count of the text alone, edge by edge, comes to the same;
 - four workers write the same bytes as one;
 - rerouted from poor routes, and from its own result with another seed, the routes are not worse, and the report names the given
@@ -154,7 +155,7 @@ def totals(report):
     return int(report["overflow"][0]), int(report["wirelength"][0])
 
 
-def try_design(design, room, reroute, grouter):
+def try_design(design, room, reroute, grouter, unavoidable):
     """Tries one design. Answers its wirelength and the processor seconds of the run from none."""
     here = lambda name: os.path.join(room, name)
     with open(here("in.gr"), "w", encoding="ascii") as file:
@@ -163,6 +164,8 @@ def try_design(design, room, reroute, grouter):
     counted = design.count(read(here("new")))
     same("the report", totals(report), counted)
     same("measure", totals(run(grouter, "measure", here("in.gr"), here("new"))[0]), counted)
+    run(unavoidable, here("in.gr"), here("new"), here("cert"))
+    run(grouter, "judge", here("in.gr"), here("new"), here("cert"))
     run(reroute, here("in.gr"), here("four"), "--workers", "4")
     same("the bytes of four workers", read(here("four")) == read(here("new")), True)
     run(reroute, here("in.gr"), here("poor"), "--rounds", "0", "--passes", "0")
@@ -175,19 +178,23 @@ def try_design(design, room, reroute, grouter):
         same(f"measure from {given}", totals(run(grouter, "measure", here("in.gr"), here("again"))[0]), after)
         same(f"{after} is no worse than {before}", after <= before, True)
         os.remove(here("again"))
-    for name in ["new", "four", "poor"]:
+    for name in ["new", "cert", "four", "poor"]:
         os.remove(here(name))
     return counted[1], seconds, int(report["forced"][0])
 
 
-def main(count=200, seed=1, reroute=f"{TOP}/crates/reroute/out/reroute", grouter=f"{TOP}/crates/grouter/out/grouter"):
+def built(name):
+    return f"{TOP}/crates/{name}/out/{name}"
+
+
+def main(count=200, seed=1, reroute=built("reroute"), grouter=built("grouter"), unavoidable=built("unavoidable")):
     failed, forced, rates = 0, 0, []
     with tempfile.TemporaryDirectory() as room:
         for number in range(int(count)):
             kind = KINDS[number % len(KINDS)]
             design = Design(kind, random.Random(f"{seed} {number}"))
             try:
-                pieces, seconds, over = try_design(design, room, reroute, grouter)
+                pieces, seconds, over = try_design(design, room, reroute, grouter, unavoidable)
             except AssertionError as fault:
                 failed += 1
                 print(f"FAILED: design {number}, {kind}: {fault}")

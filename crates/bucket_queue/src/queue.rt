@@ -15,11 +15,15 @@ const COARSE: u64 = 32;
 /// Stands for no entry.
 const NO_ENTRY: u32 = u32::MAX;
 
-/// An item, and the entry below it in its bucket.
+/// So many buckets that follow one another are emptied as fast as one that is looked up.
+const RUN: usize = 16;
+
+/// An item, the entry below it in its bucket, and the number of the bucket.
 #[derive(Clone, Copy)]
 struct Entry<T> {
     item: T,
     below: u32,
+    bucket: u32,
 }
 
 /// Items by their keys: what was put in last comes out first of those of one bucket.
@@ -46,10 +50,13 @@ impl<T: Copy> BucketQueue<T> {
         })
     }
 
-    /// Takes all items out. What it costs grows with the span of the keys, not with the buckets.
+    /// Takes all items out. What it costs grows with the span of the keys or with the items that were put in, whichever is
+    /// less, not with the buckets.
     pub fn clear(&mut self) {
         let end = self.end.min(self.tops.len());
-        if self.low < end {
+        if end.saturating_sub(self.low) / RUN > self.entries.len() {
+            self.empty_entered();
+        } else if self.low < end {
             self.tops.as_mut_slice()[self.low..end].fill(NO_ENTRY);
         }
         self.entries.clear();
@@ -57,29 +64,43 @@ impl<T: Copy> BucketQueue<T> {
         self.end = 0;
     }
 
+    /// Empties each bucket into which an item was put.
+    fn empty_entered(&mut self) {
+        for entry in &self.entries {
+            let bucket = entry.bucket as usize;
+            if bucket < self.tops.len() {
+                self.tops[bucket] = NO_ENTRY;
+            }
+        }
+    }
+
     /// Puts an item in.
+    #[inline(always)]
     pub fn push(&mut self, key: u64, item: T) -> Result<(), NoMemory> {
         let bucket = bucket_of(key);
-        if bucket < self.tops.len() && self.entries.len() < NO_ENTRY as usize {
+        let at = bucket as usize;
+        if at < self.tops.len() && self.entries.len() < NO_ENTRY as usize {
             let top = self.entries.len() as u32;
             self.entries.push(Entry {
                 item,
-                below: self.tops[bucket],
+                below: self.tops[at],
+                bucket,
             })?;
-            self.tops[bucket] = top;
-            self.low = self.low.min(bucket);
-            self.end = self.end.max(bucket + 1);
+            self.tops[at] = top;
+            self.low = self.low.min(at);
+            self.end = self.end.max(at + 1);
         }
         Ok(())
     }
 
     /// Takes out the last item of the first bucket that has one.
+    #[inline(always)]
     pub fn pop(&mut self) -> Option<T> {
         let end = self.end.min(self.tops.len());
         for bucket in self.low..end {
             let top = self.tops[bucket] as usize;
             if top < self.entries.len() {
-                let Entry { item, below } = self.entries[top];
+                let Entry { item, below, .. } = self.entries[top];
                 self.tops[bucket] = below;
                 self.low = bucket;
                 return Some(item);
@@ -90,10 +111,11 @@ impl<T: Copy> BucketQueue<T> {
 }
 
 /// The bucket of a key.
-fn bucket_of(key: u64) -> usize {
+#[inline(always)]
+fn bucket_of(key: u64) -> u32 {
     if key < FINE {
-        return key as usize;
+        return key as u32;
     }
     let coarse = (key - FINE) / COARSE;
-    coarse.saturating_add(FINE).min(BUCKETS as u64 - 1) as usize
+    coarse.saturating_add(FINE).min(BUCKETS as u64 - 1) as u32
 }

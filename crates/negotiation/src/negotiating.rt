@@ -22,11 +22,11 @@ use std::alloc::Global;
 use std::thread::Threads;
 use tree_set::Tree;
 
-/// After so many rounds without a better best no more follow.
+/// After so many rounds without less overflow at the best no more follow.
 const PATIENCE: u32 = 30;
 
-/// At most so many rounds, while there is overflow and the best gets better now and then; then the best again. And how many rounds
-/// there were.
+/// At most so many rounds, while there is overflow and the best comes to less of it now and then; then the best again. And how many
+/// rounds there were.
 pub(crate) fn negotiate<R: Threads + Sync>(
     rt: &R,
     alloc: Global,
@@ -64,7 +64,8 @@ pub(crate) fn negotiate<R: Threads + Sync>(
     Ok((rerouting.back(design), done))
 }
 
-/// What is now is the best where it is better. For how many rounds the best has stayed the same.
+/// What is now is the best where it is better. For how many rounds the best has had the same overflow: a little less wirelength
+/// is no reason for more rounds, since descent gains far more.
 fn keep_best(design: &Design, rerouting: &mut Rerouting, stale: u32) -> u32
     requires of { IsReroutingOf design.now rerouting.old }
     ensures of { IsReroutingOf design.now rerouting.new }
@@ -72,10 +73,20 @@ fn keep_best(design: &Design, rerouting: &mut Rerouting, stale: u32) -> u32
     ensures best { (best_of rerouting.new ≡ trees_of rerouting.old.state) ⊎ (best_of rerouting.new ≡ best_of rerouting.old) }
     ensures no_worse { IsNoWorse rerouting.new.best rerouting.old.best }
 {
+    let before = rerouting.best().overflow;
     if rerouting.keep_if_better() {
-        return 0;
+        return stale_after(before, rerouting.best().overflow, stale);
     }
     stale.saturating_add(1)
+}
+
+/// For how many rounds the best has had the same overflow, after one that made it better.
+fn stale_after(before: u64, now: u64, stale: u32) -> u32 {
+    if now < before {
+        0
+    } else {
+        stale.saturating_add(1)
+    }
 }
 
 /// One round: prices follow the rooms, and the nets on overfull edges are rerouted in a drawn order.

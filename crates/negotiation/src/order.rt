@@ -50,8 +50,8 @@ fn rank(alloc: Global, extents: &[Extent], nets: &[u32]) -> Result<Vec<Ranked>, 
     Ok(ranked)
 }
 
-/// All nets, long ones first.
-pub(crate) fn long_first(alloc: Global, extents: &[Extent]) -> Result<Vec<u32>, NoMemory>
+/// All nets, short ones first.
+pub(crate) fn all_short_first(alloc: Global, extents: &[Extent]) -> Result<Vec<u32>, NoMemory>
     requires few { length extents.now < 2 ^ 32 }
     ensures nets { IfOk result (λ order. All (λ net. net < length extents.now) order.items) }
 {
@@ -59,7 +59,6 @@ pub(crate) fn long_first(alloc: Global, extents: &[Extent]) -> Result<Vec<u32>, 
     for net in 0..extents.len() {
         nets.push(net as u32)?;
     }
-    let mut order = short_first(alloc, extents, &nets)?;
-    order.reverse();
+    let order = short_first(alloc, extents, &nets)?;
     Ok(order)
 }

@@ -14,7 +14,7 @@ ghost use Rattle.negotiation.specs.Tools.{AreToolsFor};
 use crate::descending::{descend, run_passes};
 use crate::due::Due;
 use crate::negotiating::negotiate;
-use crate::order::long_first;
+use crate::order::all_short_first;
 use crate::rerouted::Rerouted;
 use crate::settings::RerouteSettings;
 use crate::starting::start;
@@ -48,7 +48,7 @@ pub fn reroute<R: Threads + Sync>(
     ensures { IfOk result (IsRerouted design.now given.items missing.now settings.now) }
 {
     let mut tools = Tools::new(alloc, design, settings.workers)?;
-    let order = long_first(alloc, tools.extents())?;
+    let order = all_short_first(alloc, tools.extents())?;
     let mut first = RoutingState::of(alloc, design, given)?;
     begin(
         rt,

@@ -49,7 +49,7 @@ impl RoundPrices {
     }
 
     /// The prices of the next round: those of overfull edges rise, and those of edges with room fall.
-    pub fn go_on(&mut self, grid: &Grid, rooms: &[i64]) -> Result<(), NoMemory>
+    pub fn go_on(&mut self, grid: &Grid, rooms: &[i16]) -> Result<(), NoMemory>
         requires long { length self.old.prices.items ≡ edge_numbers grid.now }
         requires rooms { length rooms.now ≡ edge_numbers grid.now }
         ensures long { length self.new.prices.items ≡ edge_numbers grid.now }
@@ -59,8 +59,8 @@ impl RoundPrices {
     }
 }
 
-/// Each price follows the room on its edge.
-fn move_prices(prices: &mut [u16], rooms: &[i64])
+/// Each price follows the room on its edge, of which 16 bits tell enough.
+fn move_prices(prices: &mut [u16], rooms: &[i16])
     requires { length rooms.now ≡ length prices.old }
 {
     for e in 0..prices.len() {
@@ -69,7 +69,7 @@ fn move_prices(prices: &mut [u16], rooms: &[i64])
 }
 
 /// The price that follows where so much room is left. With a room of 0 or 1 it stays.
-fn next_price(price: u16, room: i64) -> u16 {
+fn next_price(price: u16, room: i16) -> u16 {
     if room < 0 {
         return price.saturating_add(STEP).min(MOST);
     }

@@ -105,7 +105,7 @@ impl Tools {
         ensures tools { AreToolsFor design.now self.new }
     {
         self.pass_on();
-        self.prices.go_on(&design.grid, state.rooms())
+        self.prices.go_on(&design.grid, state.narrow_rooms())
     }
 
     /// The next terminal of each net is the first.

@@ -7,22 +7,14 @@ use crate::site::Site;
 use crate::weights::{UNIT, Weights};
 use grid_base::{Edge, Size};
 
-/// What an edge into the tile of a site weighs at least beyond the unit, on whatever layer; 0 where there is none.
-pub(crate) fn entry_weight(size: Size, labels: &Labels, weights: &Weights<'_>, site: Site) -> u32 {
-    let mut least = u32::MAX;
-    let mut at = site.at_bottom(size);
-    for _ in 0..size.layers() {
-        least = least.min(entry_on_layer(size, labels, weights, at));
-        if least == 0 {
-            return 0;
-        }
-        at = at.beside(size, Side::Up);
-    }
-    if least == u32::MAX { 0 } else { least }
-}
-
-/// The same of the edges of one layer. The road beside the first column or row is that of another one's end: a wall.
-fn entry_on_layer(size: Size, labels: &Labels, weights: &Weights<'_>, site: Site) -> u32 {
+/// What an edge into the tile of a site on its layer weighs at least beyond the unit, or the greatest number where there is none.
+/// The road beside the first column or row is that of another one's end: a wall.
+pub(crate) fn entry_on_layer(
+    size: Size,
+    labels: &Labels,
+    weights: &Weights<'_>,
+    site: Site,
+) -> u32 {
     let Some(layer) = weights.layers.get(site.layer as usize) else {
         return u32::MAX;
     };

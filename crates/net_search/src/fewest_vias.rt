@@ -1,23 +1,16 @@
 //! How many vias a way has at least.
 
 use crate::directions::{Direction, Directions};
+use crate::rests::Rests;
+use crate::weights::UNIT;
 use grid_base::NoMemory;
 use std::alloc::Global;
-
-/// How many vias a way between two layers has at least, by the axes along which it runs.
-#[derive(Clone, Copy)]
-struct Fewest {
-    upright: u32,
-    along_x: u32,
-    along_y: u32,
-    along_both: u32,
-}
 
 /// How many vias a way from a layer to a layer has at least.
 #[derive(Drop)]
 pub(crate) struct FewestVias {
     /// One for each two layers.
-    pairs: Vec<Fewest>,
+    pairs: Vec<Rests>,
     layers: usize,
 }
 
@@ -34,37 +27,25 @@ impl FewestVias {
         Ok(FewestVias { pairs, layers })
     }
 
-    /// How many vias a way has at least from a layer to a layer that runs along these axes.
-    pub(crate) fn at(&self, from: u32, to: u32, along_x: bool, along_y: bool) -> u32 {
-        let at = (from as usize)
-            .wrapping_mul(self.layers)
-            .wrapping_add(to as usize);
-        if at >= self.pairs.len() {
-            return 0;
-        }
-        let Fewest {
-            upright,
-            along_x: x,
-            along_y: y,
-            along_both,
-        } = self.pairs[at];
-        match (along_x, along_y) {
-            (false, false) => upright,
-            (true, false) => x,
-            (false, true) => y,
-            (true, true) => along_both,
+    /// What the vias of a way from a layer to a layer weigh at least, by the axes along which it runs.
+    pub(crate) fn rests(&self, from: usize, to: usize) -> Rests {
+        let at = from.wrapping_mul(self.layers).wrapping_add(to);
+        if from < self.layers && at < self.pairs.len() {
+            self.pairs[at]
+        } else {
+            Rests::NONE
         }
     }
 }
 
 /// How many vias a way from a layer to a layer has at least.
-fn fewest_between(directions: &Directions, from: usize, to: usize) -> Fewest {
+fn fewest_between(directions: &Directions, from: usize, to: usize) -> Rests {
     let low = from.min(to);
     let high = from.max(to);
     let along = |along_x: bool, along_y: bool| {
-        fewest_along(directions, low, high, Direction { along_x, along_y })
+        fewest_along(directions, low, high, Direction { along_x, along_y }).saturating_mul(UNIT)
     };
-    Fewest {
+    Rests {
         upright: along(false, false),
         along_x: along(true, false),
         along_y: along(false, true),

@@ -58,6 +58,7 @@ impl Frame {
     }
 
     /// Whether the tile of a site is in it.
+    #[inline(always)]
     pub(crate) fn has(self, site: Site) -> bool {
         self.west <= site.col
             && site.col <= self.east

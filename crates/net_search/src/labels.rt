@@ -51,6 +51,7 @@ impl Labels {
     }
 
     /// The label of a vertex. One that is outside the grid is blank.
+    #[inline(always)]
     pub(crate) fn at(&self, vertex: u32) -> Label {
         let at = vertex as usize;
         if at < self.labels.len() {
@@ -61,6 +62,7 @@ impl Labels {
     }
 
     /// Whether a way at this cost would lower the cost of a label.
+    #[inline(always)]
     pub(crate) fn may_lower(&self, vertex: u32, cost: u32) -> bool {
         let at = vertex as usize;
         at < self.labels.len()
@@ -71,6 +73,7 @@ impl Labels {
     }
 
     /// Gives a label this cost and this way back.
+    #[inline(always)]
     pub(crate) fn lower(&mut self, vertex: u32, cost: u32, back: Side) {
         let at = vertex as usize;
         if at < self.labels.len() {
@@ -86,6 +89,7 @@ impl Labels {
     }
 
     /// Takes a label, and answers its cost. `None` where it was taken before.
+    #[inline(always)]
     pub(crate) fn take(&mut self, vertex: u32) -> Option<u32> {
         let at = vertex as usize;
         if at >= self.labels.len() || self.labels[at].is_taken {

@@ -5,13 +5,13 @@
 //! let mut search = NetSearch::new(alloc, &grid)?;
 //! let plan = Plan::of(&grid, &tables, field, over, &net, margin);
 //! search.lay_own(&own, true);
-//! let target = search.target(&plan, Site::of(plan.size(), terminal), &root);
+//! let target = Target::of(Site::of(plan.size(), terminal), root);
 //! let found = search.nearest(&plan, &[target], &[root])?;
 //! ```
 //!
-//! A* after Hart, Nilsson and Raphael (1968): what is still to go is bounded by the pieces that a way has at least, by what
-//! entering the target's tile costs, and by distances from a landmark (Goldberg and Harrelson, 2005). A search keeps to a box,
-//! which grows where nothing is found.
+//! A* after Hart, Nilsson and Raphael (1968): what is still to go is bounded by the pieces that a way has at least, by the layers on
+//! which edges lead into the target's tile and what these cost, and by distances from a landmark (Goldberg and Harrelson, 2005).
+//! A search keeps to a box, which grows where nothing is found.
 //!
 //! It stands on `bucket_queue` for what waits, on `grid_graph` for grids and nets, on `tree_set` for sets, and on `grid_base`
 //! for vertices and pieces.
@@ -25,11 +25,13 @@ mod entry;
 mod fewest_vias;
 mod field;
 mod frame;
+mod goal;
 mod label;
 mod labels;
 mod layer_tables;
 mod layers;
 mod plan;
+mod rests;
 mod road;
 mod search;
 mod side;
@@ -37,6 +39,7 @@ mod site;
 mod stage;
 mod target;
 mod view;
+mod wave;
 mod weights;
 
 pub use field::Field;

@@ -46,6 +46,7 @@ impl Site {
     }
 
     /// The neighbour on this side. It need not be in the grid.
+    #[inline(always)]
     pub(crate) fn beside(self, size: Size, side: Side) -> Site {
         let Site {
             vertex,
@@ -89,11 +90,13 @@ impl Site {
     }
 
     /// The edge to the next column.
+    #[inline(always)]
     pub(crate) fn east(self) -> Edge {
         Edge(self.vertex.wrapping_mul(2))
     }
 
     /// The edge to the next row.
+    #[inline(always)]
     pub(crate) fn north(self) -> Edge {
         Edge(self.vertex.wrapping_mul(2).wrapping_add(1))
     }

@@ -8,13 +8,17 @@ pub struct Target {
     pub(crate) site: Site,
     /// The tile steps to it from what is joined.
     pub(crate) distance: u32,
-    /// What an edge into its tile weighs at least beyond the unit.
-    pub(crate) entry: u32,
-    /// The distance of its tile from the landmark.
-    pub(crate) from_landmark: u32,
 }
 
 impl Target {
+    /// A terminal as a target, where so far one site is joined.
+    pub fn of(site: Site, joined: Site) -> Target {
+        Target {
+            site,
+            distance: site.tiles_to(joined),
+        }
+    }
+
     /// Where it is.
     pub fn site(&self) -> Site {
         self.site

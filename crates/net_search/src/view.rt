@@ -1,44 +1,52 @@
 //! What one search goes by.
 
 use crate::frame::Frame;
+use crate::goal::Goal;
 use crate::plan::Plan;
 use crate::site::Site;
 use crate::target::Target;
 
 /// What one search goes by.
 #[derive(Drop)]
-pub(crate) struct View<'t, 'p, 'a> {
+pub(crate) struct View<'g, 'p, 'a> {
     pub(crate) plan: &'p Plan<'a>,
     /// Where it may end.
-    pub(crate) targets: &'t [Target],
+    pub(crate) goals: &'g [Goal],
     /// It stays in here.
     pub(crate) frame: Frame,
 }
 
-impl<'t, 'p, 'a> View<'t, 'p, 'a> {
+impl<'g, 'p, 'a> View<'g, 'p, 'a> {
     /// That of a search for some targets, which looks no further than the margin beyond the net's box, nor beyond the
     /// targets as far as each is from what is joined.
-    pub(crate) fn of(plan: &'p Plan<'a>, targets: &'t [Target], margin: u32) -> View<'t, 'p, 'a> {
+    pub(crate) fn of(
+        plan: &'p Plan<'a>,
+        targets: &[Target],
+        goals: &'g [Goal],
+        margin: u32,
+    ) -> View<'g, 'p, 'a> {
         let mut frame = Frame::NONE;
         for target in targets {
             frame = frame.with(target.site, target.distance.saturating_add(margin));
         }
         View {
             plan,
-            targets,
+            goals,
             frame: frame.cut(plan.frame.widened(margin), plan.size),
         }
     }
 
     /// What is still to go from here at least.
+    #[inline(always)]
     pub(crate) fn rest(&self, site: &Site) -> u64 {
-        self.plan.bound.rest(self.targets, site)
+        self.plan.bound.rest(self.goals, site)
     }
 
     /// Whether a site is that of a target.
+    #[inline(always)]
     pub(crate) fn is_target(&self, site: &Site) -> bool {
-        self.targets
+        self.goals
             .iter()
-            .any(|target| target.site.vertex == site.vertex)
+            .any(|goal| goal.site.vertex == site.vertex)
     }
 }

@@ -14,7 +14,7 @@ pub(crate) const UNIT: u32 = 4;
 const OVERFLOW_AT_START: u32 = 16;
 
 /// The same in negotiation: it stays far below what prices rise to, so that nets push one another away.
-const OVERFLOW_IN_NEGOTIATION: u32 = 20;
+const OVERFLOW_IN_NEGOTIATION: u32 = 16;
 
 /// The same in descent: more than any way round.
 const OVERFLOW_IN_DESCENT: u32 = 400;
@@ -31,6 +31,7 @@ pub(crate) struct Weights<'a> {
 
 impl Weights<'_> {
     /// What an edge on this layer weighs. `None` is an edge that the net may not use.
+    #[inline(always)]
     pub(crate) fn weight(&self, edge: Edge, road: Road, demand: u32) -> Option<u32> {
         let is_own = match road {
             Road::Wall => return None,
@@ -51,6 +52,7 @@ impl Weights<'_> {
     }
 
     /// What the demand costs at the price of an edge.
+    #[inline(always)]
     fn priced(&self, edge: Edge, demand: u32) -> u32 {
         match self.field.prices.get(edge.0 as usize) {
             Some(price) => u32::from(*price).saturating_mul(demand),
@@ -60,6 +62,7 @@ impl Weights<'_> {
 }
 
 /// What a demand adds to the overflow of an edge with this room, which is told with the net's own set in it or without.
+#[inline(always)]
 fn added_overflow(room: i64, demand: u32, is_own: bool) -> u32 {
     let free = if is_own {
         room.saturating_add(i64::from(demand))

@@ -71,7 +71,7 @@ impl Growing {
         for terminal in terminals {
             let site = Site::of(plan.size(), *terminal);
             if site.vertex() != root.vertex() {
-                self.left.push(self.search.target(plan, site, root))?;
+                self.left.push(Target::of(site, root))?;
             }
         }
         Ok(())

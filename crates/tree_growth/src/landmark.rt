@@ -5,19 +5,22 @@ ghost use Rattle.grid_base.specs.Numbers.{IsVertex};
 ghost use Rattle.grid_graph.specs.Flat.{tiles};
 ghost use Rattle.grid_graph.specs.Grids.{size_of, edge_numbers};
 
+use bucket_queue::BucketQueue;
 use grid_base::{Edge, NoMemory, Size, Vertex};
 use grid_graph::Grid;
-use std::cmp::Reverse;
-use std::collections::BinaryHeap;
 
 /// Stands for a distance that isn't known, and for a tile edge without open edges.
 const FAR: u32 = u32::MAX;
 
-/// Tiles with their distances, the nearest first.
-type Waiting = BinaryHeap<Reverse<(u32, u32)>>;
+/// Distances from here on are taken for this one, which leaves differences that bound as before: up to here no two keys of the queue
+/// share a bucket that are far apart.
+const MOST: u32 = 500_000;
+
+/// Tiles with their distances, near ones first: those of one bucket in any order, so that a tile may wait more than once.
+type Waiting = BucketQueue<(u32, u32)>;
 
 /// The distance of each tile from that of `from`, where a step to the next tile costs the least price of the open edges
-/// that lead there. They take the place of the distances before.
+/// that lead there, and at most half a million. They take the place of the distances before.
 pub fn landmark_distances(
     grid: &Grid,
     prices: &[u16],
@@ -34,7 +37,7 @@ pub fn landmark_distances(
     let mut least = vec![in alloc; FAR; 2 * tiles as usize]?;
     lower_to_prices(grid, prices, least.as_mut_slice());
     *distances = vec![in alloc; FAR; tiles as usize]?;
-    let mut waiting = BinaryHeap::new(alloc);
+    let mut waiting = BucketQueue::new(alloc)?;
     lower(distances.as_mut_slice(), &mut waiting, from.0 % tiles, 0)?;
     spread_all(
         size,
@@ -68,7 +71,7 @@ fn spread_all(
     waiting: &mut Waiting,
 ) -> Result<(), NoMemory> {
     for _ in 0..u64::MAX {
-        let Some(Reverse((distance, tile))) = waiting.pop() else {
+        let Some((distance, tile)) = waiting.pop() else {
             return Ok(());
         };
         if distances.get(tile as usize) == Some(&distance) {
@@ -133,7 +136,7 @@ fn step(
     if price == FAR {
         return Ok(());
     }
-    let distance = distances[at].saturating_add(price);
+    let distance = distances[at].saturating_add(price).min(MOST);
     lower(distances, waiting, to, distance)
 }
 
@@ -147,7 +150,7 @@ fn lower(
     let at = tile as usize;
     if at < distances.len() && distance < distances[at] {
         distances[at] = distance;
-        waiting.push(Reverse((distance, tile)))?;
+        waiting.push(u64::from(distance), (distance, tile))?;
     }
     Ok(())
 }

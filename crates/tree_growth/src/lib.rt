@@ -6,8 +6,8 @@
 //! let found = growth.tree(&grid, field, &net, over, &own, turn, margin)?;
 //! ```
 //!
-//! It stands on `net_search` for the way to the next terminal, on `grid_graph` for grids and nets, on `tree_set` for sets, and on
-//! `grid_base` for vertices and pieces.
+//! It stands on `net_search` for the way to the next terminal, on `bucket_queue` for what waits, on `grid_graph` for grids and
+//! nets, on `tree_set` for sets, and on `grid_base` for vertices and pieces.
 //!
 //! Promised: what is found keeps to the ground and joins the net's terminals. That it is cheap is measured, not promised.
 #![tactic(auto)]

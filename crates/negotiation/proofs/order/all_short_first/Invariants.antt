@@ -1,5 +1,5 @@
 use Rattle.std.proofs.Common.{◌<◌, ℕ, All, length}
-use Rattle.negotiation.proofs.order.long_first.Given as goal
+use Rattle.negotiation.proofs.order.all_short_first.Given as goal
 
 -- places of nets so far
 abbrev pub invariant-loop-net : goal.invariant-loop-net

@@ -1,0 +1,60 @@
+//! What is still to go from one layer.
+
+/// What is still to go at least from one layer to a target, beside the tile steps, by the axes along which the way has to run.
+#[derive(Clone, Copy)]
+pub(crate) struct Rests {
+    pub(crate) upright: u32,
+    pub(crate) along_x: u32,
+    pub(crate) along_y: u32,
+    pub(crate) along_both: u32,
+}
+
+impl Rests {
+    /// Nothing.
+    pub(crate) const NONE: Rests = Rests {
+        upright: 0,
+        along_x: 0,
+        along_y: 0,
+        along_both: 0,
+    };
+
+    /// More than any way.
+    pub(crate) const FAR: Rests = Rests {
+        upright: u32::MAX,
+        along_x: u32::MAX,
+        along_y: u32::MAX,
+        along_both: u32::MAX,
+    };
+
+    /// That of a way that has to run along these axes.
+    #[inline(always)]
+    pub(crate) fn at(&self, along_x: bool, along_y: bool) -> u32 {
+        let with_y = if along_x {
+            self.along_both
+        } else {
+            self.along_y
+        };
+        let without_y = if along_x { self.along_x } else { self.upright };
+        if along_y { with_y } else { without_y }
+    }
+
+    /// With more that is to go from other tiles.
+    pub(crate) fn with(self, more: u32) -> Rests {
+        Rests {
+            upright: self.upright,
+            along_x: self.along_x.saturating_add(more),
+            along_y: self.along_y.saturating_add(more),
+            along_both: self.along_both.saturating_add(more),
+        }
+    }
+
+    /// The least of both.
+    pub(crate) fn or(self, other: Rests) -> Rests {
+        Rests {
+            upright: self.upright.min(other.upright),
+            along_x: self.along_x.min(other.along_x),
+            along_y: self.along_y.min(other.along_y),
+            along_both: self.along_both.min(other.along_both),
+        }
+    }
+}
