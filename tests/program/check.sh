@@ -787,6 +787,22 @@ awk 'BEGIN {
 expect 'routes of 20,000 nets by four workers' 0 "$(cat one.report)" batches.gr new.routes --rounds 4 --passes 1 --workers 4
 made 'the routes that one worker finds' new.routes one.routes
 rm -f one.routes one.report
+# In rounds of negotiation a batch is smaller: eight nets of 20,000. Each tenth net here is long and runs where more do than have
+# room, so that these eight are work enough for two workers.
+awk 'BEGIN {
+    print "grid 200 200 2\nvertical capacity 0 6\nhorizontal capacity 6 0\nminimum width 1 1\nminimum spacing 1 1"
+    print "via spacing 1 1\n0 0 10 10\nnum net 20000"
+    for (i = 0; i < 20000; i++) {
+        x = i * 7919 % 150; y = i * 104729 % 193; far = 1
+        if (i % 10 == 0) { y = 60 + y % 60; far = 40 }
+        printf "n%d %d 2 1\n%d %d 1\n%d %d 1\n", i, i, 10 * x + 5, 10 * y + 5, 10 * (x + far) + 5, 10 * (y + i % 7) + 5
+    }
+    print 0
+}' >rivals.gr
+"$program" rivals.gr one.routes --rounds 4 --passes 0 >one.report
+expect 'long nets on full edges by four workers' 0 "$(cat one.report)" rivals.gr new.routes --rounds 4 --passes 0 --workers 4
+made 'the routes that one worker finds for long nets' new.routes one.routes
+rm -f one.routes one.report rivals.gr
 
 # The bound of so many nets is worked out by several threads at once: as many as two are seen, where there are two processors.
 "$room/grouter" route batches.gr many.routes many.cert --phases 1 --rounds 0 >"$room/said"

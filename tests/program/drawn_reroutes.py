@@ -14,8 +14,9 @@ that `rt run` left in crates/*/out. Of each design it asks that
   overflow and wirelength.
 
 Designs are drawn with widths from 1 to 4, choked edges and nets that are forced over them, one layer, one row, nets of many pins,
-and 16 layers. It prints a line for each design that fails, then how the processor time for each piece of wirelength is spread, and
-fails where one design failed."""
+and 16 layers. It prints a line for each design that fails, then how the processor time for each piece of wirelength is spread, apart
+for designs that end without overflow and for the others, of which most go through dozens of rounds. It fails where one design
+failed."""
 
 import os
 import random
@@ -156,7 +157,8 @@ def totals(report):
 
 
 def try_design(design, room, reroute, grouter, unavoidable):
-    """Tries one design. Answers its wirelength and the processor seconds of the run from none."""
+    """Tries one design. Answers the overflow and the wirelength of the run from none, its processor seconds, the lesser of two
+    runs, and how many nets are forced."""
     here = lambda name: os.path.join(room, name)
     with open(here("in.gr"), "w", encoding="ascii") as file:
         file.write(design.text())
@@ -180,7 +182,18 @@ def try_design(design, room, reroute, grouter, unavoidable):
         os.remove(here("again"))
     for name in ["new", "cert", "four", "poor"]:
         os.remove(here(name))
-    return counted[1], seconds, int(report["forced"][0])
+    _, once_more = run(reroute, here("in.gr"), here("new"))
+    os.remove(here("new"))
+    return counted, min(seconds, once_more), int(report["forced"][0])
+
+
+def print_rates(name, rates):
+    """Says how the microseconds for each piece are spread over some designs."""
+    if rates:
+        mean = sum(rate for rate, _, _ in rates) / len(rates)
+        slowest = ", ".join(f"{rate:.2f} ({number}, {kind})" for rate, number, kind in sorted(rates, reverse=True)[:5])
+        print(f"microseconds for each piece, of {len(rates)} designs {name} with {FEWEST_PIECES} pieces and more: mean {mean:.2f}; "
+              f"slowest {slowest}")
 
 
 def built(name):
@@ -188,13 +201,13 @@ def built(name):
 
 
 def main(count=200, seed=1, reroute=built("reroute"), grouter=built("grouter"), unavoidable=built("unavoidable")):
-    failed, forced, rates = 0, 0, []
+    failed, forced, fitting, overfull = 0, 0, [], []
     with tempfile.TemporaryDirectory() as room:
         for number in range(int(count)):
             kind = KINDS[number % len(KINDS)]
             design = Design(kind, random.Random(f"{seed} {number}"))
             try:
-                pieces, seconds, over = try_design(design, room, reroute, grouter, unavoidable)
+                (overflow, pieces), seconds, over = try_design(design, room, reroute, grouter, unavoidable)
             except AssertionError as fault:
                 failed += 1
                 print(f"FAILED: design {number}, {kind}: {fault}")
@@ -203,13 +216,10 @@ def main(count=200, seed=1, reroute=built("reroute"), grouter=built("grouter"), 
                 continue
             forced += over
             if pieces >= FEWEST_PIECES:
-                rates.append((1e6 * seconds / pieces, number, kind))
+                (overfull if overflow else fitting).append((1e6 * seconds / pieces, number, kind))
     print(f"{int(count) - failed} designs passed, {failed} failed; {forced} nets were forced")
-    if rates:
-        mean = sum(rate for rate, _, _ in rates) / len(rates)
-        slowest = sorted(rates, reverse=True)[:5]
-        print(f"microseconds for each piece, of {len(rates)} designs with {FEWEST_PIECES} pieces and more: mean {mean:.2f}; slowest "
-              + ", ".join(f"{rate:.2f} ({number}, {kind})" for rate, number, kind in slowest))
+    print_rates("without overflow", fitting)
+    print_rates("with overflow", overfull)
     return 1 if failed else 0
 
 

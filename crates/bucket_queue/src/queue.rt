@@ -15,7 +15,7 @@ const COARSE: u64 = 32;
 /// Stands for no entry.
 const NO_ENTRY: u32 = u32::MAX;
 
-/// So many buckets that follow one another are emptied as fast as one that is looked up.
+/// To empty so many buckets in a row takes as long as to empty one by its number.
 const RUN: usize = 16;
 
 /// An item, the entry below it in its bucket, and the number of the bucket.

@@ -14,8 +14,8 @@
 //! `seed_streams` for drawn orders, and on `lists`, `tree_set`, `grid_graph` and `grid_base`.
 //!
 //! Promised: each net keeps the set that it was given, or gets a route on its ground; overflow and wirelength are those of the
-//! sets; and where each net was given a set, the sets are no worse than those. All searches of a batch read the same and what
-//! they find stands in the order of the nets, so the outcome depends on no number of workers.
+//! sets; and where each net was given a set, the sets are no worse than those. Not promised but tested: the outcome depends on no
+//! number of workers, since all searches of a batch read the same, and what they find is put in by the order of the nets.
 #![tactic(auto)]
 
 mod batch_sizes;

@@ -22,10 +22,10 @@ use std::alloc::Global;
 use std::thread::Threads;
 use tree_set::Tree;
 
-/// After so many rounds without less overflow at the best no more follow.
+/// After so many rounds in a row in which the least overflow didn't fall no more follow.
 const PATIENCE: u32 = 30;
 
-/// At most so many rounds, while there is overflow and the best comes to less of it now and then; then the best again. And how many
+/// Runs rounds until no overflow is left, all that were asked for are done, or patience ends. Answers the best state and how many
 /// rounds there were.
 pub(crate) fn negotiate<R: Threads + Sync>(
     rt: &R,
@@ -64,8 +64,8 @@ pub(crate) fn negotiate<R: Threads + Sync>(
     Ok((rerouting.back(design), done))
 }
 
-/// What is now is the best where it is better. For how many rounds the best has had the same overflow: a little less wirelength
-/// is no reason for more rounds, since descent gains far more.
+/// What is now is the best where it is better. Answers for how many rounds the best has had the same overflow: a little less
+/// wirelength is no reason for more rounds, since descent gains far more.
 fn keep_best(design: &Design, rerouting: &mut Rerouting, stale: u32) -> u32
     requires of { IsReroutingOf design.now rerouting.old }
     ensures of { IsReroutingOf design.now rerouting.new }

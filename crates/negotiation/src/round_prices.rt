@@ -59,7 +59,7 @@ impl RoundPrices {
     }
 }
 
-/// Each price follows the room on its edge, of which 16 bits tell enough.
+/// Each price follows the room on its edge; 16 bits keep its sign and whether it is above 1.
 fn move_prices(prices: &mut [u16], rooms: &[i16])
     requires { length rooms.now ≡ length prices.old }
 {

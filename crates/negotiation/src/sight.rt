@@ -25,8 +25,8 @@ impl Sight<'_> {
     ghost use Rattle.std.specs.Prelude.{◌<◌, ◌≤◌, IfOk, length};
     ghost use Rattle.negotiation.specs.Searches.{ArePlaces, IsFoundFor, IsSight};
 
-    /// A new set for the net at this place, where one is found. After the start the set that the net has is not a new one: to put it
-    /// in would change nothing.
+    /// A new set for the net at this place, where one is found. After the start the very set that the net has counts as none:
+    /// putting it in would change nothing.
     pub fn search(&self, net: u32, growth: &mut Growth) -> Result<Option<Tree>, NoMemory>
         requires sight { IsSight self.now }
         requires net { net < length self.now.design.now.nets }

@@ -21,7 +21,7 @@ impl Bound<'_> {
     pub(crate) fn rest(&self, goals: &[Goal], site: &Site) -> u64 {
         match self.landmark.get(self.tile_of(site)) {
             Some(distance) => self.rest_at_prices(goals, site, *distance),
-            None => rest_by_pieces(goals, site),
+            None => rest_without_prices(goals, site),
         }
     }
 
@@ -50,9 +50,9 @@ impl Bound<'_> {
     }
 }
 
-/// What a way from here to the nearest of some targets costs at least where no edge has a price.
+/// The same where no prices count.
 #[inline(always)]
-fn rest_by_pieces(goals: &[Goal], site: &Site) -> u64 {
+fn rest_without_prices(goals: &[Goal], site: &Site) -> u64 {
     let mut least = u64::MAX;
     for goal in goals {
         least = least.min(goal.rest(site));

@@ -32,7 +32,8 @@ impl Direction {
     }
 }
 
-/// Along which axes each layer has edges with capacity.
+/// Along which axes each layer has edges with capacity. A layer without any along an axis is not searched along it, not even for
+/// nets that may use choked edges.
 #[derive(Drop)]
 pub(crate) struct Directions {
     layers: Vec<Direction>,

@@ -7,8 +7,8 @@ use crate::site::Site;
 use crate::weights::{UNIT, Weights};
 use grid_base::{Edge, Size};
 
-/// What an edge into the tile of a site on its layer weighs at least beyond the unit, or the greatest number where there is none.
-/// The road beside the first column or row is that of another one's end: a wall.
+/// What the cheapest edge into a site's tile on the site's layer weighs beyond the unit; the greatest number where the net may use
+/// none. Beside the first column or row stands the number of a wall.
 pub(crate) fn entry_on_layer(
     size: Size,
     labels: &Labels,
@@ -20,38 +20,34 @@ pub(crate) fn entry_on_layer(
     };
     let mut least = u32::MAX;
     if layer.along_x {
-        let west = site.beside(size, Side::West);
-        least = least
-            .min(beyond_unit(
-                weights,
-                site.east(),
-                labels.at(site.vertex).east,
-                layer.demand,
-            ))
-            .min(beyond_unit(
-                weights,
-                west.east(),
-                labels.at(west.vertex).east,
-                layer.demand,
-            ));
+        least = least.min(east_of(labels, weights, site, layer.demand)).min(east_of(
+            labels,
+            weights,
+            site.beside(size, Side::West),
+            layer.demand,
+        ));
     }
     if layer.along_y {
-        let south = site.beside(size, Side::South);
         least = least
-            .min(beyond_unit(
+            .min(north_of(labels, weights, site, layer.demand))
+            .min(north_of(
+                labels,
                 weights,
-                site.north(),
-                labels.at(site.vertex).north,
-                layer.demand,
-            ))
-            .min(beyond_unit(
-                weights,
-                south.north(),
-                labels.at(south.vertex).north,
+                site.beside(size, Side::South),
                 layer.demand,
             ));
     }
     least
+}
+
+/// What the edge to the next column weighs beyond the unit.
+fn east_of(labels: &Labels, weights: &Weights<'_>, site: Site, demand: u32) -> u32 {
+    beyond_unit(weights, site.east(), labels.at(site.vertex).east, demand)
+}
+
+/// What the edge to the next row weighs beyond the unit.
+fn north_of(labels: &Labels, weights: &Weights<'_>, site: Site, demand: u32) -> u32 {
+    beyond_unit(weights, site.north(), labels.at(site.vertex).north, demand)
 }
 
 /// What an edge weighs beyond the unit.

@@ -6,10 +6,10 @@ use crate::weights::UNIT;
 use grid_base::NoMemory;
 use std::alloc::Global;
 
-/// How many vias a way from a layer to a layer has at least.
+/// What the vias of a way from a layer to a layer weigh at least.
 #[derive(Drop)]
 pub(crate) struct FewestVias {
-    /// One for each two layers.
+    /// One for each layer that a way begins on and each that it ends on.
     pairs: Vec<Rests>,
     layers: usize,
 }
@@ -38,7 +38,7 @@ impl FewestVias {
     }
 }
 
-/// How many vias a way from a layer to a layer has at least.
+/// What the vias between two layers weigh at least, by the axes along which the way runs.
 fn fewest_between(directions: &Directions, from: usize, to: usize) -> Rests {
     let low = from.min(to);
     let high = from.max(to);

@@ -17,8 +17,8 @@ pub(crate) struct Goal {
     pub(crate) from_landmark: u32,
     /// What the vias of a way weigh at least, by the layer that it begins on.
     pub(crate) vias: [Rests; LAYERS],
-    /// The same with what the edge into the target's tile adds.
-    pub(crate) entry: [Rests; LAYERS],
+    /// What vias and the edge into the target's tile weigh at least beyond the unit, by the layer that a way begins on.
+    pub(crate) with_entry: [Rests; LAYERS],
 }
 
 impl Goal {
@@ -31,11 +31,11 @@ impl Goal {
         if layer >= LAYERS {
             return 0;
         }
-        let beside = self.entry[layer].at(cols > 0, rows > 0);
+        let beside = self.with_entry[layer].at(cols > 0, rows > 0);
         u64::from(UNIT) * (u64::from(cols) + u64::from(rows)) + u64::from(beside)
     }
 
-    /// The same where edges have prices: these add at least what the distances from the landmark differ by, for each unit of demand.
+    /// The same where edges have prices: for each unit of demand these add at least what the distances from the landmark differ by.
     #[inline(always)]
     pub(crate) fn rest_at_prices(&self, site: &Site, from_landmark: u32, demand: u32) -> u64 {
         let cols = site.col.abs_diff(self.site.col);
@@ -44,7 +44,7 @@ impl Goal {
         if layer >= LAYERS {
             return 0;
         }
-        let entry = u64::from(self.entry[layer].at(cols > 0, rows > 0));
+        let entry = u64::from(self.with_entry[layer].at(cols > 0, rows > 0));
         let vias = u64::from(self.vias[layer].at(cols > 0, rows > 0));
         let climb = u64::from(from_landmark.abs_diff(self.from_landmark)) * u64::from(demand);
         let beside = entry.max(vias.wrapping_add(climb));
@@ -57,7 +57,7 @@ impl Goal {
             site,
             from_landmark: plan.bound.from_landmark(&site),
             vias: [Rests::FAR; LAYERS],
-            entry: [Rests::FAR; LAYERS],
+            with_entry: [Rests::FAR; LAYERS],
         };
         let least = goal.enter_from_above(plan, labels);
         goal.enter_from_below(plan, labels, least);
@@ -65,8 +65,8 @@ impl Goal {
         goal
     }
 
-    /// Ways may enter the target's tile on its layer, and on each above it where that costs less than on all between. Answers
-    /// what the edge into the tile adds on its layer.
+    /// Takes in the target's layer, and each layer above it whose edges into the tile are cheaper than those of all layers between.
+    /// Answers what the cheapest one on the target's layer adds.
     fn enter_from_above(&mut self, plan: &Plan<'_>, labels: &Labels) -> u32 {
         let mut at = self.site;
         let first = entry_on_layer(plan.size, labels, &plan.weights, at);
@@ -99,7 +99,8 @@ impl Goal {
         }
     }
 
-    /// Ways may enter the target's tile on this layer by an edge that adds this weight, if that is less than on all layers between.
+    /// Ways may enter the tile on this layer, where the cheapest edge adds this weight. It is left out where a layer between is no
+    /// dearer, since a way there has no more vias.
     fn enter(&mut self, plan: &Plan<'_>, layer: u32, weight: u32, between: u32) {
         if weight >= between {
             return;
@@ -107,7 +108,7 @@ impl Goal {
         let upright = UNIT.saturating_mul(layer.abs_diff(self.site.layer));
         for from in 0..LAYERS.min(plan.size.layers() as usize) {
             let vias = plan.bound.vias.rests(from, layer as usize).with(upright);
-            self.entry[from] = self.entry[from].or(vias.with(weight));
+            self.with_entry[from] = self.with_entry[from].or(vias.with(weight));
             if between == u32::MAX {
                 self.vias[from] = self.vias[from].or(vias);
             }
@@ -118,7 +119,7 @@ impl Goal {
     fn stay_within(&mut self) {
         for from in 0..LAYERS {
             let upright = UNIT.saturating_mul(self.site.layer.abs_diff(from as u32));
-            self.entry[from].upright = upright;
+            self.with_entry[from].upright = upright;
             self.vias[from].upright = upright;
         }
     }

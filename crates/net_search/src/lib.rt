@@ -9,8 +9,8 @@
 //! let found = search.nearest(&plan, &[target], &[root])?;
 //! ```
 //!
-//! A* after Hart, Nilsson and Raphael (1968): what is still to go is bounded by the pieces that a way has at least, by the layers on
-//! which edges lead into the target's tile and what these cost, and by distances from a landmark (Goldberg and Harrelson, 2005).
+//! A* after Hart, Nilsson and Raphael (1968): what is still to go is bounded by the pieces that a way has at least, by the layers
+//! on which edges lead into the target's tile and what these cost, and by distances from a landmark (Goldberg and Harrelson, 2005).
 //! A search keeps to a box, which grows where nothing is found.
 //!
 //! It stands on `bucket_queue` for what waits, on `grid_graph` for grids and nets, on `tree_set` for sets, and on `grid_base`

@@ -51,7 +51,7 @@ impl<'a> Plan<'a> {
             },
             bound: Bound {
                 vias: &tables.vias,
-                landmark: landmark_of(field),
+                landmark: landmark_of(field, over),
                 demand: least_demand(&layers),
                 cols: grid.size().cols(),
             },
@@ -68,10 +68,11 @@ impl<'a> Plan<'a> {
     }
 }
 
-/// The distances from the landmark where prices weigh, and none elsewhere.
-fn landmark_of(field: Field<'_>) -> &[u32] {
-    match field.stage {
-        Stage::Negotiation => field.landmark,
-        Stage::Start | Stage::Descent => &[],
+/// The distances from the landmark where prices weigh, and none elsewhere. They count open edges alone, so they say nothing to a net
+/// that may use choked ones.
+fn landmark_of(field: Field<'_>, over: Ground) -> &[u32] {
+    if field.stage == Stage::Negotiation && over == Ground::Open {
+        return field.landmark;
     }
+    &[]
 }

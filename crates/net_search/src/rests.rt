@@ -1,6 +1,6 @@
 //! What is still to go from one layer.
 
-/// What is still to go at least from one layer to a target, beside the tile steps, by the axes along which the way has to run.
+/// What a way from one layer weighs at least beside its tile steps, by the axes along which it has to run.
 #[derive(Clone, Copy)]
 pub(crate) struct Rests {
     pub(crate) upright: u32,
@@ -38,7 +38,7 @@ impl Rests {
         if along_y { with_y } else { without_y }
     }
 
-    /// With more that is to go from other tiles.
+    /// So much more from every other tile; within the tile as before.
     pub(crate) fn with(self, more: u32) -> Rests {
         Rests {
             upright: self.upright,

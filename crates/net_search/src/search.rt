@@ -38,8 +38,9 @@ impl NetSearch {
         }
     }
 
-    /// The site of a target that is reached at least cost from the sources, as far as the bound is one. Where nothing is found
-    /// the margin doubles, up to the whole grid. `None` is a grid in which no way leads to a target.
+    /// The site of a target that is reached at least cost from the sources, or nearly: the queue tells great costs apart only
+    /// coarsely. Where nothing is found the margin doubles, up to the whole grid. `None` is a grid in which no way leads to a
+    /// target.
     pub fn nearest(
         &mut self,
         plan: &Plan<'_>,

@@ -33,18 +33,6 @@ impl Site {
         Vertex(self.vertex)
     }
 
-    /// The site on the lowest layer of its tile.
-    pub(crate) fn at_bottom(self, size: Size) -> Site {
-        let below = self
-            .layer
-            .wrapping_mul(size.cols().wrapping_mul(size.rows()));
-        Site {
-            vertex: self.vertex.wrapping_sub(below),
-            layer: 0,
-            ..self
-        }
-    }
-
     /// The neighbour on this side. It need not be in the grid.
     #[inline(always)]
     pub(crate) fn beside(self, size: Size, side: Side) -> Site {

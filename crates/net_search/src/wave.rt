@@ -54,7 +54,7 @@ impl Wave {
         Ok(None)
     }
 
-    /// Offers each neighbour of a site the way over this one.
+    /// Offers each neighbour of a site the way that leads over the site.
     #[inline(always)]
     fn spread(&mut self, view: &View<'_, '_, '_>, from: &Site, cost: u32) -> Result<(), NoMemory> {
         if from.layer > 0 {

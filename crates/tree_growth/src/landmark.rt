@@ -12,15 +12,15 @@ use grid_graph::Grid;
 /// Stands for a distance that isn't known, and for a tile edge without open edges.
 const FAR: u32 = u32::MAX;
 
-/// Distances from here on are taken for this one, which leaves differences that bound as before: up to here no two keys of the queue
-/// share a bucket that are far apart.
+/// No distance is greater: tiles further away count as this far. Differences still bound what ways cost, and up to here no two keys
+/// of a bucket of the queue differ by 32 or more.
 const MOST: u32 = 500_000;
 
 /// Tiles with their distances, near ones first: those of one bucket in any order, so that a tile may wait more than once.
 type Waiting = BucketQueue<(u32, u32)>;
 
 /// The distance of each tile from that of `from`, where a step to the next tile costs the least price of the open edges
-/// that lead there, and at most half a million. They take the place of the distances before.
+/// that lead there; half a million where that is more. They take the place of the distances before.
 pub fn landmark_distances(
     grid: &Grid,
     prices: &[u16],
