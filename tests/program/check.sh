@@ -536,7 +536,7 @@ expect 'the block routed better' 0 'nets 8
 forced 0
 routed 8
 rerouted 0
-rounds 53
+rounds 30
 overflow 4
 wirelength 49
 peak 3/2
