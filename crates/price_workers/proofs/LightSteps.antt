@@ -2,7 +2,7 @@
 use Rattle.std.proofs.Common.{◌≡◌, ◌<◌, ◌≤◌, ◌+◌, ◌*◌, ℕ, Bool, true, false, cond, List, [], ◌∷◌, length, get_or, map, All, refl, sym, ◌∙◌, ap, subst, arith, Option}
 use Rattle.std.specs.List.{sum_by, Contains}
 use Rattle.std.proofs.lemmas.List.Sums.{sum_by-cons}
-use Rattle.std.proofs.lemmas.List.Elements.{All-head, All-tail, All-nil, All-cons, Contains-get_or}
+use Rattle.std.proofs.lemmas.List.Elements.{All-head, All-map, All-tail, Contains-get_or}
 use Rattle.grid_base.specs.declared.piece.Piece.{Piece}
 use Rattle.grid_base.specs.declared.piece.Piece.TheVariants.{Edge, Via}
 use Rattle.grid_base.specs.declared.size.Size.{Size}
@@ -18,7 +18,6 @@ use Rattle.grid_graph.specs.Limits.{max_weight}
 use Rattle.grid_graph.specs.Weighed.{IsAllowed}
 use Rattle.grid_graph.proofs.Grounds.{ground_joins}
 use Rattle.edge_prices.specs.PieceLists.{AreGroundPieces}
-use Rattle.edge_prices.specs.Vectors.{price_vector}
 use Rattle.edge_prices.specs.Weights.{piece_weight, is_open, edge_cost, wirelength_price}
 use Rattle.edge_prices.proofs.GroundPieces.{pieces_with-Weighs}
 use Rattle.label_search.specs.Paths.{NoneWeighsNothing}
@@ -56,11 +55,6 @@ sum_by-given f [] are = refl
 sum_by-given f (x ∷ set) are =
     omega (arith, sum_by-cons (λ (y : Piece × ℕ). y.1) x set, sum_by-cons f x.0 (map (λ y. y.0) set), All-head (λ y. y.1 ≡ f y.0) x set are, sum_by-given f set (All-tail (λ y. y.1 ≡ f y.0) x set are))
 
--- what holds of the pieces of a set holds of all in the list of its pieces
-All-pieces : (P : Piece → Type 0) (set : List (Piece × ℕ)) → All (λ x. P x.0) set → All P (map (λ x. x.0) set)
-All-pieces P [] are = All-nil P
-All-pieces P (x ∷ set) are = All-cons P x.0 (map (λ y. y.0) set) (All-head (λ y. P y.0) x set are) (All-pieces P set (All-tail (λ y. P y.0) x set are))
-
 -- the least weight does not change with the order of the allowed pieces
 same_least : (s : Size) (pieces others : List (Piece × ℕ)) (T : ℕ → Type 0) (d : ℕ)
     → ((x : Piece × ℕ) → Contains pieces x → Contains others x) → ((x : Piece × ℕ) → Contains others x → Contains pieces x)
@@ -86,7 +80,7 @@ set_over g n over prices pieces set tree are of is_set =
     let f : Piece → ℕ = piece_weight g n.width prices in
     let each : (x : Piece × ℕ) → Contains set x → Allows g over x.0 × (x.1 ≡ f x.0) = λ x in_set. (are x.0 x.1).0 (is_set.allowed x in_set) in
     record {
-      inside = subst (KeepsTo g over) of (All-pieces (Allows g over) set (λ i d short. (each (get_or set i d) (Contains-get_or set i d short)).0));
+      inside = subst (KeepsTo g over) of (All-map (Allows g over) (λ x. x.0) set (λ i d short. (each (get_or set i d) (Contains-get_or set i d short)).0));
       weighs = sum_by-given f set (λ i d short. (each (get_or set i d) (Contains-get_or set i d short)).1) ∙ ap (λ ps. sum_by f ps) of;
       fore = λ x in_pieces. (pieces_with-Weighs g over f x.0 x.1).1 ((are x.0 x.1).0 in_pieces);
       back = λ x in_others. (are x.0 x.1).1 ((pieces_with-Weighs g over f x.0 x.1).0 in_others);
@@ -134,12 +128,8 @@ step_from_light g n over prices pieces tree total are many ground light =
       light = λ few links spanning. omega (arith, its.weighs, light.weighs, light.light links (same_spanning (size_of g) (weighed g n.width over prices) pieces n.terminals links its.back its.fore spanning));
     }
 
--- a step at the prices of a keeper is one at those of its grid, its loads and its setting
-pub step_moved : (g h : Grid) (n : NetSpec) (loads others : List ℕ) (scale scale' : ℕ) (budget budget' : Option ℕ) (tree : List Piece)
-    → g ≡ h → loads ≡ others → scale ≡ scale' → budget ≡ budget'
-    → IsStepAt g n (price_vector g loads scale budget) tree → IsStep h n others scale' budget' tree
-step_moved g h n loads others scale scale' budget budget' tree grid same as_scale as_budget step =
-    let by_budget = subst (λ (b : Option ℕ). IsStepAt g n (price_vector g loads scale b) tree) as_budget step in
-    let by_scale = subst (λ (s : ℕ). IsStepAt g n (price_vector g loads s budget') tree) as_scale by_budget in
-    let by_loads = subst (λ (l : List ℕ). IsStepAt g n (price_vector g l scale' budget') tree) same by_scale in
-    subst (λ (x : Grid). IsStepAt x n (price_vector x others scale' budget') tree) grid by_loads
+-- a step at some prices is one at the same prices by other names
+pub step_moved : {g h : Grid} {n : NetSpec} {loads others : List ℕ} {scale scale' : ℕ} {budget budget' : Option ℕ} {tree : List Piece}
+    → g ≡ h → loads ≡ others → scale ≡ scale' → budget ≡ budget' → IsStep g n loads scale budget tree
+    → IsStep h n others scale' budget' tree
+step_moved grid loads scale budget step = rw (← grid, ← loads, ← scale, ← budget) step

@@ -86,19 +86,31 @@ stands [] k within = absurd (omega (arith, within))
 stands (x ∷ xs) k within = (get_or (x ∷ xs) k x, slice_get-get_or (x ∷ xs) k x within)
 
 -- a gain, told of the same things by other names
-pub gains_moved : (g : Grid) (width : ℕ) (ps qs : List Piece) (old old' new : List ℕ) → ps ≡ qs → old ≡ old' → GainsTree g width ps old new → GainsTree g width qs old' new
-gains_moved g width ps qs old old' new set before gains =
-    subst (λ (o : List ℕ). GainsTree g width qs o new) before (subst (λ (x : List Piece). GainsTree g width x old new) set gains)
+pub gains_moved : (g : Grid) (width : ℕ) {ps qs : List Piece} {old old' : List ℕ} (new : List ℕ) → ps ≡ qs → old ≡ old'
+    → GainsTree g width ps old new → GainsTree g width qs old' new
+gains_moved g width new set before gains = rw (← set, ← before) gains
 
--- where the load of a set was put on, all stays true of the worker
-pub working_put : (g : Grid) (width : ℕ) (ps : List Piece) (share share' : Holding) (kept kept' : KeptPrices) (labels : TreeLabels) (refreshed : Bool)
-    → share.table.words ≡ entries (grid_of kept) → AreTreeLabels (size_of (grid_of kept)) labels → AreCloseTo share.party (loads_of kept)
-    → DiffersInShares share.party share'.party → GainsTree g width ps share.party.shares share'.party.shares → GainsTree g width ps (loads_of kept) (loads_of kept')
-    → share'.table ≡ share.table → KeepsSetting kept kept' → IsShare share' → IsWorking share' kept' labels refreshed
-working_put g width ps share share' kept kept' labels refreshed words labelled close differs put seen table setting valid = record {
-  words = ap (λ (t : TableId). t.words) table ∙ words ∙ ap entries (sym setting.grid);
-  loaded = kept'.kept.loaded;
-  labelled = subst (λ (x : Grid). AreTreeLabels (size_of x) labels) (sym setting.grid) labelled;
+-- a keeper's loads, and the shares of a holding, have an entry for each word
+pub kept_long : {g : Grid} (kept : KeptPrices) → grid_of kept ≡ g → length (loads_of kept) ≡ entries g
+kept_long kept same = kept.kept.loaded.long ∙ ap entries same
+
+pub share_wide : (g : Grid) {share : Holding} {table : TableId} → IsShare share → share.table ≡ table → table.words ≡ entries g
+    → length share.party.shares ≡ entries g
+share_wide g is same words = is.wide.shares ∙ ap (λ (t : TableId). t.words) same ∙ words
+
+-- where a step was taken at what is seen, and the load of a set was put on, all stays true of the worker
+pub working_put : (g : Grid) (width : ℕ) (ps : List Piece) (share new : Holding) (kept routed put : KeptPrices)
+    {labels : TreeLabels} {refreshed : Bool} → share.table.words ≡ entries (grid_of kept) → AreCloseTo share.party (loads_of kept)
+    → KeepsSetting kept routed → loads_of routed ≡ loads_of kept → AreTreeLabels (size_of (grid_of kept)) labels
+    → DiffersInShares share.party new.party → GainsTree g width ps share.party.shares new.party.shares
+    → GainsTree g width ps (loads_of routed) (loads_of put)
+    → new.table ≡ share.table → KeepsSetting routed put → IsShare new → IsWorking new put labels refreshed
+working_put g width ps share new kept routed put {labels = labels} words close route same labelled differs gains seen table setting
+    valid = record {
+  words = ap (λ (t : TableId). t.words) table ∙ words ∙ ap entries (sym (setting.grid ∙ route.grid));
+  loaded = put.kept.loaded;
+  labelled = subst (λ (x : Grid). AreTreeLabels (size_of x) labels) (sym (setting.grid ∙ route.grid)) labelled;
   share_holds = λ yes. valid;
-  close = λ yes. close_put g width ps share.party share'.party (loads_of kept) (loads_of kept') close differs put seen;
+  close = λ yes. close_put g width ps share.party new.party (loads_of kept) (loads_of put) close differs gains
+      (rw (← same) seen);
 }

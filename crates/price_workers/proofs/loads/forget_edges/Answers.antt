@@ -1,74 +1,41 @@
-use Rattle.std.proofs.Common.{◌≡◌, ◌<◌, ◌≤◌, ℕ, List, length, take, slice_index, ◌+◌, ◌*◌, sym, ◌∙◌, subst, ap, arith}
-use Rattle.std.proofs.lemmas.List.{take_all}
-use Rattle.grid_base.specs.declared.piece.Piece.{Piece}
-use Rattle.grid_base.specs.Numbers.{vertices}
-use Rattle.grid_graph.specs.Grids.{demand_on, size_of, entries}
-use Rattle.grid_graph.specs.Limits.{max_demand}
-use Rattle.edge_prices.specs.KeptLists.{loads_of}
-use Rattle.tree_set.specs.Loads.{net_load, tree_load}
-use Rattle.tree_set.specs.Order.{IsRising}
-use Rattle.tree_set.specs.Routings.{ArePieces}
-use Rattle.tree_set.proofs.Loads.{IsCounted-via, edge_number}
+use Rattle.std.proofs.Common.{◌∙◌, arith}
 use Rattle.sharing_runs.proofs.Kept.{KeepsSetting-trans}
-use Rattle.price_workers.proofs.Taken.{IsCounted-taken, enough_left}
+use Rattle.tree_set.proofs.Loads.{IsCounted-via}
+use Rattle.price_workers.proofs.Taken.{counted_all, edge_taken, next_edge}
+use Rattle.price_workers.proofs.TurnFacts.{kept_long}
 use Rattle.price_workers.proofs.loads.forget_edges.Goals as goal
 use Rattle.price_workers.proofs.loads.forget_edges.Goals.{in-Edge, in_default}
 
 pub loop-p-preserved : goal.loop-p-preserved
 loop-p-preserved c =
-    let g = c.args.grid.now in
-    let ps = c.pieces-p-items.result.now in
-    let i = c.loop-p.p-index in
     let inv = c.loop-p.invariant in
-    let first = loads_of c.args.kept.now in
-    let loads = loads_of c.loop-p.kept in
-    let rising : IsRising ps = subst IsRising (sym c.pieces-p-items.ensures.listed) c.pieces-p-items.ensures.rising in
-    let pieces : ArePieces (size_of g) ps = subst (ArePieces (size_of g)) (sym c.pieces-p-items.ensures.listed) c.requires.pieces in
+    let its = c.pieces-p-items.ensures in
     elim c.match-p.branch [
       | in-Edge w ↦
-          let x = w.in-Edge.e in
-          let numbered : x.0 < 2 * vertices (size_of g) = edge_number (size_of g) ps i _ x pieces c.loop-p-test.true w.in-Edge.is in
-          let long : length loads ≡ entries g = c.loop-p.kept.kept.loaded.long ∙ ap entries (inv.setting.grid ∙ c.requires.grid) in
-          let inside : x.0 < length loads = omega (arith, numbered, long) in
-          let before_long : length first ≡ entries g = c.args.kept.now.kept.loaded.long ∙ ap entries c.requires.grid in
-          let in_first : x.0 < length first = omega (arith, numbered, before_long) in
-          let small : demand_on g c.args.width x.0 ≤ max_demand = subst (λ (n : ℕ). n ≤ max_demand) w.demand.ensures.value w.demand.ensures.limit in
-          let held : tree_load g c.args.width ps x.0 ≤ slice_index first x.0 =
-          subst (λ (qs : List Piece). tree_load g c.args.width qs x.0 ≤ slice_index first x.0) (sym c.pieces-p-items.ensures.listed) (c.requires.had x.0) in
-          let enough = enough_left g c.args.width ps i _ x first loads rising c.loop-p-test.true w.in-Edge.is numbered in_first small held inv.seen in
+          let next = next_edge c.args.grid.now c.args.width _ w.in-Edge.e its.listed its.rising c.requires.pieces
+          c.loop-p-test.true w.in-Edge.is w.demand.ensures.value w.demand.ensures.limit w.from.ensures in
           rw w.kept-is (record {
-            seen = rw (w.lower.ensures.seen, w.from.ensures, w.demand.ensures.value)
-                (IsCounted-taken g c.args.width ps i _ x first loads rising c.loop-p-test.true w.in-Edge.is inside in_first small enough inv.seen);
+            seen = rw w.lower.ensures.seen (edge_taken next (kept_long c.args.kept.now c.requires.grid)
+                (kept_long c.loop-p.kept (inv.setting.grid ∙ c.requires.grid)) its.listed c.requires.had inv.seen).1;
             setting = KeepsSetting-trans _ _ _ inv.setting w.lower.ensures.setting;
           })
       | in_default w ↦
           rw w.kept-is (record {
-            seen = IsCounted-via g c.args.width ps i _ w.in_default.field-0 loads first c.loop-p-test.true w.in_default.is inv.seen;
+            seen = IsCounted-via _ _ _ _ _ w.in_default.field-0 _ _ c.loop-p-test.true w.in_default.is inv.seen;
             setting = inv.setting;
           })
     ]
 
 pub returns-clause-seen : goal.returns-clause-seen
-returns-clause-seen c e =
-    let ps = c.pieces-p-items.result.now in
-    let whole : take c.loop-p.p-index ps ≡ c.args.tree.now = take_all c.loop-p.p-index ps (omega (arith, c.loop-p-test.false)) ∙ c.pieces-p-items.ensures.listed in
-    c.loop-p.invariant.seen.value e ∙ ap (λ (qs : List Piece). slice_index (loads_of c.loop-p.kept) e + net_load c.args.grid.now c.args.width qs e) whole
+returns-clause-seen c =
+    counted_all c.pieces-p-items.ensures.listed (omega (arith, c.loop-p-test.false)) c.loop-p.invariant.seen
 
 -- an edge of the set still has its load on what is seen
 pub lower-requires-clause-load : goal.lower-requires-clause-load
 lower-requires-clause-load c =
-    let g = c.args.grid.now in
-    let ps = c.pieces-p-items.result.now in
-    let i = c.loop-p.p-index in
-    let x = c.in-Edge.e in
-    let first = loads_of c.args.kept.now in
-    let rising : IsRising ps = subst IsRising (sym c.pieces-p-items.ensures.listed) c.pieces-p-items.ensures.rising in
-    let pieces : ArePieces (size_of g) ps = subst (ArePieces (size_of g)) (sym c.pieces-p-items.ensures.listed) c.requires.pieces in
-    let numbered : x.0 < 2 * vertices (size_of g) = edge_number (size_of g) ps i _ x pieces c.loop-p-test.true c.in-Edge.is in
-    let long : length first ≡ entries g = c.args.kept.now.kept.loaded.long ∙ ap entries c.requires.grid in
-    let in_first : x.0 < length first = omega (arith, numbered, long) in
-    let small : demand_on g c.args.width x.0 ≤ max_demand = subst (λ (n : ℕ). n ≤ max_demand) c.demand.ensures.value c.demand.ensures.limit in
-    let held : tree_load g c.args.width ps x.0 ≤ slice_index first x.0 =
-    subst (λ (qs : List Piece). tree_load g c.args.width qs x.0 ≤ slice_index first x.0) (sym c.pieces-p-items.ensures.listed) (c.requires.had x.0) in
-    rw (c.from.ensures, c.demand.ensures.value)
-    (enough_left g c.args.width ps i _ x first (loads_of c.loop-p.kept) rising c.loop-p-test.true c.in-Edge.is numbered in_first small held c.loop-p.invariant.seen)
+    let inv = c.loop-p.invariant in
+    let its = c.pieces-p-items.ensures in
+    let next = next_edge c.args.grid.now c.args.width _ c.in-Edge.e its.listed its.rising c.requires.pieces
+    c.loop-p-test.true c.in-Edge.is c.demand.ensures.value c.demand.ensures.limit c.from.ensures in
+    (edge_taken next (kept_long c.args.kept.now c.requires.grid) (kept_long c.loop-p.kept (inv.setting.grid ∙ c.requires.grid))
+    its.listed c.requires.had inv.seen).0

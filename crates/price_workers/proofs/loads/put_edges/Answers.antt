@@ -1,56 +1,33 @@
-use Rattle.std.proofs.Common.{◌≡◌, ◌<◌, ◌≤◌, ℕ, List, length, take, slice_index, ◌+◌, ◌*◌, refl, sym, ◌∙◌, subst, ap, arith}
-use Rattle.std.proofs.lemmas.List.{take_all}
-use Rattle.atomic_table.specs.Seated.{TableId}
-use Rattle.grid_base.specs.declared.piece.Piece.{Piece}
-use Rattle.grid_base.specs.Numbers.{vertices}
-use Rattle.grid_graph.specs.Grids.{demand_on, size_of, entries}
-use Rattle.grid_graph.specs.Limits.{max_demand}
-use Rattle.edge_prices.specs.KeptLists.{loads_of}
+use Rattle.std.proofs.Common.{refl, sym, ◌∙◌, ap, arith}
 use Rattle.load_table.specs.Holdings.{Holding}
-use Rattle.tree_set.specs.Loads.{net_load}
-use Rattle.tree_set.specs.Order.{IsRising}
-use Rattle.tree_set.specs.Routings.{ArePieces}
-use Rattle.tree_set.proofs.Loads.{IsCounted-edge, IsCounted-via, edge_number}
 use Rattle.sharing_runs.proofs.Kept.{KeepsSetting-trans}
-use Rattle.price_workers.proofs.TurnFacts.{DiffersInShares-trans}
+use Rattle.tree_set.proofs.Loads.{IsCounted-via}
+use Rattle.price_workers.proofs.Taken.{counted_all, edge_put, next_edge}
+use Rattle.price_workers.proofs.TurnFacts.{DiffersInShares-trans, kept_long, share_wide}
 use Rattle.price_workers.proofs.loads.put_edges.Goals as goal
 use Rattle.price_workers.proofs.loads.put_edges.Goals.{in-Edge, in_default}
 
 pub loop-p-preserved : goal.loop-p-preserved
 loop-p-preserved c =
-    let g = c.args.grid.now in
-    let ps = c.pieces-p-items.result.now in
-    let i = c.loop-p.p-index in
     let inv = c.loop-p.invariant in
-    let start = c.args.share.now.party in
-    let before = c.loop-p.share.party in
-    let first = loads_of c.args.kept.now in
-    let loads = loads_of c.loop-p.kept in
-    let rising : IsRising ps = subst IsRising (sym c.pieces-p-items.ensures.listed) c.pieces-p-items.ensures.rising in
-    let pieces : ArePieces (size_of g) ps = subst (ArePieces (size_of g)) (sym c.pieces-p-items.ensures.listed) c.requires.pieces in
+    let its = c.pieces-p-items.ensures in
     elim c.match-p.branch [
       | in-Edge w ↦
-          let x = w.in-Edge.e in
-          let numbered : x.0 < 2 * vertices (size_of g) = edge_number (size_of g) ps i _ x pieces c.loop-p-test.true w.in-Edge.is in
-          let long : length loads ≡ entries g = c.loop-p.kept.kept.loaded.long ∙ ap entries (inv.setting.grid ∙ c.requires.grid) in
-          let inside : x.0 < length loads = omega (arith, numbered, long) in
-          let wide : length before.shares ≡ entries g = inv.valid.wide.shares ∙ ap (λ (t : TableId). t.words) (inv.table ∙ c.requires.table) ∙ c.requires.words in
-          let in_share : x.0 < length before.shares = omega (arith, numbered, wide) in
-          let small : demand_on g c.args.width x.0 ≤ max_demand = subst (λ (n : ℕ). n ≤ max_demand) w.demand.ensures.value w.demand.ensures.limit in
+          let next = next_edge c.args.grid.now c.args.width _ w.in-Edge.e its.listed its.rising c.requires.pieces
+          c.loop-p-test.true w.in-Edge.is w.demand.ensures.value w.demand.ensures.limit w.from.ensures in
+          let wide = share_wide c.args.grid.now inv.valid (inv.table ∙ c.requires.table) c.requires.words in
           rw (w.share-is, w.kept-is) (record {
-            share = rw (w.raise.ensures.event, w.from.ensures, w.demand.ensures.value)
-                (IsCounted-edge g c.args.width ps i _ x start.shares before.shares rising c.loop-p-test.true w.in-Edge.is in_share small inv.share);
-            seen = rw (w.raise.ensures.seen, w.from.ensures, w.demand.ensures.value)
-                (IsCounted-edge g c.args.width ps i _ x first loads rising c.loop-p-test.true w.in-Edge.is inside small inv.seen);
-            party = rw w.raise.ensures.event (DiffersInShares-trans start before _ inv.party refl);
+            share = rw w.raise.ensures.event (edge_put next wide inv.share);
+            seen = rw w.raise.ensures.seen (edge_put next (kept_long c.loop-p.kept (inv.setting.grid ∙ c.requires.grid)) inv.seen);
+            party = rw w.raise.ensures.event (DiffersInShares-trans c.args.share.now.party c.loop-p.share.party _ inv.party refl);
             table = ap (λ (h : Holding). h.table) w.raise.ensures.event ∙ sym c.requires.table;
             setting = KeepsSetting-trans _ _ _ inv.setting w.raise.ensures.setting;
             valid = w.raise.ensures.valid;
           })
       | in_default w ↦
           rw (w.share-is, w.kept-is) (record {
-            share = IsCounted-via g c.args.width ps i _ w.in_default.field-0 start.shares before.shares c.loop-p-test.true w.in_default.is inv.share;
-            seen = IsCounted-via g c.args.width ps i _ w.in_default.field-0 first loads c.loop-p-test.true w.in_default.is inv.seen;
+            share = IsCounted-via _ _ _ _ _ w.in_default.field-0 _ _ c.loop-p-test.true w.in_default.is inv.share;
+            seen = IsCounted-via _ _ _ _ _ w.in_default.field-0 _ _ c.loop-p-test.true w.in_default.is inv.seen;
             party = inv.party;
             table = inv.table;
             setting = inv.setting;
@@ -59,15 +36,9 @@ loop-p-preserved c =
     ]
 
 pub returns-clause-seen : goal.returns-clause-seen
-returns-clause-seen c e =
-    let g = c.args.grid.now in
-    let ps = c.pieces-p-items.result.now in
-    let whole : take c.loop-p.p-index ps ≡ c.args.tree.now = take_all c.loop-p.p-index ps (omega (arith, c.loop-p-test.false)) ∙ c.pieces-p-items.ensures.listed in
-    c.loop-p.invariant.seen.value e ∙ ap (λ (qs : List Piece). slice_index (loads_of c.args.kept.now) e + net_load g c.args.width qs e) whole
+returns-clause-seen c =
+    counted_all c.pieces-p-items.ensures.listed (omega (arith, c.loop-p-test.false)) c.loop-p.invariant.seen
 
 pub returns-clause-share : goal.returns-clause-share
-returns-clause-share c e =
-    let g = c.args.grid.now in
-    let ps = c.pieces-p-items.result.now in
-    let whole : take c.loop-p.p-index ps ≡ c.args.tree.now = take_all c.loop-p.p-index ps (omega (arith, c.loop-p-test.false)) ∙ c.pieces-p-items.ensures.listed in
-    c.loop-p.invariant.share.value e ∙ ap (λ (qs : List Piece). slice_index c.args.share.now.party.shares e + net_load g c.args.width qs e) whole
+returns-clause-share c =
+    counted_all c.pieces-p-items.ensures.listed (omega (arith, c.loop-p-test.false)) c.loop-p.invariant.share

@@ -1,15 +1,15 @@
 use Rattle.std.proofs.Common.{List, length, sym, ap, subst, arith}
 use Rattle.grid_base.specs.declared.size.Size.{Size}
 use Rattle.grid_base.specs.declared.vertex.Vertex.{Vertex}
-use Rattle.grid_base.specs.Walks.{Joins, JoinsList, InVertices}
+use Rattle.grid_base.specs.Walks.{Joins, InVertices}
 use Rattle.grid_graph.specs.Weighed.{IsAllowed}
 use Rattle.grid_graph.specs.declared.grid.Grid.{Grid}
 use Rattle.grid_graph.specs.Grids.{size_of}
 use Rattle.grid_graph.specs.Grounds.{IsGround}
-use Rattle.edge_prices.specs.KeptLists.{grid_of, scale_of, budget_of, loads_of, vector_of}
+use Rattle.edge_prices.specs.KeptLists.{grid_of, vector_of}
 use Rattle.edge_prices.specs.Weighings.{weighed_pieces, weighed_size}
 use Rattle.edge_prices.specs.Weights.{piece_weight}
-use Rattle.steiner_exact.specs.LeastSets.{IsLeastSet, IsLeastTree}
+use Rattle.steiner_exact.specs.LeastSets.{IsLeastTree}
 use Rattle.steiner_span.specs.LightTrees.{IsLightTree}
 use Rattle.steiner_exact.proofs.TwoTerminals.{joined_vertices}
 use Rattle.price_workers.proofs.LightSteps.{joined_by_pieces, none_weighs_nothing, step_from_least, step_from_light, step_moved}
@@ -53,37 +53,29 @@ spanning_tree-requires-clause-positive c =
 pub returns-then-terminals-gt-FEW_TERMINALS-clause-step : goal.returns-then-terminals-gt-FEW_TERMINALS-clause-step
 returns-then-terminals-gt-FEW_TERMINALS-clause-step c =
     let n = c.args.net.now in
-    let kept = c.renew.new.self in
-    let g : Grid = grid_of kept in
-    let pieces = weighed_pieces c.weighing-weighing.result in
-    let s = weighed_size c.weighing-weighing.result in
-    let terminals = c.list-terminals.result.now in
+    let g : Grid = grid_of c.renew.new.self in
+    let w = c.weighing-weighing in
+    let pieces = weighed_pieces w.result in
     let found = c.in_ok-found.found in
-    let light : IsLightTree s pieces terminals found.0 found.1 = c.in_ok-found.ensures.tree in
-    let there : IsLightTree (size_of g) pieces n.terminals found.0 found.1 =
-    subst (λ (z : Size). IsLightTree z pieces n.terminals found.0 found.1) c.weighing-weighing.ensures.size (subst (λ (ts : List Vertex). IsLightTree s pieces ts found.0 found.1) c.list-terminals.ensures.items light) in
-    step_moved g (grid_of c.args.kept.now) n (loads_of kept) (loads_of c.args.kept.now) (scale_of kept) (scale_of c.args.kept.now) (budget_of kept) (budget_of c.args.kept.now) found.0
-    c.renew.ensures.setting.grid c.renew.ensures.loads c.renew.ensures.setting.scale c.renew.ensures.setting.budget
-    (step_from_light g n c.args.over (vector_of kept) pieces found.0 found.1 c.weighing-weighing.ensures.pieces
+    let light = subst (λ (ts : List Vertex). IsLightTree (weighed_size w.result) pieces ts found.0 found.1)
+    c.list-terminals.ensures.items c.in_ok-found.ensures.tree in
+    step_moved c.renew.ensures.setting.grid c.renew.ensures.loads c.renew.ensures.setting.scale c.renew.ensures.setting.budget
+    (step_from_light g n c.args.over (vector_of c.renew.new.self) pieces found.0 found.1 w.ensures.pieces
     (omega (arith, c.if-terminals-gt-FEW_TERMINALS.true, ap (λ (ts : List Vertex). length ts) c.list-terminals.ensures.items))
-    (ground_kept (goal.at.returns-then-terminals-gt-FEW_TERMINALS-clause-step c).After-list-terminals) there)
+    (ground_kept (goal.at.returns-then-terminals-gt-FEW_TERMINALS-clause-step c).After-list-terminals)
+    (subst (λ (z : Size). IsLightTree z pieces n.terminals found.0 found.1) w.ensures.size light))
 
 pub returns-clause-step : goal.returns-clause-step
 returns-clause-step c =
     let n = c.args.net.now in
-    let kept = c.renew.new.self in
-    let g : Grid = grid_of kept in
-    let pieces = weighed_pieces c.weighing-weighing.result in
-    let s = weighed_size c.weighing-weighing.result in
-    let terminals = c.list-terminals.result.now in
+    let g : Grid = grid_of c.renew.new.self in
+    let w = c.weighing-weighing in
+    let pieces = weighed_pieces w.result in
     let found = c.in_ok-found-2.found in
-    let least : IsLeastTree s pieces terminals found.0 found.1 = c.in_ok-found-2.ensures.tree in
-    let joined : JoinsList (size_of g) found.0 n.terminals =
-    subst (λ (z : Size). JoinsList z found.0 n.terminals) c.weighing-weighing.ensures.size (subst (JoinsList s found.0) c.list-terminals.ensures.items least.joins) in
-    let lightest : IsLeastSet (size_of g) pieces n.terminals found.0 =
-    subst (λ (z : Size). IsLeastSet z pieces n.terminals found.0) c.weighing-weighing.ensures.size (subst (λ (ts : List Vertex). IsLeastSet s pieces ts found.0) c.list-terminals.ensures.items least.least) in
-    step_moved g (grid_of c.args.kept.now) n (loads_of kept) (loads_of c.args.kept.now) (scale_of kept) (scale_of c.args.kept.now) (budget_of kept) (budget_of c.args.kept.now) found.0
-    c.renew.ensures.setting.grid c.renew.ensures.loads c.renew.ensures.setting.scale c.renew.ensures.setting.budget
-    (step_from_least g n c.args.over (vector_of kept) pieces found.0 c.weighing-weighing.ensures.pieces
+    let listed = subst (λ (ts : List Vertex). IsLeastTree (weighed_size w.result) pieces ts found.0 found.1)
+    c.list-terminals.ensures.items c.in_ok-found-2.ensures.tree in
+    let least = subst (λ (z : Size). IsLeastTree z pieces n.terminals found.0 found.1) w.ensures.size listed in
+    step_moved c.renew.ensures.setting.grid c.renew.ensures.loads c.renew.ensures.setting.scale c.renew.ensures.setting.budget
+    (step_from_least g n c.args.over (vector_of c.renew.new.self) pieces found.0 w.ensures.pieces
     (omega (arith, c.if-terminals-gt-FEW_TERMINALS.false, ap (λ (ts : List Vertex). length ts) c.list-terminals.ensures.items))
-    (ground_kept (goal.at.returns-clause-step c).After-list-terminals) least.rising joined lightest)
+    (ground_kept (goal.at.returns-clause-step c).After-list-terminals) least.rising least.joins least.least)

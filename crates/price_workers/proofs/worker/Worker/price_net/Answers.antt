@@ -5,13 +5,8 @@ use Rattle.grid_base.specs.declared.piece.Piece.{Piece}
 use Rattle.grid_base.specs.Lists.{At}
 use Rattle.grid_graph.specs.declared.grid.Grid.{Grid}
 use Rattle.grid_graph.specs.declared.net_spec.NetSpec.{NetSpec}
-use Rattle.grid_graph.specs.Grids.{size_of, entries}
 use Rattle.grid_graph.specs.Grounds.{IsGround}
-use Rattle.edge_prices.specs.KeptLists.{grid_of, loads_of, scale_of, budget_of}
-use Rattle.edge_prices.specs.Vectors.{price_vector}
-use Rattle.steiner_exact.specs.TreeLabelWords.{AreTreeLabels}
-use Rattle.tree_set.specs.Routings.{ArePieces}
-use Rattle.price_workers.specs.Readings.{AreCloseTo}
+use Rattle.edge_prices.specs.KeptLists.{loads_of, scale_of, budget_of}
 use Rattle.price_workers.proofs.LightSteps.{step_moved}
 use Rattle.price_workers.proofs.TurnFacts.{At-read, gains_moved, step_pieces, working_put}
 use Rattle.price_workers.proofs.worker.Worker.price_net.Goals as goal
@@ -38,48 +33,42 @@ pushed c =
 
 pub route_net-requires-clause-ground : goal.route_net-requires-clause-ground
 route_net-requires-clause-ground c =
-    subst (λ (x : Grid). IsGround x c.index-list-net.result.terminals c.args.over) (sym c.requires.works.on_grid) (c.requires.ground c.index-list-net.result (here (goal.at.route_net-requires-clause-ground c).After-index-list-net))
+    subst (λ (x : Grid). IsGround x c.index-list-net.result.terminals c.args.over) (sym c.requires.works.on_grid)
+    (c.requires.ground c.index-list-net.result (here (goal.at.route_net-requires-clause-ground c).After-index-list-net))
 
 pub put_tree-requires-clause-width : goal.put_tree-requires-clause-width
-put_tree-requires-clause-width c = (c.args.design.now.limits.net c.args.net c.index-list-net.result (here (goal.at.put_tree-requires-clause-width c).After-index-list-net)).width
+put_tree-requires-clause-width c =
+    (c.args.design.now.limits.net c.args.net _ (here (goal.at.put_tree-requires-clause-width c).After-index-list-net)).width
 
 pub put_tree-requires-clause-pieces : goal.put_tree-requires-clause-pieces
 put_tree-requires-clause-pieces c =
-    let d = c.args.design.now in
-    let kept = c.args.self.now.kept in
-    let tree : List Piece = c.in_ok-tree.tree in
-    let pieces : ArePieces (size_of d.grid) tree = subst (λ (x : Grid). ArePieces (size_of x) tree) c.requires.works.on_grid
-    (step_pieces (grid_of kept) c.index-list-net.result (price_vector (grid_of kept) (loads_of kept) (scale_of kept) (budget_of kept)) tree c.in_ok-tree.ensures.step) in
-    subst (λ (ps : List Piece). ArePieces (size_of d.grid) ps) (sym (pushed c)) pieces
+    rw (pushed c, ← c.requires.works.on_grid) (step_pieces _ c.index-list-net.result _ c.in_ok-tree.tree c.in_ok-tree.ensures.step)
 
 pub invariant_of-self-2 : goal.invariant_of-self-2
 invariant_of-self-2 c =
     let w = c.args.self.now in
-    let setting = c.in_ok-tree.ensures.setting in
-    let close : AreCloseTo w.share.party (loads_of c.route_net.new.kept) =
-    subst (λ (l : List ℕ). AreCloseTo w.share.party l) (sym c.in_ok-tree.ensures.loads) (w.working.close c.requires.may.refreshed) in
+    let route = c.in_ok-tree.ensures in
+    let put = c.put_tree.ensures in
     record {
-      working = working_put c.args.design.now.grid c.index-list-net.result.width c.index.result.now w.share c.put_tree.new.share c.route_net.new.kept c.put_tree.new.kept
-          c.route_net.new.labels w.refreshed
-          (w.working.words ∙ ap entries (sym setting.grid))
-          (subst (λ (x : Grid). AreTreeLabels (size_of x) c.route_net.new.labels) (sym setting.grid) c.in_ok-tree.ensures.labels)
-          close c.put_tree.ensures.party c.put_tree.ensures.share c.put_tree.ensures.seen c.put_tree.ensures.table c.put_tree.ensures.setting c.put_tree.ensures.valid;
+      working = working_put c.args.design.now.grid c.index-list-net.result.width c.index.result.now w.share c.put_tree.new.share
+          w.kept c.route_net.new.kept c.put_tree.new.kept w.working.words (w.working.close c.requires.may.refreshed)
+          route.setting route.loads route.labels put.party put.share put.seen put.table put.setting put.valid;
     }
 
 pub returns-clause-priced : goal.returns-clause-priced
 returns-clause-priced c n at =
-    let d = c.args.design.now in
+    let g = c.args.design.now.grid in
     let w = c.args.self.now in
-    let tree : List Piece = c.in_ok-tree.tree in
     let spec = c.index-list-net.result in
-    let same : n ≡ spec = same_Some n spec (sym at ∙ here (goal.at.returns-clause-priced c).After-index-list-net) in
-    let shares = w.share.party.shares in
-    rw same (record {
-      tree = tree;
-      step = step_moved (grid_of w.kept) d.grid spec (loads_of w.kept) (loads_of w.kept) (scale_of w.kept) (scale_of w.kept) (budget_of w.kept) (budget_of w.kept) tree
-          c.requires.works.on_grid refl refl refl c.in_ok-tree.ensures.step;
+    let put = c.put_tree.ensures in
+    let its = pushed (goal.at.returns-clause-priced c).After-index in
+    let shares : w.share.party.shares ≡ w.share.party.shares = refl in
+    rw (same_Some n spec (sym at ∙ here (goal.at.returns-clause-priced c).After-index-list-net)) (record {
+      tree = c.in_ok-tree.tree;
+      step = step_moved {loads = loads_of w.kept} {scale = scale_of w.kept} {budget = budget_of w.kept} c.requires.works.on_grid
+          refl refl refl c.in_ok-tree.ensures.step;
       trees = c.in_ok-push.ensures.items;
-      seen = gains_moved d.grid spec.width c.index.result.now tree (loads_of c.route_net.new.kept) (loads_of w.kept) (loads_of c.put_tree.new.kept) (pushed (goal.at.returns-clause-priced c).After-index) c.in_ok-tree.ensures.loads c.put_tree.ensures.seen;
-      share = gains_moved d.grid spec.width c.index.result.now tree shares shares c.put_tree.new.share.party.shares (pushed (goal.at.returns-clause-priced c).After-index) refl c.put_tree.ensures.share;
-      counted = record { since = refl; refreshed = c.requires.may.refreshed; party = c.put_tree.ensures.party };
+      seen = gains_moved g spec.width (loads_of c.put_tree.new.kept) its c.in_ok-tree.ensures.loads put.seen;
+      share = gains_moved g spec.width c.put_tree.new.share.party.shares its shares put.share;
+      counted = record { since = refl; refreshed = c.requires.may.refreshed; party = put.party };
     })

@@ -1,4 +1,4 @@
-use Rattle.std.proofs.Common.{◌≡◌, List, length, get_or, refl, sym, ◌∙◌, ap, subst, arith}
+use Rattle.std.proofs.Common.{◌≡◌, List, get_or, refl, sym, ◌∙◌, ap, subst, arith}
 use Rattle.std.proofs.lemmas.List.{get_or-set_same}
 use Rattle.std.proofs.lemmas.Option.{same_Some}
 use Rattle.atomic_table.specs.Seated.{TableId}
@@ -6,17 +6,14 @@ use Rattle.grid_base.specs.declared.piece.Piece.{Piece}
 use Rattle.grid_base.specs.Lists.{At}
 use Rattle.grid_graph.specs.declared.grid.Grid.{Grid}
 use Rattle.grid_graph.specs.declared.net_spec.NetSpec.{NetSpec}
-use Rattle.grid_graph.specs.Grids.{size_of, entries, IsNetWidth}
+use Rattle.grid_graph.specs.Grids.{entries, IsNetWidth}
 use Rattle.grid_graph.specs.Grounds.{IsGround}
-use Rattle.edge_prices.specs.KeptLists.{grid_of, loads_of, scale_of, budget_of}
-use Rattle.edge_prices.specs.Vectors.{price_vector}
-use Rattle.steiner_exact.specs.TreeLabelWords.{AreTreeLabels}
-use Rattle.tree_set.specs.Routings.{ArePieces}
+use Rattle.edge_prices.specs.KeptLists.{grid_of, loads_of}
 use Rattle.price_workers.specs.Readings.{AreCloseTo}
-use Rattle.price_workers.specs.TreeLoads.{HasRoomForSet, HoldsTree, without_tree}
+use Rattle.price_workers.specs.TreeLoads.{HasRoomForSet, HoldsTree}
 use Rattle.price_workers.proofs.LightSteps.{step_moved}
 use Rattle.price_workers.proofs.Taken.{put_back}
-use Rattle.price_workers.proofs.TurnFacts.{DiffersInShares-trans, same_party, same_share, close_taken, room_taken, gains_moved, At-read, step_pieces, working_put}
+use Rattle.price_workers.proofs.TurnFacts.{DiffersInShares-trans, same_party, same_share, close_taken, room_taken, gains_moved, kept_long, At-read, step_pieces, working_put}
 use Rattle.price_workers.proofs.worker.Worker.reprice_net.Goals as goal
 use Rattle.price_workers.proofs.worker.Worker.reprice_net.Goals.{After-take_tree, After-index-in-Ok, After-index-in-Err}
 
@@ -46,7 +43,16 @@ room_without c =
     room_taken c.args.design.now.grid c.index-list-net.result.width c.index.result.now c.args.self.now.share.party c.take_tree.new.share.party
     c.requires.may.room c.take_tree.ensures.party c.take_tree.ensures.share
 
--- the grid is that of the design
+-- the grid is that of the design, which has so many entries, and the net's width is one of its widths
+words_without : (c : After-take_tree) → c.take_tree.new.share.table.words ≡ entries (grid_of c.take_tree.new.kept)
+words_without c =
+    ap (λ (t : TableId). t.words) c.take_tree.ensures.table
+    ∙ c.args.self.now.working.words
+    ∙ ap entries (sym c.take_tree.ensures.setting.grid)
+
+limited : (c : After-take_tree) → IsNetWidth c.args.design.now.grid c.index-list-net.result.width
+limited c = (c.args.design.now.limits.net c.args.net c.index-list-net.result (here c)).width
+
 grid_without : (c : After-take_tree) → grid_of c.take_tree.new.kept ≡ c.args.design.now.grid
 grid_without c = c.take_tree.ensures.setting.grid ∙ c.requires.works.on_grid
 
@@ -68,88 +74,85 @@ take_tree-requires-clause-had c =
 
 pub route_net-requires-clause-width : goal.route_net-requires-clause-width
 route_net-requires-clause-width c =
-    subst (λ (x : Grid). IsNetWidth x c.index-list-net.result.width) (sym (grid_without (goal.at.route_net-requires-clause-width c).After-take_tree)) (c.args.design.now.limits.net c.args.net c.index-list-net.result (here (goal.at.route_net-requires-clause-width c).After-take_tree)).width
+    rw (grid_without (goal.at.route_net-requires-clause-width c).After-take_tree)
+    (limited (goal.at.route_net-requires-clause-width c).After-take_tree)
 
 pub route_net-requires-clause-ground : goal.route_net-requires-clause-ground
 route_net-requires-clause-ground c =
-    subst (λ (x : Grid). IsGround x c.index-list-net.result.terminals c.args.over) (sym (grid_without (goal.at.route_net-requires-clause-ground c).After-take_tree)) (c.requires.ground c.index-list-net.result (here (goal.at.route_net-requires-clause-ground c).After-take_tree))
+    let took = (goal.at.route_net-requires-clause-ground c).After-take_tree in
+    subst (λ (x : Grid). IsGround x c.index-list-net.result.terminals c.args.over) (sym (grid_without took))
+    (c.requires.ground c.index-list-net.result (here took))
 
 pub put_tree-requires-clause-width : goal.put_tree-requires-clause-width
-put_tree-requires-clause-width c = (c.args.design.now.limits.net c.args.net c.index-list-net.result (here (goal.at.put_tree-requires-clause-width c).After-take_tree)).width
+put_tree-requires-clause-width c = limited (goal.at.put_tree-requires-clause-width c).After-take_tree
 
 pub put_tree-requires-clause-pieces : goal.put_tree-requires-clause-pieces
 put_tree-requires-clause-pieces c =
-    let kept = c.take_tree.new.kept in
-    let pieces : ArePieces (size_of c.args.design.now.grid) c.in-Ok.tree = subst (λ (x : Grid). ArePieces (size_of x) c.in-Ok.tree) (grid_without (goal.at.put_tree-requires-clause-pieces c).After-take_tree)
-    (step_pieces (grid_of kept) c.index-list-net.result (price_vector (grid_of kept) (loads_of kept) (scale_of kept) (budget_of kept)) c.in-Ok.tree c.in-Ok.ensures.step) in
-    subst (λ (ps : List Piece). ArePieces (size_of c.args.design.now.grid) ps) (sym (written c)) pieces
+    rw (written c, ← grid_without (goal.at.put_tree-requires-clause-pieces c).After-take_tree)
+    (step_pieces _ c.index-list-net.result _ c.in-Ok.tree c.in-Ok.ensures.step)
 
 pub put_tree-requires-clause-room : goal.put_tree-requires-clause-room
 put_tree-requires-clause-room c = room_without (goal.at.put_tree-requires-clause-room c).After-take_tree
 
 pub put_tree-requires-clause-close : goal.put_tree-requires-clause-close
-put_tree-requires-clause-close c = subst (AreCloseTo c.take_tree.new.share.party) (sym c.in-Ok.ensures.loads) (close_without (goal.at.put_tree-requires-clause-close c).After-take_tree)
+put_tree-requires-clause-close c =
+    rw c.in-Ok.ensures.loads (close_without (goal.at.put_tree-requires-clause-close c).After-take_tree)
 
 pub invariant_of-self : goal.invariant_of-self
 invariant_of-self c =
-    let setting = c.in-Ok.ensures.setting in
+    let took = (goal.at.invariant_of-self c).After-take_tree in
+    let route = c.in-Ok.ensures in
     let put = c.put_tree.ensures in
     record {
-      working = working_put c.args.design.now.grid c.index-list-net.result.width c.index-in-Ok.result.now c.take_tree.new.share c.put_tree.new.share
-          c.route_net.new.kept c.put_tree.new.kept c.route_net.new.labels c.args.self.now.refreshed
-          (ap (λ (t : TableId). t.words) c.take_tree.ensures.table ∙ c.args.self.now.working.words ∙ ap entries (sym (setting.grid ∙ c.take_tree.ensures.setting.grid)))
-          (subst (λ (x : Grid). AreTreeLabels (size_of x) c.route_net.new.labels) (sym setting.grid) c.in-Ok.ensures.labels)
-          (subst (AreCloseTo c.take_tree.new.share.party) (sym c.in-Ok.ensures.loads) (close_without (goal.at.invariant_of-self c).After-take_tree)) put.party put.share put.seen put.table put.setting put.valid;
+      working = working_put c.args.design.now.grid c.index-list-net.result.width c.index-in-Ok.result.now c.take_tree.new.share
+          c.put_tree.new.share c.take_tree.new.kept c.route_net.new.kept c.put_tree.new.kept (words_without took) (close_without took)
+          route.setting route.loads route.labels put.party put.share put.seen put.table put.setting put.valid;
     }
 
 pub put_tree-requires-in-Err-clause-width : goal.put_tree-requires-in-Err-clause-width
-put_tree-requires-in-Err-clause-width c = (c.args.design.now.limits.net c.args.net c.index-list-net.result (here (goal.at.put_tree-requires-in-Err-clause-width c).After-take_tree)).width
+put_tree-requires-in-Err-clause-width c = limited (goal.at.put_tree-requires-in-Err-clause-width c).After-take_tree
 
 pub put_tree-requires-in-Err-clause-pieces : goal.put_tree-requires-in-Err-clause-pieces
 put_tree-requires-in-Err-clause-pieces c =
-    subst (λ (ps : List Piece). ArePieces (size_of c.args.design.now.grid) ps) (sym (again c)) (held (goal.at.put_tree-requires-in-Err-clause-pieces c).After-take_tree).pieces
+    rw (again c) (held (goal.at.put_tree-requires-in-Err-clause-pieces c).After-take_tree).pieces
 
 pub put_tree-requires-in-Err-clause-room : goal.put_tree-requires-in-Err-clause-room
 put_tree-requires-in-Err-clause-room c = room_without (goal.at.put_tree-requires-in-Err-clause-room c).After-take_tree
 
 pub put_tree-requires-in-Err-clause-close : goal.put_tree-requires-in-Err-clause-close
-put_tree-requires-in-Err-clause-close c = subst (AreCloseTo c.take_tree.new.share.party) (sym c.in-Err.ensures.loads) (close_without (goal.at.put_tree-requires-in-Err-clause-close c).After-take_tree)
+put_tree-requires-in-Err-clause-close c =
+    rw c.in-Err.ensures.loads (close_without (goal.at.put_tree-requires-in-Err-clause-close c).After-take_tree)
 
 pub invariant_of-self-in-Err : goal.invariant_of-self-in-Err
 invariant_of-self-in-Err c =
-    let setting = c.in-Err.ensures.setting in
+    let took = (goal.at.invariant_of-self-in-Err c).After-take_tree in
+    let route = c.in-Err.ensures in
     let put = c.put_tree-in-Err.ensures in
     record {
-      working = working_put c.args.design.now.grid c.index-list-net.result.width c.index-in-Err.result.now c.take_tree.new.share c.put_tree-in-Err.new.share
-          c.route_net.new.kept c.put_tree-in-Err.new.kept c.route_net.new.labels c.args.self.now.refreshed
-          (ap (λ (t : TableId). t.words) c.take_tree.ensures.table ∙ c.args.self.now.working.words ∙ ap entries (sym (setting.grid ∙ c.take_tree.ensures.setting.grid)))
-          (subst (λ (x : Grid). AreTreeLabels (size_of x) c.route_net.new.labels) (sym setting.grid) c.in-Err.ensures.labels)
-          (subst (AreCloseTo c.take_tree.new.share.party) (sym c.in-Err.ensures.loads) (close_without (goal.at.invariant_of-self-in-Err c).After-take_tree)) put.party put.share put.seen put.table put.setting put.valid;
+      working = working_put c.args.design.now.grid c.index-list-net.result.width c.index-in-Err.result.now c.take_tree.new.share
+          c.put_tree-in-Err.new.share c.take_tree.new.kept c.route_net.new.kept c.put_tree-in-Err.new.kept (words_without took)
+          (close_without took) route.setting route.loads route.labels put.party put.share put.seen put.table put.setting put.valid;
     }
 
 pub returns-in-Ok-clause-repriced : goal.returns-in-Ok-clause-repriced
 returns-in-Ok-clause-repriced c n before at_net at_tree =
-    let d = c.args.design.now in
+    let g = c.args.design.now.grid in
     let w = c.args.self.now in
     let spec = c.index-list-net.result in
-    let old : List Piece = c.index.result.now in
     let took = c.take_tree.ensures in
-    let kept = c.take_tree.new.kept in
-    let same_net : n ≡ spec = same_Some n spec (sym at_net ∙ here (goal.at.returns-in-Ok-clause-repriced c).After-take_tree) in
-    let same_tree : before ≡ old = same_Some before old (sym at_tree ∙ stood (goal.at.returns-in-Ok-clause-repriced c).After-take_tree) in
-    rw (same_net, same_tree) (record {
+    let put = c.put_tree.ensures in
+    let after = (goal.at.returns-in-Ok-clause-repriced c).After-take_tree in
+    let its = written (goal.at.returns-in-Ok-clause-repriced c).After-index-in-Ok in
+    rw (same_Some n spec (sym at_net ∙ here after), same_Some before c.index.result.now (sym at_tree ∙ stood after)) (record {
       tree = c.in-Ok.tree;
-      step = step_moved (grid_of kept) d.grid spec (loads_of kept) (without_tree d.grid spec.width old (loads_of w.kept)) (scale_of kept) (scale_of w.kept) (budget_of kept) (budget_of w.kept) c.in-Ok.tree
-          (grid_without (goal.at.returns-in-Ok-clause-repriced c).After-take_tree) took.seen took.setting.scale took.setting.budget c.in-Ok.ensures.step;
+      step = step_moved (grid_without after) took.seen took.setting.scale took.setting.budget c.in-Ok.ensures.step;
       trees = refl;
-      seen = gains_moved d.grid spec.width c.index-in-Ok.result.now c.in-Ok.tree (loads_of c.route_net.new.kept) (without_tree d.grid spec.width old (loads_of w.kept)) (loads_of c.put_tree.new.kept)
-          (written (goal.at.returns-in-Ok-clause-repriced c).After-index-in-Ok) (c.in-Ok.ensures.loads ∙ took.seen) c.put_tree.ensures.seen;
-      share = gains_moved d.grid spec.width c.index-in-Ok.result.now c.in-Ok.tree c.take_tree.new.share.party.shares (without_tree d.grid spec.width old w.share.party.shares) c.put_tree.new.share.party.shares
-          (written (goal.at.returns-in-Ok-clause-repriced c).After-index-in-Ok) took.share c.put_tree.ensures.share;
+      seen = gains_moved g spec.width (loads_of c.put_tree.new.kept) its (c.in-Ok.ensures.loads ∙ took.seen) put.seen;
+      share = gains_moved g spec.width c.put_tree.new.share.party.shares its took.share put.share;
       counted = record {
         since = refl;
         refreshed = c.requires.may.refreshed;
-        party = DiffersInShares-trans w.share.party c.take_tree.new.share.party c.put_tree.new.share.party took.party c.put_tree.ensures.party;
+        party = DiffersInShares-trans w.share.party c.take_tree.new.share.party c.put_tree.new.share.party took.party put.party;
       };
     })
 
@@ -162,21 +165,22 @@ returns-in-Err-clause-no_memory c =
     let took = c.take_tree.ensures in
     let put = c.put_tree-in-Err.ensures in
     let kept = c.put_tree-in-Err.new.kept in
-    let shares = w.share.party.shares in
     let now = c.put_tree-in-Err.new.share.party in
-    let table : c.put_tree-in-Err.new.share.table ≡ w.share.table = put.table ∙ took.table in
+    let after = (goal.at.returns-in-Err-clause-no_memory c).After-take_tree in
+    let its = again (goal.at.returns-in-Err-clause-no_memory c).After-index-in-Err in
+    let had = (held after).had in
+    let table = put.table ∙ took.table in
     let valid = w.working.share_holds c.requires.may.refreshed in
-    let wide : length now.shares ≡ length shares = put.valid.wide.shares ∙ ap (λ (t : TableId). t.words) table ∙ sym valid.wide.shares in
-    let put_shares = gains_moved g width c.index-in-Err.result.now old c.take_tree.new.share.party.shares (without_tree g width old shares) now.shares (again (goal.at.returns-in-Err-clause-no_memory c).After-index-in-Err) took.share put.share in
-    let long : length (loads_of kept) ≡ length (loads_of w.kept) =
-    kept.kept.loaded.long ∙ ap entries (put.setting.grid ∙ c.in-Err.ensures.setting.grid ∙ took.setting.grid) ∙ sym w.kept.kept.loaded.long in
-    let put_seen = gains_moved g width c.index-in-Err.result.now old (loads_of c.route_net.new.kept) (without_tree g width old (loads_of w.kept)) (loads_of kept)
-    (again (goal.at.returns-in-Err-clause-no_memory c).After-index-in-Err) (c.in-Err.ensures.loads ∙ took.seen) put.seen in
+    let on_grid = put.setting.grid ∙ c.in-Err.ensures.setting.grid ∙ took.setting.grid in
     record {
       share = same_share w.share c.put_tree-in-Err.new.share table (same_party w.share.party now
-          (DiffersInShares-trans w.share.party c.take_tree.new.share.party now took.party put.party) (put_back g width old shares now.shares wide (held (goal.at.returns-in-Err-clause-no_memory c).After-take_tree).had put_shares));
+          (DiffersInShares-trans w.share.party c.take_tree.new.share.party now took.party put.party) (put_back g width old
+          w.share.party.shares now.shares (put.valid.wide.shares ∙ ap (λ (t : TableId). t.words) table ∙ sym valid.wide.shares) had
+          (gains_moved g width now.shares its took.share put.share)));
       trees = refl;
-      seen = put_back g width old (loads_of w.kept) (loads_of kept) long (λ r. omega (arith, (held (goal.at.returns-in-Err-clause-no_memory c).After-take_tree).had r, (w.working.close c.requires.may.refreshed r).least)) put_seen;
+      seen = put_back g width old (loads_of w.kept) (loads_of kept) (kept_long kept on_grid ∙ sym w.kept.kept.loaded.long)
+          (λ r. omega (arith, had r, (w.working.close c.requires.may.refreshed r).least))
+          (gains_moved g width (loads_of kept) its (c.in-Err.ensures.loads ∙ took.seen) put.seen);
       since = refl;
       refreshed = refl;
     }
