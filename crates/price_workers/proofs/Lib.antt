@@ -1,3 +1,4 @@
+mod Common
 pub mod LightSteps
 pub mod ReadSteps
 pub mod Taken

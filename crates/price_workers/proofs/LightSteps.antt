@@ -1,34 +1,22 @@
 -- A set of least weight at prices is a step.
-use Rattle.std.proofs.Common.{◌≡◌, ◌<◌, ◌≤◌, ◌+◌, ◌*◌, ℕ, Bool, true, false, cond, List, [], ◌∷◌, length, get_or, map, All, refl, sym, ◌∙◌, ap, subst, arith, Option}
-use Rattle.std.specs.List.{sum_by, Contains}
+use Rattle.std.proofs.Common.{◌≡◌, ◌<◌, ◌≤◌, ◌+◌, ◌*◌, ℕ, Bool, true, false, cond, List, [], ◌∷◌, length, get_or, map, All, refl}
+use Rattle.std.proofs.Common.{sym, ◌∙◌, ap, subst, arith, Option}
 use Rattle.std.proofs.lemmas.List.Sums.{sum_by-cons}
 use Rattle.std.proofs.lemmas.List.Elements.{All-head, All-map, All-tail, Contains-get_or}
-use Rattle.grid_base.specs.declared.piece.Piece.{Piece}
+use Rattle.price_workers.proofs.Common.{sum_by, Contains, Piece, Grid, NetSpec, Allows, size_of, IsGround, KeepsTo, Size, Vertex}
+use Rattle.price_workers.proofs.Common.{Joins, JoinsList, InVertices, max_weight, IsAllowed, piece_weight, is_open, edge_cost}
+use Rattle.price_workers.proofs.Common.{wirelength_price, IsRising, IsStep, IsStepAt, IsLightest, weighed, set_weight, IsLeastSet}
+use Rattle.price_workers.proofs.Common.{IsLightTree}
 use Rattle.grid_base.specs.declared.piece.Piece.TheVariants.{Edge, Via}
-use Rattle.grid_base.specs.declared.size.Size.{Size}
-use Rattle.grid_base.specs.declared.vertex.Vertex.{Vertex}
-use Rattle.grid_base.specs.Walks.{Joins, JoinsList, InVertices}
 use Rattle.grid_base.proofs.Joined.{Joins-superset}
-use Rattle.grid_graph.specs.declared.grid.Grid.{Grid}
 use Rattle.grid_graph.specs.declared.ground.Ground.{Ground}
-use Rattle.grid_graph.specs.declared.net_spec.NetSpec.{NetSpec}
-use Rattle.grid_graph.specs.Grids.{Allows, size_of}
-use Rattle.grid_graph.specs.Grounds.{IsGround}
-use Rattle.grid_graph.specs.Limits.{max_weight}
-use Rattle.grid_graph.specs.Weighed.{IsAllowed}
 use Rattle.grid_graph.proofs.Grounds.{ground_joins}
 use Rattle.edge_prices.specs.PieceLists.{AreGroundPieces}
-use Rattle.edge_prices.specs.Weights.{piece_weight, is_open, edge_cost, wirelength_price}
 use Rattle.edge_prices.proofs.GroundPieces.{pieces_with-Weighs}
 use Rattle.label_search.specs.Paths.{NoneWeighsNothing}
-use Rattle.label_search.specs.Sets as sets
-use Rattle.tree_set.specs.Order.{IsRising}
-use Rattle.tree_set.specs.Routings.{KeepsTo}
-use Rattle.sharing_runs.specs.NetSteps.{IsStep, IsStepAt, IsLightest, weighed, set_weight}
 use Rattle.steiner_tables.specs.Masks.{few_terminals}
 use Rattle.shortest_paths.specs.Spanning.{Link, IsSpanningTree}
-use Rattle.steiner_exact.specs.LeastSets.{IsLeastSet}
-use Rattle.steiner_span.specs.LightTrees.{IsLightTree}
+use Rattle.label_search.specs.Sets as sets
 
 one_of : (b : Bool) (x y : ℕ) → 0 < x → 0 < y → 0 < cond b x y
 one_of true x y first second = first

@@ -1,16 +1,9 @@
 -- The load of a routing, net by net.
-use Rattle.std.proofs.Common.{◌≡◌, ℕ, ◌+◌, ◌<◌, ◌≤◌, List, [], ◌∷◌, ◌++◌, length, take, slice_get, Some, sym, ◌∙◌, ap, subst, arith}
-use Rattle.std.proofs.lemmas.List.{take_all, take_more, length-take}
-use Rattle.std.proofs.lemmas.Option.{slice_get_within, get_or_from_slice_get}
-use Rattle.grid_base.specs.declared.piece.Piece.{Piece}
-use Rattle.grid_base.specs.Lists.{At}
-use Rattle.grid_graph.specs.declared.grid.Grid.{Grid}
-use Rattle.grid_graph.specs.declared.net_spec.NetSpec.{NetSpec}
-use Rattle.grid_graph.specs.Grids.{entries, size_of}
-use Rattle.tree_set.specs.Loads.{load_on, tree_load}
-use Rattle.tree_set.specs.Routings.{ArePieces}
+use Rattle.std.proofs.Common.{◌≡◌, ℕ, ◌+◌, ◌<◌, ◌≤◌, List, [], ◌∷◌, ◌++◌, length, take, slice_get, Some, sym, ◌∙◌, ap, subst}
+use Rattle.std.proofs.Common.{arith}
+use Rattle.price_workers.proofs.Common.{take_all, take_more, length-take, slice_get_within, get_or_from_slice_get, Piece, At}
+use Rattle.price_workers.proofs.Common.{Grid, NetSpec, entries, size_of, load_on, tree_load, ArePieces, net_load-beyond}
 use Rattle.sharing_runs.proofs.Between.{load_on-between, load_on-push}
-use Rattle.sharing_runs.proofs.Kept.{net_load-beyond}
 use Rattle.price_workers.proofs.Taken.{tree_load-edge}
 
 -- the load of one net more

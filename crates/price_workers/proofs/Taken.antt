@@ -1,23 +1,16 @@
 -- Loads as the set of a net is taken off, and what is put back.
-use Rattle.std.proofs.Common.{◌≡◌, ℕ, ◌+◌, ◌-◌, ◌<◌, ◌≤◌, ◌≢◌, Bool, true, false, cond, List, length, get_or, map, take, slice_index, slice_set, refl, sym, ◌∙◌, ap, subst, ⊎_elim, arith, eq-eqb, ne_eqb}
-use Rattle.std.specs.List.{range_with_len}
+use Rattle.std.proofs.Common.{◌≡◌, ℕ, ◌+◌, ◌-◌, ◌<◌, ◌≤◌, ◌≢◌, Bool, true, false, cond, List, length, get_or, map, take}
+use Rattle.std.proofs.Common.{slice_index, slice_set, refl, sym, ◌∙◌, ap, subst, ⊎_elim, arith, eq-eqb, ne_eqb}
 use Rattle.std.proofs.lemmas.Bool.{cases_eq, cases_lt}
-use Rattle.std.proofs.lemmas.List.{get_or-set_same, get_or-set_other, get_or_past, length-set, ext_get_or, take_all}
 use Rattle.std.proofs.lemmas.List.Folds.{list_any_at}
 use Rattle.std.proofs.lemmas.List.FromFn.{fill_by_all, get_or-map-range_with_len, length-map-range_with_len}
+use Rattle.price_workers.proofs.Common.{range_with_len, get_or-set_same, get_or-set_other, get_or_past, length-set, ext_get_or}
+use Rattle.price_workers.proofs.Common.{take_all, Piece, Grid, demand_on, edge_numbers, entries, size_of, is_edge_of}
+use Rattle.price_workers.proofs.Common.{max_tree_load, net_load, tree_load, ArePieces, IsCounted, IsCounted-edge, edge_number}
+use Rattle.price_workers.proofs.Common.{net_load-beyond, tree_load-added, GainsTree, without_tree, max_demand, IsRising}
 use Rattle.grid_base.specs.declared.edge.Edge.{Edge as EdgeNumber}
-use Rattle.grid_base.specs.declared.piece.Piece.{Piece}
 use Rattle.grid_base.specs.declared.piece.Piece.TheVariants.{Edge}
-use Rattle.grid_graph.specs.declared.grid.Grid.{Grid}
-use Rattle.grid_graph.specs.Grids.{demand_on, edge_numbers, entries, size_of}
-use Rattle.grid_graph.specs.Limits.{max_demand}
-use Rattle.tree_set.specs.Loads.{is_edge_of, max_tree_load, net_load, tree_load}
-use Rattle.tree_set.specs.Order.{IsRising}
-use Rattle.tree_set.specs.Routings.{ArePieces}
 use Rattle.tree_set.proofs.Counting.{length-pieces}
-use Rattle.tree_set.proofs.Loads.{IsCounted, IsCounted-edge, edge_number}
-use Rattle.sharing_runs.proofs.Kept.{net_load-beyond, tree_load-added}
-use Rattle.price_workers.specs.TreeLoads.{GainsTree, without_tree}
 
 -- a net uses its demand of an edge that its set holds
 pub net_load-held : (g : Grid) (width : ℕ) (ps : List Piece) (i : ℕ) (d : Piece) (x : EdgeNumber) → i < length ps → get_or ps i d ≡ Edge x → net_load g width ps x.0 ≡ demand_on g width x.0

@@ -1,25 +1,14 @@
 -- What a turn leaves of a worker's share and of what it sees.
 use Rattle.std.proofs.Common.{◌≡◌, ℕ, ◌-◌, ◌<◌, ◌≤◌, Bool, List, [], ◌∷◌, length, get_or, slice_index, sym, ◌∙◌, ap, subst, arith}
-use Rattle.grid_base.specs.declared.piece.Piece.{Piece}
-use Rattle.grid_base.specs.Lists.{At}
-use Rattle.grid_graph.specs.declared.grid.Grid.{Grid}
-use Rattle.grid_graph.specs.declared.net_spec.NetSpec.{NetSpec}
-use Rattle.grid_graph.specs.Grids.{size_of, entries}
+use Rattle.price_workers.proofs.Common.{Piece, At, Grid, NetSpec, size_of, entries, grid_of, loads_of, KeepsSetting, Holding}
+use Rattle.price_workers.proofs.Common.{IsShare, held, slice_get-get_or, tree_load, ArePieces, IsRoute, GainsTree, without_tree}
+use Rattle.price_workers.proofs.Common.{DiffersInShares, HasRoomForSet, TableId, IsStepAt, AreCloseTo}
 use Rattle.edge_prices.specs.declared.kept_prices.KeptPrices.{KeptPrices}
-use Rattle.edge_prices.specs.KeptLists.{grid_of, loads_of, KeepsSetting}
-use Rattle.atomic_table.specs.Seated.{TableId}
 use Rattle.grid_graph.proofs.Allowed.{Allows-IsPiece}
 use Rattle.load_core.specs.declared.party.Party.{Party}
 use Rattle.load_core.specs.Parties.{share_at}
-use Rattle.load_table.specs.Holdings.{Holding, IsShare, held}
 use Rattle.steiner_exact.specs.declared.tree_labels.TreeLabels.{TreeLabels}
 use Rattle.steiner_exact.specs.TreeLabelWords.{AreTreeLabels}
-use Rattle.sharing_runs.specs.NetSteps.{IsStepAt}
-use Rattle.std.proofs.lemmas.Option.{slice_get-get_or}
-use Rattle.tree_set.specs.Loads.{tree_load}
-use Rattle.tree_set.specs.Routings.{ArePieces, IsRoute}
-use Rattle.price_workers.specs.Readings.{AreCloseTo}
-use Rattle.price_workers.specs.TreeLoads.{GainsTree, without_tree, DiffersInShares, HasRoomForSet}
 use Rattle.price_workers.specs.Working.{IsWorking}
 use Rattle.price_workers.proofs.Taken.{without_tree-at}
 

@@ -1,5 +1,4 @@
-use Rattle.edge_prices.specs.KeptLists.{loads_of, KeepsSetting}
-use Rattle.tree_set.proofs.Loads.{IsCounted}
+use Rattle.price_workers.proofs.Common.{loads_of, KeepsSetting, IsCounted}
 use Rattle.price_workers.proofs.loads.forget_edges.Given as goal
 
 -- the edges so far were taken off

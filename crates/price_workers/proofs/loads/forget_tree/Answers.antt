@@ -1,5 +1,5 @@
 use Rattle.std.proofs.Common.{◌∙◌}
-use Rattle.edge_prices.specs.KeptLists.{loads_of}
+use Rattle.price_workers.proofs.Common.{loads_of}
 use Rattle.price_workers.proofs.Taken.{set_taken}
 use Rattle.price_workers.proofs.TurnFacts.{kept_long}
 use Rattle.price_workers.proofs.loads.forget_tree.Goals as goal

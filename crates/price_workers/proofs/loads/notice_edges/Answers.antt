@@ -1,10 +1,9 @@
 use Rattle.std.proofs.Common.{◌∙◌, arith}
-use Rattle.sharing_runs.proofs.Kept.{KeepsSetting-trans}
-use Rattle.tree_set.proofs.Loads.{IsCounted-via}
+use Rattle.price_workers.proofs.Common.{KeepsSetting-trans, IsCounted-via}
 use Rattle.price_workers.proofs.Taken.{counted_all, edge_put, next_edge}
 use Rattle.price_workers.proofs.TurnFacts.{kept_long}
-use Rattle.price_workers.proofs.loads.notice_edges.Goals as goal
 use Rattle.price_workers.proofs.loads.notice_edges.Goals.{in-Edge, in_default}
+use Rattle.price_workers.proofs.loads.notice_edges.Goals as goal
 
 pub loop-p-preserved : goal.loop-p-preserved
 loop-p-preserved c =

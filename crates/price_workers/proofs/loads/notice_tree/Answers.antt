@@ -1,7 +1,5 @@
 use Rattle.std.proofs.Common.{◌∙◌, arith}
-use Rattle.grid_graph.specs.Grids.{edge_numbers}
-use Rattle.edge_prices.specs.KeptLists.{loads_of}
-use Rattle.sharing_runs.proofs.Kept.{tree_load-added}
+use Rattle.price_workers.proofs.Common.{edge_numbers, loads_of, tree_load-added}
 use Rattle.price_workers.proofs.Taken.{last_rises}
 use Rattle.price_workers.proofs.TurnFacts.{kept_long}
 use Rattle.price_workers.proofs.loads.notice_tree.Goals as goal

@@ -1,11 +1,9 @@
 use Rattle.std.proofs.Common.{refl, sym, ◌∙◌, ap, arith}
-use Rattle.load_table.specs.Holdings.{Holding}
-use Rattle.sharing_runs.proofs.Kept.{KeepsSetting-trans}
-use Rattle.tree_set.proofs.Loads.{IsCounted-via}
+use Rattle.price_workers.proofs.Common.{Holding, KeepsSetting-trans, IsCounted-via}
 use Rattle.price_workers.proofs.Taken.{counted_all, edge_put, next_edge}
 use Rattle.price_workers.proofs.TurnFacts.{DiffersInShares-trans, kept_long, share_wide}
-use Rattle.price_workers.proofs.loads.put_edges.Goals as goal
 use Rattle.price_workers.proofs.loads.put_edges.Goals.{in-Edge, in_default}
+use Rattle.price_workers.proofs.loads.put_edges.Goals as goal
 
 pub loop-p-preserved : goal.loop-p-preserved
 loop-p-preserved c =

@@ -1,8 +1,5 @@
 use Rattle.std.proofs.Common.{◌≡◌}
-use Rattle.edge_prices.specs.KeptLists.{loads_of, KeepsSetting}
-use Rattle.load_table.specs.Holdings.{IsShare}
-use Rattle.tree_set.proofs.Loads.{IsCounted}
-use Rattle.price_workers.specs.TreeLoads.{DiffersInShares}
+use Rattle.price_workers.proofs.Common.{loads_of, KeepsSetting, IsShare, IsCounted, DiffersInShares}
 use Rattle.price_workers.proofs.loads.put_edges.Given as goal
 
 -- the edges so far were put on

@@ -1,20 +1,11 @@
 use Rattle.std.proofs.Common.{List, length, sym, ap, subst, arith}
-use Rattle.grid_base.specs.declared.size.Size.{Size}
-use Rattle.grid_base.specs.declared.vertex.Vertex.{Vertex}
-use Rattle.grid_base.specs.Walks.{Joins, InVertices}
-use Rattle.grid_graph.specs.Weighed.{IsAllowed}
-use Rattle.grid_graph.specs.declared.grid.Grid.{Grid}
-use Rattle.grid_graph.specs.Grids.{size_of}
-use Rattle.grid_graph.specs.Grounds.{IsGround}
-use Rattle.edge_prices.specs.KeptLists.{grid_of, vector_of}
+use Rattle.price_workers.proofs.Common.{Grid, size_of, IsGround, grid_of, vector_of, Size, Vertex, Joins, InVertices, IsAllowed}
+use Rattle.price_workers.proofs.Common.{piece_weight, IsLeastTree, IsLightTree}
 use Rattle.edge_prices.specs.Weighings.{weighed_pieces, weighed_size}
-use Rattle.edge_prices.specs.Weights.{piece_weight}
-use Rattle.steiner_exact.specs.LeastSets.{IsLeastTree}
-use Rattle.steiner_span.specs.LightTrees.{IsLightTree}
 use Rattle.steiner_exact.proofs.TwoTerminals.{joined_vertices}
 use Rattle.price_workers.proofs.LightSteps.{joined_by_pieces, none_weighs_nothing, step_from_least, step_from_light, step_moved}
-use Rattle.price_workers.proofs.net_route.route_net.Goals as goal
 use Rattle.price_workers.proofs.net_route.route_net.Goals.{After-list-terminals}
+use Rattle.price_workers.proofs.net_route.route_net.Goals as goal
 
 -- the net's ground is one in the keeper's grid
 ground_kept : (c : After-list-terminals) → IsGround (grid_of c.renew.new.self) c.args.net.now.terminals c.args.over

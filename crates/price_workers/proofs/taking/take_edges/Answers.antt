@@ -1,10 +1,9 @@
 use Rattle.std.proofs.Common.{refl, ◌∙◌, ap, arith}
-use Rattle.load_table.specs.Holdings.{Holding}
-use Rattle.tree_set.proofs.Loads.{IsCounted-via}
+use Rattle.price_workers.proofs.Common.{Holding, IsCounted-via}
 use Rattle.price_workers.proofs.Taken.{counted_all, edge_taken, next_edge}
 use Rattle.price_workers.proofs.TurnFacts.{DiffersInShares-trans, share_wide}
-use Rattle.price_workers.proofs.taking.take_edges.Goals as goal
 use Rattle.price_workers.proofs.taking.take_edges.Goals.{in-Edge, in_default}
+use Rattle.price_workers.proofs.taking.take_edges.Goals as goal
 
 pub loop-p-preserved : goal.loop-p-preserved
 loop-p-preserved c =

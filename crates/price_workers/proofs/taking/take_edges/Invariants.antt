@@ -1,7 +1,5 @@
 use Rattle.std.proofs.Common.{◌≡◌}
-use Rattle.load_table.specs.Holdings.{IsShare}
-use Rattle.tree_set.proofs.Loads.{IsCounted}
-use Rattle.price_workers.specs.TreeLoads.{DiffersInShares}
+use Rattle.price_workers.proofs.Common.{IsShare, IsCounted, DiffersInShares}
 use Rattle.price_workers.proofs.taking.take_edges.Given as goal
 
 -- the edges so far were taken off

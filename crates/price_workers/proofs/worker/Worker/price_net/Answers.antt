@@ -1,16 +1,9 @@
 use Rattle.std.proofs.Common.{◌≡◌, ℕ, List, length, get_or, ◌∷◌, ◌++◌, [], refl, sym, ◌∙◌, ap, subst}
-use Rattle.std.proofs.lemmas.List.{get_or_push}
-use Rattle.std.proofs.lemmas.Option.{same_Some}
-use Rattle.grid_base.specs.declared.piece.Piece.{Piece}
-use Rattle.grid_base.specs.Lists.{At}
-use Rattle.grid_graph.specs.declared.grid.Grid.{Grid}
-use Rattle.grid_graph.specs.declared.net_spec.NetSpec.{NetSpec}
-use Rattle.grid_graph.specs.Grounds.{IsGround}
-use Rattle.edge_prices.specs.KeptLists.{loads_of, scale_of, budget_of}
+use Rattle.price_workers.proofs.Common.{get_or_push, same_Some, Piece, At, Grid, NetSpec, IsGround, loads_of, scale_of, budget_of}
 use Rattle.price_workers.proofs.LightSteps.{step_moved}
 use Rattle.price_workers.proofs.TurnFacts.{At-read, gains_moved, step_pieces, working_put}
-use Rattle.price_workers.proofs.worker.Worker.price_net.Goals as goal
 use Rattle.price_workers.proofs.worker.Worker.price_net.Goals.{After-index, After-index-list-net}
+use Rattle.price_workers.proofs.worker.Worker.price_net.Goals as goal
 
 -- what was pushed is read at the length before
 read_pushed : (old all : List (List Piece)) (tree found : List Piece) → all ≡ old ++ tree ∷ [] → found ≡ get_or all (length old) found → found ≡ tree

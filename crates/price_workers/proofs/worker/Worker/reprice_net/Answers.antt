@@ -1,21 +1,12 @@
 use Rattle.std.proofs.Common.{◌≡◌, List, get_or, refl, sym, ◌∙◌, ap, subst, arith}
-use Rattle.std.proofs.lemmas.List.{get_or-set_same}
-use Rattle.std.proofs.lemmas.Option.{same_Some}
-use Rattle.atomic_table.specs.Seated.{TableId}
-use Rattle.grid_base.specs.declared.piece.Piece.{Piece}
-use Rattle.grid_base.specs.Lists.{At}
-use Rattle.grid_graph.specs.declared.grid.Grid.{Grid}
-use Rattle.grid_graph.specs.declared.net_spec.NetSpec.{NetSpec}
-use Rattle.grid_graph.specs.Grids.{entries, IsNetWidth}
-use Rattle.grid_graph.specs.Grounds.{IsGround}
-use Rattle.edge_prices.specs.KeptLists.{grid_of, loads_of}
-use Rattle.price_workers.specs.Readings.{AreCloseTo}
-use Rattle.price_workers.specs.TreeLoads.{HasRoomForSet, HoldsTree}
+use Rattle.price_workers.proofs.Common.{get_or-set_same, same_Some, Piece, At, Grid, NetSpec, entries, IsNetWidth, IsGround}
+use Rattle.price_workers.proofs.Common.{grid_of, loads_of, HasRoomForSet, HoldsTree, TableId, AreCloseTo}
 use Rattle.price_workers.proofs.LightSteps.{step_moved}
 use Rattle.price_workers.proofs.Taken.{put_back}
-use Rattle.price_workers.proofs.TurnFacts.{DiffersInShares-trans, same_party, same_share, close_taken, room_taken, gains_moved, kept_long, At-read, step_pieces, working_put}
-use Rattle.price_workers.proofs.worker.Worker.reprice_net.Goals as goal
+use Rattle.price_workers.proofs.TurnFacts.{DiffersInShares-trans, same_party, same_share, close_taken, room_taken, gains_moved}
+use Rattle.price_workers.proofs.TurnFacts.{kept_long, At-read, step_pieces, working_put}
 use Rattle.price_workers.proofs.worker.Worker.reprice_net.Goals.{After-take_tree, After-index-in-Ok, After-index-in-Err}
+use Rattle.price_workers.proofs.worker.Worker.reprice_net.Goals as goal
 
 -- the net stands in the design
 here : (c : After-take_tree) → At c.args.design.now.nets c.args.net c.index-list-net.result
