@@ -1,6 +1,6 @@
 -- Rounds of repair, one after another.
 use Rattle.std.proofs.Common.{◌≡◌, ◌≢◌, ℕ, zero, suc, ◌+◌, ◌-◌, ◌≤◌, ◌<◌, List, [], ◌∷◌, ◌++◌, length, min, replicate}
-use Rattle.std.proofs.Common.{slice_get, slice_index, slice_index_or, Option, All, refl, sym, ◌∙◌, ap, subst, arith, ⊎_elim}
+use Rattle.std.proofs.Common.{slice_index, slice_index_or, Option, refl, sym, ◌∙◌, ap, subst, arith, ⊎_elim}
 use Rattle.std.specs.List.{flat_map, range_with_len}
 use Rattle.std.proofs.lemmas.Bool.{cases_lt}
 use Rattle.std.proofs.lemmas.List.{append_assoc, append-nil, ext_get_or}
@@ -20,53 +20,49 @@ use Rattle.sharing_runs.specs.RepairRuns.{IsRepairResult, IsRepairRound, IsRepai
 use Rattle.routing_stages.specs.declared.chosen.Chosen.{Chosen}
 use Rattle.routing_stages.specs.declared.routed.Routed.{Routed}
 use Rattle.routing_stages.specs.declared.settings.Settings.{Settings}
-use Rattle.routing_stages.specs.Whole.{IsWholeShare}
+use Rattle.routing_stages.specs.Whole.{IsWholeChosen, IsWholeShare}
 use Rattle.routing_passes.proofs.WorkerSteps.{zeros_are_loads}
+use Rattle.ripup_repair.specs.declared.left.Left.{Left}
 use Rattle.ripup_repair.specs.declared.repaired.Repaired.{Repaired}
 use Rattle.ripup_repair.specs.RepairHistories.{IsRepaired, repair_history, round_history}
 use Rattle.ripup_repair.specs.RoundsDone.{AreRoundsDone, HasLoadOf, IsRoundDone}
 
--- what stands in a list of one
-only_one : {X : Type 0} (x : X) (k : ℕ) (y : X) → At (x ∷ []) k y → (k ≡ 0) × (x ≡ y)
-only_one x zero y at = (refl, same_Some x y at)
-only_one x (suc k) y at = absurd (omega (arith, slice_get_within (x ∷ []) (suc k) y at))
+-- what is so of the first number and of all behind it
+abbrev pub from_first : (P : ℕ → Type 0) → P 0 → ((k : ℕ) → P (suc k)) → (k : ℕ) → P k
+from_first P first behind zero = first
+from_first P first behind (suc k) = behind k
+
+-- what is so of the first of a list and of all behind it
+among : {X : Type 0} (P : ℕ → X → Type 0) (x : X) (xs : List X) → P 0 x → ((k : ℕ) (y : X) → At xs k y → P (suc k) y)
+    → (k : ℕ) (y : X) → At (x ∷ xs) k y → P k y
+among P x xs first behind zero y at = subst (P 0) (same_Some x y at) first
+among P x xs first behind (suc k) y at = behind k y at
 
 -- there was no overflow, or no round was left
-pub none_done : (d : Design) (workers : ℕ) (budget : Option ℕ) (rounds : ℕ) (table : TableId) (share : Holding)
-    (trees : List (List Piece)) (loads : List ℕ) (least : ℕ) (r : Repaired)
-    → 1 ≤ workers → (0 < rounds → routing_overflow d trees ≡ 0) → HasLoadOf d table trees share
-    → r.share ≡ share → r.rounds ≡ 0 → r.least ≡ least
-    → AreRoundsDone d workers budget rounds table share trees trees loads loads least r
-none_done d workers budget rounds table share trees loads least r some over has kept none same =
-    record {
-      later = [];
-      run = record {
-        some = some;
-        read = λ round start. replicate (entries d.grid) 0;
-        read_loads = λ round start. zeros_are_loads d.grid;
-        seen = λ round turn. replicate (entries d.grid) 0;
-        each = λ round before after at next. absurd (omega (arith, slice_get_within (trees ∷ []) (round + 1) after next));
-        most = omega arith;
-        goes_on = λ round t at more. absurd (omega (arith, more));
-        ends = λ round t at last less. ap (routing_overflow d) (sym (only_one trees round t at).1) ∙ over (omega (arith, less));
-      };
-      count = sym none;
-      routings = All-nil (IsRouting d.grid d.nets);
-      share = λ t at. subst (λ (h : Holding). HasLoadOf d table t h) (sym kept)
-          (subst (λ (x : List (List Piece)). HasLoadOf d table x share) (only_one trees r.rounds t at).1 has);
-      history = ap (λ (h : Holding). h.party.history) kept
-          ∙ sym (append-nil share.party.history)
-          ∙ ap (λ k. share.party.history ++ repair_history d workers (trees ∷ [])
-          (λ round start. replicate (entries d.grid) 0) k) (sym none);
-      within = omega (arith, same);
-      better = λ less. absurd (omega (arith, less, same));
-      none = λ equal. (refl, refl, λ k t at. absurd (omega (arith, slice_get_within [] k t at)));
-    }
-
--- the reading of the first round, and those of the rounds behind it
-abbrev pub from_first : {X : Type 0} → X → (ℕ → X) → ℕ → X
-from_first x f zero = x
-from_first x f (suc k) = f k
+pub none_done : {d : Design} {left : Left} {table : TableId} {share : Holding} {trees : List (List Piece)} {loads : List ℕ}
+    → 1 ≤ left.workers → (0 < left.rounds → routing_overflow d trees ≡ 0) → HasLoadOf d table trees share
+    → AreRoundsDone d left table share trees trees loads loads (record { share = share; rounds = 0; least = left.least })
+none_done {d = d} {left = left} {table = table} {share = share} {trees = trees} some over has = record {
+  later = [];
+  run = record {
+    some = some;
+    read = λ round start. replicate (entries d.grid) 0;
+    read_loads = λ round start. zeros_are_loads d.grid;
+    seen = λ round turn. replicate (entries d.grid) 0;
+    each = λ round before after at next. absurd (omega (arith, slice_get_within (trees ∷ []) (round + 1) after next));
+    most = omega arith;
+    goes_on = λ round t at more. absurd (omega (arith, more));
+    ends = among (λ round t. round + 1 ≡ 1 → round < left.rounds → routing_overflow d t ≡ 0) trees [] (λ last. over)
+        (λ k t at. absurd (omega (arith, slice_get_within [] k t at)));
+  };
+  count = refl;
+  routings = All-nil (IsRouting d.grid d.nets);
+  share = λ t at. subst (λ (x : List (List Piece)). HasLoadOf d table x share) (same_Some trees t at) has;
+  history = sym (append-nil share.party.history);
+  within = omega arith;
+  better = λ less. absurd (omega (arith, less));
+  none = λ equal. (refl, refl, λ k t at. absurd (omega (arith, slice_get_within [] k t at)));
+}
 
 -- what f gives along a range, one further on
 flat_map-shift : {A : Type 0} (f : ℕ → List A) (a n : ℕ)
@@ -80,72 +76,40 @@ flat_map-shift f a (suc n) =
 -- the history of a round and of the rounds behind it
 history-first : (d : Design) (workers : ℕ) (before : List (List Piece)) (routings : List (List (List Piece)))
     (first : ℕ → List ℕ) (read : ℕ → ℕ → List ℕ) (rounds : ℕ)
-    → repair_history d workers (before ∷ routings) (from_first first read) (suc rounds)
+    → repair_history d workers (before ∷ routings) (from_first (λ _. ℕ → List ℕ) first read) (suc rounds)
     ≡ round_history d workers before first ++ repair_history d workers routings read rounds
 history-first d workers before routings first read rounds =
     ap (λ rest. round_history d workers before first ++ rest)
     (flat_map-shift (λ round. round_history d workers (slice_index_or (before ∷ routings) round [])
-    (from_first first read round)) 0 rounds)
+    (from_first (λ _. ℕ → List ℕ) first read round)) 0 rounds)
 
--- a round more at the front of a run: its rounds
-first_each : (d : Design) (workers : ℕ) (budget : Option ℕ) (rounds : ℕ) (before after : List (List Piece))
-    (later : List (List (List Piece))) (read seen : ℕ → List ℕ)
-    → IsRepairRound d workers budget before after read seen → (run : IsRepairRun d workers budget rounds (after ∷ later))
-    → (k : ℕ) (b a : List (List Piece)) → At (before ∷ after ∷ later) k b → At (before ∷ after ∷ later) (k + 1) a
-    → IsRepairRound d workers budget b a (from_first read run.read k) (from_first seen run.seen k)
-first_each d workers budget rounds before after later read seen round run zero b a at next =
-    subst (λ (x : List (List Piece)). IsRepairRound d workers budget x a read seen) (same_Some before b at)
-    (subst (λ (x : List (List Piece)). IsRepairRound d workers budget before x read seen) (same_Some after a next) round)
-first_each d workers budget rounds before after later read seen round run (suc k) b a at next =
-    let further : suc k + 1 ≡ suc (k + 1) = omega arith in
-    run.each k b a at (subst (λ (j : ℕ). At (before ∷ after ∷ later) j a) further next)
-
--- its readings
-first_loads : (d : Design) (workers : ℕ) (budget : Option ℕ) (rounds : ℕ) (routings : List (List (List Piece)))
-    (read : ℕ → List ℕ)
-    → ((start : ℕ) → IsLoadList d.grid (read start)) → (run : IsRepairRun d workers budget rounds routings)
-    → (k start : ℕ) → IsLoadList d.grid (from_first read run.read k start)
-first_loads d workers budget rounds routings read loads run zero start = loads start
-first_loads d workers budget rounds routings read loads run (suc k) start = run.read_loads k start
-
--- where it goes on, and where it ends
-first_goes_on : (d : Design) (workers : ℕ) (budget : Option ℕ) (rounds : ℕ) (before : List (List Piece))
-    (routings : List (List (List Piece)))
-    → 0 < routing_overflow d before → IsRepairRun d workers budget rounds routings
-    → (k : ℕ) (t : List (List Piece)) → At (before ∷ routings) k t → k + 1 < length (before ∷ routings)
-    → 0 < routing_overflow d t
-first_goes_on d workers budget rounds before routings over run zero t at more =
-    subst (λ (x : List (List Piece)). 0 < routing_overflow d x) (same_Some before t at) over
-first_goes_on d workers budget rounds before routings over run (suc k) t at more = run.goes_on k t at (omega (arith, more))
-
-first_ends : (d : Design) (workers : ℕ) (budget : Option ℕ) (rounds : ℕ) (before : List (List Piece))
-    (routings : List (List (List Piece)))
-    → 0 < length routings → IsRepairRun d workers budget (rounds - 1) routings
-    → (k : ℕ) (t : List (List Piece)) → At (before ∷ routings) k t → k + 1 ≡ length (before ∷ routings) → k < rounds
-    → routing_overflow d t ≡ 0
-first_ends d workers budget rounds before routings some run zero t at last less = absurd (omega (arith, some, last))
-first_ends d workers budget rounds before routings some run (suc k) t at last less =
-    run.ends k t at (omega (arith, last)) (omega (arith, less))
-
-pub run-first : (d : Design) (workers : ℕ) (budget : Option ℕ) (rounds : ℕ) (before after : List (List Piece))
-    (later : List (List (List Piece))) (read seen : ℕ → List ℕ)
-    → 0 < rounds → 0 < routing_overflow d before
+-- a round more at the front of a run
+abbrev run_first : (d : Design) (workers : ℕ) (budget : Option ℕ) (rounds : ℕ) (before after : List (List Piece))
+    (later : List (List (List Piece))) (read seen : ℕ → List ℕ) → 0 < rounds → 0 < routing_overflow d before
     → IsRepairRound d workers budget before after read seen → ((start : ℕ) → IsLoadList d.grid (read start))
-    → (run : IsRepairRun d workers budget (rounds - 1) (after ∷ later))
-    → (more : IsRepairRun d workers budget rounds (before ∷ after ∷ later)) × (more.read ≡ from_first read run.read)
-run-first d workers budget rounds before after later read seen left over round loads run = (
-  record {
-    some = run.some;
-    read = from_first read run.read;
-    read_loads = first_loads d workers budget (rounds - 1) (after ∷ later) read loads run;
-    seen = from_first seen run.seen;
-    each = first_each d workers budget (rounds - 1) before after later read seen round run;
-    most = omega (arith, run.most, left);
-    goes_on = first_goes_on d workers budget (rounds - 1) before (after ∷ later) over run;
-    ends = first_ends d workers budget rounds before (after ∷ later) (omega arith) run;
-  },
-  refl,
-)
+    → IsRepairRun d workers budget (rounds - 1) (after ∷ later) → IsRepairRun d workers budget rounds (before ∷ after ∷ later)
+run_first d workers budget rounds before after later read seen left over round loads run =
+    let routings : List (List (List Piece)) = before ∷ after ∷ later in
+    let reads : ℕ → ℕ → List ℕ = from_first (λ _. ℕ → List ℕ) read run.read in
+    let sights : ℕ → ℕ → List ℕ = from_first (λ _. ℕ → List ℕ) seen run.seen in
+    record {
+      some = run.some;
+      read = reads;
+      read_loads = from_first (λ k. (start : ℕ) → IsLoadList d.grid (reads k start)) loads run.read_loads;
+      seen = sights;
+      each = from_first (λ k. (b a : List (List Piece)) → At routings k b → At routings (k + 1) a
+          → IsRepairRound d workers budget b a (reads k) (sights k))
+          (λ b a at next. subst (λ (x : List (List Piece)). IsRepairRound d workers budget x a read seen) (same_Some before b at)
+          (subst (λ (x : List (List Piece)). IsRepairRound d workers budget before x read seen) (same_Some after a next) round))
+          (λ k b a at next. let further : suc k + 1 ≡ suc (k + 1) = omega arith in
+          run.each k b a at (subst (λ (j : ℕ). At routings j a) further next));
+      most = omega (arith, run.most, left);
+      goes_on = among (λ k t. k + 1 < length routings → 0 < routing_overflow d t) before (after ∷ later) (λ more. over)
+          (λ k t at more. run.goes_on k t at (omega (arith, more)));
+      ends = among (λ k t. k + 1 ≡ length routings → k < rounds → routing_overflow d t ≡ 0) before (after ∷ later)
+          (λ last less. absurd (omega (arith, last)))
+          (λ k t at last less. run.ends k t at (omega (arith, last)) (omega (arith, less)));
+    }
 
 -- a list that has these loads, entry by entry
 pub listed : (d : Design) (trees : List (List Piece)) (loads : List ℕ) → length loads ≡ entries d.grid
@@ -157,41 +121,6 @@ listed d trees loads long each =
     let within : r < entries d.grid = omega (arith, short, long) in
     each r within ∙ sym (load_list-at d.grid d.nets trees r within))
 
--- what comes first stands there
-stands_first : {X : Type 0} (x : X) (xs : List X) → At (x ∷ xs) 0 x
-stands_first x xs = refl
-
-behind_least : (d : Design) (after : List (List Piece)) (later : List (List (List Piece))) (trees : List (List Piece))
-    → routing_overflow d trees < routing_overflow d after → IsRepairResult d later trees
-    → (k : ℕ) (t : List (List Piece)) → At (after ∷ later) k t → routing_overflow d trees ≤ routing_overflow d t
-behind_least d after later trees less result zero t at =
-    subst (λ (x : List (List Piece)). routing_overflow d trees ≤ routing_overflow d x) (same_Some after t at)
-    (omega (arith, less))
-behind_least d after later trees less result (suc k) t at = result.least k t at
-
-behind_first : (d : Design) (after : List (List Piece)) (later : List (List (List Piece))) (trees : List (List Piece))
-    → routing_overflow d trees < routing_overflow d after → (result : IsRepairResult d later trees)
-    → (k : ℕ) (t : List (List Piece)) → At (after ∷ later) k t → k < suc result.round
-    → routing_overflow d trees < routing_overflow d t
-behind_first d after later trees less result zero t at before =
-    subst (λ (x : List (List Piece)). routing_overflow d trees < routing_overflow d x) (same_Some after t at) less
-behind_first d after later trees less result (suc k) t at before = result.first k t at (omega (arith, before))
-
-first_least : (d : Design) (after : List (List Piece)) (later : List (List (List Piece)))
-    → ((k : ℕ) (t : List (List Piece)) → At later k t → routing_overflow d after ≤ routing_overflow d t)
-    → (k : ℕ) (t : List (List Piece)) → At (after ∷ later) k t → routing_overflow d after ≤ routing_overflow d t
-first_least d after later none zero t at = subst (λ (x : List (List Piece)). routing_overflow d after ≤ routing_overflow d x)
-    (same_Some after t at) (omega arith)
-first_least d after later none (suc k) t at = none k t at
-
-none_better : (d : Design) (after : List (List Piece)) (later : List (List (List Piece))) (least over bound : ℕ)
-    → over ≡ routing_overflow d after → least ≤ over → least ≤ bound
-    → ((k : ℕ) (t : List (List Piece)) → At later k t → bound ≤ routing_overflow d t)
-    → (k : ℕ) (t : List (List Piece)) → At (after ∷ later) k t → least ≤ routing_overflow d t
-none_better d after later least over bound is above low none zero t at =
-    subst (λ (x : List (List Piece)). least ≤ routing_overflow d x) (same_Some after t at) (omega (arith, is, above))
-none_better d after later least over bound is above low none (suc k) t at = omega (arith, none k t at, low)
-
 -- the first of least overflow is one of the rounds behind the first
 result_behind : (d : Design) (after : List (List Piece)) (later : List (List (List Piece))) (trees : List (List Piece))
     → routing_overflow d trees < routing_overflow d after → IsRepairResult d later trees
@@ -199,84 +128,72 @@ result_behind : (d : Design) (after : List (List Piece)) (later : List (List (Li
 result_behind d after later trees less result = record {
   round = suc result.round;
   stands = result.stands;
-  least = behind_least d after later trees less result;
-  first = behind_first d after later trees less result;
+  least = among (λ k t. routing_overflow d trees ≤ routing_overflow d t) after later (omega (arith, less)) result.least;
+  first = among (λ k t. k < suc result.round → routing_overflow d trees < routing_overflow d t) after later (λ early. less)
+      (λ k t at early. result.first k t at (omega (arith, early)));
 }
 
 -- or it is the first
 result_first : (d : Design) (after : List (List Piece)) (later : List (List (List Piece))) (trees : List (List Piece))
     → trees ≡ after → ((k : ℕ) (t : List (List Piece)) → At later k t → routing_overflow d after ≤ routing_overflow d t)
     → IsRepairResult d (after ∷ later) trees
-result_first d after later trees same none = record {
+result_first d after later trees same none = rw same (record {
   round = 0;
-  stands = ap (λ (t : List (List Piece)). slice_get (t ∷ later) 0) (sym same) ∙ stands_first trees later;
-  least = λ k t at. subst (λ (x : List (List Piece)). routing_overflow d x ≤ routing_overflow d t) (sym same)
-      (first_least d after later none k t at);
-  first = λ k t at before. absurd (omega (arith, before));
-}
+  stands = refl;
+  least = among (λ k t. routing_overflow d after ≤ routing_overflow d t) after later (omega arith) none;
+  first = λ k t at early. absurd (omega (arith, early));
+})
 
 -- what some rounds made of a routing, from the first of them on
-pub more_done : (d : Design) (workers : ℕ) (budget : Option ℕ) (rounds : ℕ) (table : TableId) (old mid : Holding)
-    (before after left final : List (List Piece))
-    (loads0 loads1 loads2 : List ℕ) (least over : ℕ) (r : Repaired) {s : Repaired}
-    → 0 < rounds → 0 < routing_overflow d before → over ≡ routing_overflow d after
-    → IsRoundDone d workers budget table old mid before after
-    → AreRoundsDone d workers budget (rounds - 1) table mid after left loads1 loads2 (min least over) r
-    → (over < least → loads1 ≡ load_list d.grid d.nets after) → (least ≤ over → loads1 ≡ loads0)
-    → (r.least ≡ least → final ≡ before) → (r.least ≢ least → final ≡ left)
-    → s.share ≡ r.share → s.rounds ≡ r.rounds + 1 → s.least ≡ r.least
-    → AreRoundsDone d workers budget rounds table old before final loads0 loads2 least s
-more_done d workers budget rounds table old mid before after left final loads0 loads1 loads2 least over r {s = s} some positive
-    is round done better none back stay share count same =
-    let more = run-first d workers budget rounds before after done.later round.read round.seen some positive round.round
-    round.read_loads done.run in
+pub more_done : {d : Design} {left : Left} {table : TableId} {old mid : Holding} {before after kept final : List (List Piece)}
+    {loads0 loads1 loads2 : List ℕ} {over : ℕ} {r : Repaired}
+    → 0 < left.rounds → 0 < routing_overflow d before → over ≡ routing_overflow d after
+    → IsRoundDone d left.workers left.budget table old mid before after
+    → AreRoundsDone d (record left { rounds = left.rounds - 1; overflow = over; least = min left.least over }) table mid after kept
+    loads1 loads2 r
+    → (over < left.least → loads1 ≡ load_list d.grid d.nets after) → (left.least ≤ over → loads1 ≡ loads0)
+    → (r.least ≡ left.least → final ≡ before) → (r.least ≢ left.least → final ≡ kept)
+    → AreRoundsDone d left table old before final loads0 loads2 (record r { rounds = r.rounds + 1 })
+more_done {d = d} {left = left} {table = table} {old = old} {before = before} {after = after} {kept = kept} {final = final} {over = over}
+    {r = r} some positive is round done better none back stay =
     let next : r.rounds + 1 ≡ suc r.rounds = omega arith in
+    let routings : List (List (List Piece)) = after ∷ done.later in
+    let reads : ℕ → ℕ → List ℕ = from_first (λ _. ℕ → List ℕ) round.read done.run.read in
     record {
-      later = after ∷ done.later;
-      run = more.0;
-      count = omega (arith, done.count, count);
+      later = routings;
+      run = run_first d left.workers left.budget left.rounds before after done.later round.read round.seen some positive round.round
+          round.read_loads done.run;
+      count = omega (arith, done.count);
       routings = All-cons (IsRouting d.grid d.nets) after done.later round.routing done.routings;
-      share = λ t at. subst (λ (h : Holding). HasLoadOf d table t h) (sym share)
-          (done.share t (subst (λ (k : ℕ). At (before ∷ after ∷ done.later) k t) (count ∙ next) at));
-      history = ap (λ (h : Holding). h.party.history) share
-          ∙ done.history
-          ∙ ap (λ h. h ++ repair_history d workers (after ∷ done.later) done.run.read r.rounds) round.history
-          ∙ append_assoc old.party.history (round_history d workers before round.read)
-          (repair_history d workers (after ∷ done.later) done.run.read r.rounds)
-          ∙ ap (λ h. old.party.history ++ h) (sym (history-first d workers before
-          (after ∷ done.later) round.read done.run.read r.rounds))
-          ∙ ap (λ k. old.party.history ++ repair_history d workers (before ∷ after ∷ done.later)
-          (from_first round.read done.run.read) k) (sym (count ∙ next))
-          ∙ ap (λ reads. old.party.history ++ repair_history d workers (before ∷ after ∷ done.later) reads s.rounds)
-          (sym more.1);
-      within = omega (arith, same, done.within);
+      share = λ t at. done.share t (subst (λ (k : ℕ). At (before ∷ routings) k t) next at);
+      history = done.history
+          ∙ ap (λ h. h ++ repair_history d left.workers routings done.run.read r.rounds) round.history
+          ∙ append_assoc old.party.history (round_history d left.workers before round.read)
+          (repair_history d left.workers routings done.run.read r.rounds)
+          ∙ ap (λ h. old.party.history ++ h) (sym (history-first d left.workers before routings round.read done.run.read r.rounds))
+          ∙ ap (λ k. old.party.history ++ repair_history d left.workers (before ∷ routings) reads k) (sym next);
+      within = omega (arith, done.within);
       better = λ less.
-          let kept : final ≡ left = stay (λ equal. omega (arith, equal, less, same)) in
-          ⊎_elim
-          (λ (lower : r.least < min least over).
-          let best = done.better lower in (
-            subst (λ (x : List (List Piece)). IsRepairResult d (after ∷ done.later) x) (sym kept)
-                (result_behind d after done.later left (omega (arith, best.1, lower, is)) best.0),
-            ap (routing_overflow d) kept ∙ best.1 ∙ sym same,
-            best.2 ∙ ap (load_list d.grid d.nets) (sym kept),
-          ))
-          (λ (equal : min least over ≤ r.least).
+          let its : final ≡ kept = stay (λ equal. omega (arith, equal, less)) in
+          rw its (⊎_elim
+          (λ (lower : r.least < min left.least over).
+          let best = done.better lower in
+          (result_behind d after done.later kept (omega (arith, best.1, lower, is)) best.0, best.1, best.2))
+          (λ (equal : min left.least over ≤ r.least).
           let last = done.none (omega (arith, equal, done.within)) in
-          let under : over < least = omega (arith, less, same, equal) in
-          let final_is : final ≡ after = kept ∙ last.0 in (
-            result_first d after done.later final final_is (λ k t at. omega (arith, last.2 k t at, under, is)),
-            ap (routing_overflow d) final_is ∙ omega (arith, is, same, equal, under, done.within),
-            last.1 ∙ better under ∙ ap (load_list d.grid d.nets) (sym final_is),
+          let under : over < left.least = omega (arith, less, equal) in (
+            result_first d after done.later kept last.0 (λ k t at. omega (arith, last.2 k t at, under, is)),
+            ap (routing_overflow d) last.0 ∙ omega (arith, is, equal, under, done.within),
+            last.1 ∙ better under ∙ ap (load_list d.grid d.nets) (sym last.0),
           ))
-          (cases_lt r.least (min least over));
+          (cases_lt r.least (min left.least over)));
       none = λ equal.
-          let was : r.least ≡ least = sym same ∙ equal in
-          let last = done.none (omega (arith, was, done.within)) in
-          let above : least ≤ over = omega (arith, was, done.within) in (
-            back was,
+          let last = done.none (omega (arith, equal, done.within)) in
+          let above : left.least ≤ over = omega (arith, equal, done.within) in (
+            back equal,
             last.1 ∙ none above,
-            none_better d after done.later least over (min least over) is above
-                (omega (arith, above)) last.2,
+            among (λ k t. left.least ≤ routing_overflow d t) after done.later (omega (arith, is, above))
+                (λ k t at. omega (arith, last.2 k t at, above)),
           );
     }
 
@@ -290,58 +207,64 @@ whole_share d table trees share has is words = record {
   shares = listed d trees share.party.shares (is.wide.shares ∙ words) (λ r within. has.loads r within);
 }
 
--- the result of rounds from the chosen sets on, with its loads
-pub is_result : (d : Design) (workers : ℕ) (budget : Option ℕ) (rounds : ℕ) (table : TableId) (old : Holding)
-    (before after : List (List Piece)) (loads0 loads1 : List ℕ) (least : ℕ) (r : Repaired)
-    → (done : AreRoundsDone d workers budget rounds table old before after loads0 loads1 least r)
-    → least ≡ routing_overflow d before → loads0 ≡ load_list d.grid d.nets before
-    → IsRepairResult d (before ∷ done.later) after × (loads1 ≡ load_list d.grid d.nets after)
-is_result d workers budget rounds table old before after loads0 loads1 least r done is loads =
-    ⊎_elim
-    (λ (less : r.least < least).
+-- what a pick handed on has a table with a word for each entry
+pub whole_words : {d : Design} {chosen : Chosen} → IsWholeChosen d chosen → IsShare chosen.share → chosen.table.words ≡ entries d.grid
+whole_words {d = d} {chosen = chosen} whole is =
+    sym (ap (λ (t : TableId). t.words) whole.share.of_table)
+    ∙ sym is.wide.shares
+    ∙ ap length (whole.share.shares ∙ whole.loads)
+    ∙ load_list-long d.grid d.nets chosen.trees
+
+-- rounds from the chosen sets on
+abbrev pub from_chosen : ℕ → Settings → ℕ → Left
+from_chosen workers settings over =
+    record { workers = workers; budget = settings.budget; rounds = settings.rounds; overflow = over; least = over }
+
+-- the result of rounds from the chosen sets on, which is a routing, with its loads
+pub is_result : {d : Design} {left : Left} {table : TableId} {old : Holding} {before after : List (List Piece)} {loads0 loads1 : List ℕ}
+    {r : Repaired} → (done : AreRoundsDone d left table old before after loads0 loads1 r)
+    → left.least ≡ routing_overflow d before → loads0 ≡ load_list d.grid d.nets before → IsRouting d.grid d.nets before
+    → (result : IsRepairResult d (before ∷ done.later) after) × (loads1 ≡ load_list d.grid d.nets after) × IsRouting d.grid d.nets after
+is_result {d = d} {left = left} {before = before} {after = after} {loads1 = loads1} {r = r} done is loads first =
+    let routings : List (List (List Piece)) = before ∷ done.later in
+    let found : IsRepairResult d routings after × (loads1 ≡ load_list d.grid d.nets after) = ⊎_elim
+    (λ (less : r.least < left.least).
     let best = done.better less in
     (result_behind d before done.later after (omega (arith, best.1, less, is)) best.0, best.2))
-    (λ (more : least ≤ r.least).
+    (λ (more : left.least ≤ r.least).
     let none = done.none (omega (arith, more, done.within)) in (
       result_first d before done.later after none.0 (λ k t at. omega (arith, none.2 k t at, is)),
       none.1 ∙ loads ∙ ap (load_list d.grid d.nets) (sym none.0),
     ))
-    (cases_lt r.least least)
-
--- which is a routing
-pub result_routing : (d : Design) (before trees : List (List Piece)) (later : List (List (List Piece)))
-    → IsRouting d.grid d.nets before → All (IsRouting d.grid d.nets) later → IsRepairResult d (before ∷ later) trees
-    → IsRouting d.grid d.nets trees
-result_routing d before trees later first all result =
-    subst (λ (ts : List (List Piece)). IsRouting d.grid d.nets ts)
-    (get_or_from_slice_get (before ∷ later) result.round trees trees result.stands)
-    (All-cons (IsRouting d.grid d.nets) before later first all result.round trees
-    (slice_get_within (before ∷ later) result.round trees result.stands))
+    (cases_lt r.least left.least) in (
+      found.0,
+      found.1,
+      subst (λ (ts : List (List Piece)). IsRouting d.grid d.nets ts)
+          (get_or_from_slice_get routings found.0.round after after found.0.stands)
+          (All-cons (IsRouting d.grid d.nets) before done.later first done.routings found.0.round after
+          (slice_get_within routings found.0.round after found.0.stands)),
+    )
 
 -- so what is handed on is the result of a repair run
-pub is_repaired : (d : Design) (workers : ℕ) (settings : Settings) (chosen : Chosen) (after : List (List Piece))
-    (loads0 loads1 : List ℕ) (least : ℕ) (x : Repaired) (r : Routed)
-    → AreRoundsDone d workers settings.budget settings.rounds chosen.table chosen.share chosen.trees after loads0 loads1 least x
-    → least ≡ routing_overflow d chosen.trees → loads0 ≡ load_list d.grid d.nets chosen.trees
+pub is_repaired : {d : Design} {workers : ℕ} {settings : Settings} {chosen : Chosen} {after : List (List Piece)}
+    {loads0 loads1 : List ℕ} {over : ℕ} {x : Repaired} (r : Routed)
+    → (done : AreRoundsDone d (from_chosen workers settings over) chosen.table chosen.share chosen.trees after loads0 loads1 x)
+    → IsRepairResult d (chosen.trees ∷ done.later) after
     → IsShare x.share → chosen.table.words ≡ entries d.grid
     → r.table ≡ chosen.table → r.share ≡ x.share → r.rounds ≡ x.rounds → r.trees ≡ after
     → IsRepaired d workers settings chosen r
-is_repaired d workers settings chosen after loads0 loads1 least x r done is loads valid words table share rounds trees =
-    let result = is_result d workers settings.budget settings.rounds chosen.table chosen.share chosen.trees after loads0 loads1
-    least x done is loads in
-    record {
-      routings = chosen.trees ∷ done.later;
-      run = done.run;
-      begins = refl;
-      result = subst (λ (ts : List (List Piece)). IsRepairResult d (chosen.trees ∷ done.later) ts) (sym trees) result.0;
-      rounds = omega (arith, done.count, rounds);
-      last = λ ts at.
-          let has = done.share ts (subst (λ (k : ℕ). At (chosen.trees ∷ done.later) k ts) rounds at) in
-          subst (λ (t : TableId). IsWholeShare t (load_list d.grid d.nets ts) r.share) (sym table)
-          (subst (λ (h : Holding). IsWholeShare chosen.table (load_list d.grid d.nets ts) h) (sym share)
-          (whole_share d chosen.table ts x.share has valid (ap (λ (t : TableId). t.words) has.of_table ∙ words)));
-      history = ap (λ (h : Holding). h.party.history) share
-          ∙ done.history
-          ∙ ap (λ k. chosen.share.party.history ++ repair_history d workers (chosen.trees ∷ done.later) done.run.read k)
-          (sym rounds);
-    }
+is_repaired {d = d} {workers = workers} {chosen = chosen} {x = x} r done result valid words table share rounds trees = record {
+  routings = chosen.trees ∷ done.later;
+  run = done.run;
+  begins = refl;
+  result = rw trees result;
+  rounds = omega (arith, done.count, rounds);
+  last = λ ts at.
+      let has = done.share ts (subst (λ (k : ℕ). At (chosen.trees ∷ done.later) k ts) rounds at) in
+      subst (λ (t : TableId). IsWholeShare t (load_list d.grid d.nets ts) r.share) (sym table)
+      (subst (λ (h : Holding). IsWholeShare chosen.table (load_list d.grid d.nets ts) h) (sym share)
+      (whole_share d chosen.table ts x.share has valid (ap (λ (t : TableId). t.words) has.of_table ∙ words)));
+  history = ap (λ (h : Holding). h.party.history) share
+      ∙ done.history
+      ∙ ap (λ k. chosen.share.party.history ++ repair_history d workers (chosen.trees ∷ done.later) done.run.read k) (sym rounds);
+}

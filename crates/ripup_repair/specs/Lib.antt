@@ -1,6 +1,5 @@
 pub use Rattle.sharing_runs.specs.Parts
 pub use Rattle.sharing_runs.specs.RepairRuns
 pub mod Exchanged
-pub mod Rounds
 pub mod RepairHistories
 pub mod RoundsDone

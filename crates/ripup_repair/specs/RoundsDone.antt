@@ -11,6 +11,7 @@ use Rattle.load_table.specs.Holdings.{Holding}
 use Rattle.tree_set.specs.Loads.{load_list, load_on}
 use Rattle.tree_set.specs.Routings.{IsRouting}
 use Rattle.sharing_runs.specs.RepairRuns.{IsRepairResult, IsRepairRound, IsRepairRun, routing_overflow}
+use Rattle.ripup_repair.specs.declared.left.Left.{Left}
 use Rattle.ripup_repair.specs.declared.repaired.Repaired.{Repaired}
 use Rattle.ripup_repair.specs.RepairHistories.{repair_history, round_history}
 
@@ -31,18 +32,19 @@ pub record IsRoundDone (d : Design) (workers : ℕ) (budget : Option ℕ) (table
   pub share : HasLoadOf d table after new
   pub history : new.party.history ≡ old.party.history ++ round_history d workers before read
 
--- rounds have been, at most so many, until there was no overflow: where one of them has less than the least before, the first
--- of least overflow is what is left, with its loads, and else the sets and the loads before
-pub record AreRoundsDone (d : Design) (workers : ℕ) (budget : Option ℕ) (rounds : ℕ) (table : TableId) (old : Holding)
-    (before after : List (List Piece)) (old_loads new_loads : List ℕ) (least : ℕ) (r : Repaired) : Type 0 where
+-- rounds have been, at most as many as were left, until there was no overflow: where one of them has less than the least before,
+-- the first of least overflow is what is left, with its loads, and else the sets and the loads before
+pub record AreRoundsDone (d : Design) (left : Left) (table : TableId) (old : Holding) (before after : List (List Piece))
+    (old_loads new_loads : List ℕ) (r : Repaired) : Type 0 where
   pub later : List (List (List Piece))
-  pub run : IsRepairRun d workers budget rounds (before ∷ later)
+  pub run : IsRepairRun d left.workers left.budget left.rounds (before ∷ later)
   pub count : length later ≡ r.rounds
   pub routings : All (IsRouting d.grid d.nets) later
   pub share : (trees : List (List Piece)) → At (before ∷ later) r.rounds trees → HasLoadOf d table trees r.share
-  pub history : r.share.party.history ≡ old.party.history ++ repair_history d workers (before ∷ later) run.read r.rounds
-  pub within : r.least ≤ least
-  pub better : r.least < least → IsRepairResult d later after × (routing_overflow d after ≡ r.least)
+  pub history : r.share.party.history
+      ≡ old.party.history ++ repair_history d left.workers (before ∷ later) run.read r.rounds
+  pub within : r.least ≤ left.least
+  pub better : r.least < left.least → IsRepairResult d later after × (routing_overflow d after ≡ r.least)
       × (new_loads ≡ load_list d.grid d.nets after)
-  pub none : r.least ≡ least → (after ≡ before) × (new_loads ≡ old_loads)
-      × ((k : ℕ) (trees : List (List Piece)) → At later k trees → least ≤ routing_overflow d trees)
+  pub none : r.least ≡ left.least → (after ≡ before) × (new_loads ≡ old_loads)
+      × ((k : ℕ) (trees : List (List Piece)) → At later k trees → left.least ≤ routing_overflow d trees)

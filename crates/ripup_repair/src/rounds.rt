@@ -53,8 +53,8 @@ pub(crate) fn repair_rounds<R: Threads + Sync, G: Gate>(
     requires routing { IsRouting design.now.grid design.now.nets trees.old }
     requires share { HasLoadOf design.now table.now trees.old share }
     requires overflow { left.overflow ≡ routing_overflow design.now trees.old }
-    ensures done { IfOk result (λ r. AreRoundsDone design.now left.workers left.budget left.rounds table.now share trees.old
-        trees.new loads.old.items loads.new.items left.least r) }
+    ensures done { IfOk result (λ r. AreRoundsDone design.now left table.now share trees.old trees.new loads.old.items
+        loads.new.items r) }
 {
     if left.overflow == 0 || left.rounds == 0 {
         return Ok(Repaired {

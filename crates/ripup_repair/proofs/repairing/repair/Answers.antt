@@ -1,8 +1,6 @@
 use Rattle.std.proofs.Common.{◌≡◌, ℕ, List, length, slice_index, refl, sym, ◌∙◌, ap, subst, arith}
-use Rattle.atomic_table.specs.Seated.{TableId}
 use Rattle.grid_base.specs.declared.piece.Piece.{Piece}
 use Rattle.grid_base.specs.Numbers.{vertices}
-use Rattle.grid_graph.specs.Grids.{size_of}
 use Rattle.tree_set.specs.Loads.{load_list}
 use Rattle.tree_set.specs.Routings.{IsRouting}
 use Rattle.sharing_runs.proofs.Between.{load_list-at, load_list-long}
@@ -10,7 +8,7 @@ use Rattle.routing_stages.specs.Settings.{workers_in_use}
 use Rattle.sharing_runs.specs.RepairRuns.{routing_overflow}
 use Rattle.ripup_repair.specs.RoundsDone.{AreRoundsDone, HasLoadOf}
 use Rattle.ripup_repair.proofs.RoundFacts.{written_over}
-use Rattle.ripup_repair.proofs.RoundRuns.{is_repaired, is_result, result_routing}
+use Rattle.ripup_repair.proofs.RoundRuns.{from_chosen, is_repaired, is_result, whole_words}
 use Rattle.ripup_repair.proofs.repairing.repair.Goals as goal
 
 pub overflow_of-rounded-requires-clause-long : goal.overflow_of-rounded-requires-clause-long
@@ -22,13 +20,7 @@ pub overflow_of-rounded-requires-clause-listed : goal.overflow_of-rounded-requir
 overflow_of-rounded-requires-clause-listed g c = (c.args.chosen.trees, c.deref.ensures.value ∙ c.requires.whole.loads)
 
 pub repair_rounds-requires-clause-words : goal.repair_rounds-requires-clause-words
-repair_rounds-requires-clause-words g c κs within =
-    let d = c.args.design.now in
-    let whole = c.requires.whole in
-    sym (ap (λ (t : TableId). t.words) whole.share.of_table)
-    ∙ sym c.allotment.ensures.share.wide.shares
-    ∙ ap length (whole.share.shares ∙ whole.loads)
-    ∙ load_list-long d.grid d.nets c.args.chosen.trees
+repair_rounds-requires-clause-words g c κs within = whole_words c.requires.whole c.allotment.ensures.share
 
 pub repair_rounds-requires-clause-routing : goal.repair_rounds-requires-clause-routing
 repair_rounds-requires-clause-routing g c κs within =
@@ -62,28 +54,21 @@ returns g c =
     let over : ℕ = c.overflow_of-rounded.result in
     let after : List (List Piece) = c.repair_rounds.new.trees in
     let loads : List ℕ = c.repair_rounds.new.loads.items in
-    let before : c.deref_mut.result.now ≡ chosen.trees = c.deref_mut.ensures.value ∙ c.into_list-list.ensures in
-    let in_use : ℕ = workers_in_use s.workers (vertices (size_of d.grid)) in
-    let workers : c.workers_in_use-workers.result ≡ in_use =
-    c.workers_in_use-workers.ensures.value ∙ ap (λ z. workers_in_use s.workers (vertices z)) c.size.ensures in
-    let words = sym (ap (λ (t : TableId). t.words) whole.share.of_table)
-    ∙ sym c.allotment.ensures.share.wide.shares
-    ∙ ap length (whole.share.shares ∙ whole.loads)
-    ∙ load_list-long d.grid d.nets chosen.trees in
+    let workers = c.workers_in_use-workers.ensures.value ∙ ap (λ z. workers_in_use s.workers (vertices z)) c.size.ensures in
     let done =
-    subst (λ (w : ℕ). AreRoundsDone d w s.budget s.rounds chosen.table chosen.share chosen.trees after chosen.loads.items loads
-    over c.in_ok-done.done) workers
-    (subst (λ (ts : List (List Piece)). AreRoundsDone d c.workers_in_use-workers.result s.budget s.rounds chosen.table
-    chosen.share ts after chosen.loads.items loads over c.in_ok-done.done) before c.in_ok-done.ensures.done) in
+    subst (λ (w : ℕ). AreRoundsDone d (from_chosen w s over) chosen.table chosen.share chosen.trees after chosen.loads.items loads
+    c.in_ok-done.done) workers
+    (subst (λ (ts : List (List Piece)). AreRoundsDone d (from_chosen c.workers_in_use-workers.result s over) chosen.table chosen.share
+    ts after chosen.loads.items loads c.in_ok-done.done) (c.deref_mut.ensures.value ∙ c.into_list-list.ensures)
+    c.in_ok-done.ensures.done) in
     let now : c.of.result ≡ after =
     c.of.ensures ∙ written_over c.into_list-list.result.len after c.into_list-list.result.items
     (omega (arith, c.repair_rounds.auto.trees, c.deref_mut.ensures.len)) in
     let is = c.overflow_of-rounded.ensures chosen.trees (c.deref.ensures.value ∙ whole.loads) in
-    let result = is_result d in_use s.budget s.rounds _ _ _ _ _ _ _ _ done is whole.loads in
+    let result = is_result done is whole.loads whole.routing in
     record {
-      repaired = is_repaired d in_use s chosen _ _ _ _ _ _ done is whole.loads c.allotment-2.ensures.share words refl refl refl now;
-      routing = subst (λ (ts : List (List Piece)). IsRouting d.grid d.nets ts) (sym now)
-          (result_routing d chosen.trees after done.later whole.routing done.routings result.0);
+      repaired = is_repaired _ done result.0 c.allotment-2.ensures.share (whole_words whole c.allotment.ensures.share) refl refl refl now;
+      routing = rw now result.2;
       rounded = is;
       loads = result.1 ∙ ap (load_list d.grid d.nets) (sym now);
       table = refl;

@@ -1,4 +1,4 @@
-use Rattle.std.proofs.Common.{◌≡◌, ◌≢◌, ◌<◌, ◌-◌, ℕ, List, refl, ◌∙◌, ap, subst, arith}
+use Rattle.std.proofs.Common.{◌≡◌, ◌≢◌, ◌<◌, ◌-◌, ℕ, List, ◌∙◌, ap, subst, arith}
 use Rattle.std.proofs.lemmas.Bool.{le-ltb, lt-ltb}
 use Rattle.atomic_table.specs.Seated.{TableId}
 use Rattle.grid_base.specs.declared.piece.Piece.{Piece}
@@ -12,16 +12,12 @@ use Rattle.ripup_repair.proofs.rounds.+repair_rounds.Goals.{then-left-eq0-via-el
 
 pub returns-then-left-eq0 : goal.returns-then-left-eq0
 returns-then-left-eq0 g t c =
-    let d = c.args.design.now in
-    let over : 0 < c.args.left.rounds → routing_overflow d c.args.trees.now ≡ 0 =
+    let over : 0 < c.args.left.rounds → routing_overflow c.args.design.now c.args.trees.now ≡ 0 =
     λ left. elim c.then-left-eq0.branch [
       | then-left-eq0-via-then-left-eq0 w ↦ omega (arith, w.if-left-eq0.true, c.requires.overflow)
       | then-left-eq0-via-else-left-eq0+then-left-eq0-2 w ↦ absurd (omega (arith, w.if-left-eq0-2.true, left))
     ] in
-    record {
-      done = none_done d c.args.left.workers c.args.left.budget c.args.left.rounds c.args.table.now c.args.share c.args.trees.now
-          c.args.loads.now.items c.args.left.least _ c.requires.workers.0 over c.requires.share refl refl refl;
-    }
+    record { done = none_done c.requires.workers.0 over c.requires.share }
 
 pub keep_if_less-requires-clause-words : goal.keep_if_less-requires-clause-words
 keep_if_less-requires-clause-words g t c =
@@ -37,28 +33,24 @@ repair_rounds-requires-clause-overflow g t c κs within =
 
 pub returns : goal.returns
 returns g t c =
-    let d = c.args.design.now in
-    let before : List (List Piece) = c.args.trees.now in
+    let left = c.args.left in
     let after : List (List Piece) = c.repair_round.new.trees in
-    let left : List (List Piece) = c.repair_rounds.new.trees in
-    let least : ℕ = c.args.left.least in
-    let over : ℕ = c.in_ok-overflow.overflow in
-    let kept : List ℕ = c.keep_if_less.new.loads.items in
+    let round = c.in_ok-share.ensures in
     let later = c.in_ok-later.later in
-    let read = c.in_ok-overflow.ensures.overflow c.args.table.now after c.in_ok-share.ensures.done.share in
-    let done = subst (λ (m : ℕ). AreRoundsDone d c.args.left.workers c.args.left.budget (c.args.left.rounds - 1) c.args.table.now
-    c.in_ok-share.share after left kept c.repair_rounds.new.loads.items m later) c.min.ensures c.in_ok-later.ensures.done in
-    let back : later.least ≡ least → c.put_back_unless.new.trees ≡ before =
+    let read = c.in_ok-overflow.ensures.overflow c.args.table.now after round.done.share in
+    let done = subst (λ (m : ℕ). AreRoundsDone c.args.design.now (record left { rounds = left.rounds - 1;
+    overflow = c.in_ok-overflow.overflow; least = m }) c.args.table.now c.in_ok-share.share after c.repair_rounds.new.trees
+    c.keep_if_less.new.loads.items c.repair_rounds.new.loads.items later) c.min.ensures c.in_ok-later.ensures.done in
+    let back : later.least ≡ left.least → c.put_back_unless.new.trees ≡ c.args.trees.now =
     λ equal.
-    c.put_back_unless.ensures.back (le-ltb later.least least (omega (arith, equal)))
+    c.put_back_unless.ensures.back (le-ltb later.least left.least (omega (arith, equal)))
     ∙ ap (λ (ts : List (List Piece)). with_elements ts c.in_ok-share.replaced.positions.items c.in_ok-share.replaced.sets.items)
     (done.none (omega (arith, equal, done.within))).0
-    ∙ c.in_ok-share.ensures.back in
-    let stay : later.least ≢ least → c.put_back_unless.new.trees ≡ left =
-    λ other. c.put_back_unless.ensures.better (lt-ltb later.least least (omega (arith, other, done.within))) in
+    ∙ round.back in
+    let stay : later.least ≢ left.least → c.put_back_unless.new.trees ≡ c.repair_rounds.new.trees =
+    λ other. c.put_back_unless.ensures.better (lt-ltb later.least left.least (omega (arith, other, done.within))) in
     record {
-      done = more_done d c.args.left.workers c.args.left.budget c.args.left.rounds c.args.table.now c.args.share _ before after left
-          c.put_back_unless.new.trees c.args.loads.now.items kept c.repair_rounds.new.loads.items least over later
-          (omega (arith, c.if-left-eq0-2.false)) (omega (arith, c.if-left-eq0.false, c.requires.overflow))
-          read.0 c.in_ok-share.ensures.done done read.1 c.in_ok-overflow.ensures.kept back stay refl refl refl;
+      done = more_done {final = c.put_back_unless.new.trees} {loads0 = c.args.loads.now.items}
+          {loads2 = c.repair_rounds.new.loads.items} (omega (arith, c.if-left-eq0-2.false))
+          (omega (arith, c.if-left-eq0.false, c.requires.overflow)) read.0 round.done done read.1 c.in_ok-overflow.ensures.kept back stay;
     }
