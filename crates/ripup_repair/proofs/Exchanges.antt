@@ -1,22 +1,10 @@
 -- Routings in which the nets at some positions have other sets.
 use Rattle.std.proofs.Common.{◌≡◌, ℕ, suc, ◌+◌, ◌*◌, ◌≤◌, List, [], ◌∷◌, length, slice_set, refl, ◌∙◌, ap, arith}
-use Rattle.std.proofs.lemmas.List.{length-set}
-use Rattle.grid_base.specs.declared.piece.Piece.{Piece}
-use Rattle.grid_base.specs.Lists.{At}
-use Rattle.grid_graph.specs.declared.grid.Grid.{Grid}
-use Rattle.grid_graph.specs.declared.net_spec.NetSpec.{NetSpec}
-use Rattle.grid_graph.specs.Grids.{IsNetWidth}
-use Rattle.tree_set.specs.Loads.{load_on, max_tree_load, tree_load}
-use Rattle.tree_set.specs.Order.{IsRising}
-use Rattle.tree_set.specs.Routings.{IsRoute, IsRouting}
-use Rattle.sharing_runs.specs.RepairRuns.{at_positions}
-use Rattle.sharing_runs.proofs.Between.{load_on-none}
+use Rattle.ripup_repair.proofs.Common.{length-set, Piece, At, Grid, NetSpec, IsNetWidth, load_on, max_tree_load, tree_load}
+use Rattle.ripup_repair.proofs.Common.{IsRising, IsRoute, IsRouting, at_positions, load_on-none, route_pieces, stands}
+use Rattle.ripup_repair.proofs.Common.{load_on-cons, with_elements, AreWithin, at_positions-cons, first_within, rest_within}
 use Rattle.sharing_runs.proofs.Exchanges.{AllZip-set, load_on-set}
-use Rattle.price_workers.proofs.TurnFacts.{route_pieces, stands}
-use Rattle.routing_passes.proofs.Sums.{load_on-cons}
 use Rattle.routing_passes.proofs.TreeLimits.{tree_load-within}
-use Rattle.ripup_repair.specs.Exchanged.{with_elements}
-use Rattle.routing_passes.proofs.Positions.{AreWithin, at_positions-cons, first_within, rest_within}
 use Rattle.ripup_repair.proofs.Positions.{AreRising, at_positions-elsewhere, none_is_first, rest_rising}
 
 -- the load with the new sets is that with the old ones, where the new ones' load stands in place of that of the old ones

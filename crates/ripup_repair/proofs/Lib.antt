@@ -1,3 +1,4 @@
+mod Common
 pub mod Positions
 pub mod Exchanges
 pub mod RepairNets

@@ -1,22 +1,12 @@
 -- The overflow of a routing by its loads.
 use Rattle.std.proofs.Common.{◌≡◌, ℕ, ◌≤◌, ◌<◌, List, length, map, get_or, sym, ◌∙◌, ap, subst, arith, All}
-use Rattle.std.specs.List.{sum, range_with_len, zip}
-use Rattle.std.proofs.lemmas.Bool.{cond_both}
-use Rattle.std.proofs.lemmas.List.{ext_get_or}
-use Rattle.std.proofs.lemmas.List.FromFn.{get_or-map-range_with_len, length-map-range_with_len}
 use Rattle.std.proofs.lemmas.List.Sums.{sum_by-le}
-use Rattle.std.proofs.lemmas.Option.{slice_get-get_or}
-use Rattle.std.proofs.lemmas.Slice.Zip.{get_or-zip, length-zip}
-use Rattle.grid_base.specs.declared.piece.Piece.{Piece}
-use Rattle.grid_graph.specs.declared.design.Design.{Design}
-use Rattle.grid_graph.specs.declared.grid.Grid.{Grid}
-use Rattle.grid_graph.specs.declared.net_spec.NetSpec.{NetSpec}
-use Rattle.grid_graph.specs.Grids.{capacity, demand_on, edge_numbers, kind}
+use Rattle.ripup_repair.proofs.Common.{sum, range_with_len, zip, cond_both, ext_get_or, get_or-map-range_with_len}
+use Rattle.ripup_repair.proofs.Common.{length-map-range_with_len, slice_get-get_or, get_or-zip, length-zip, Piece, Design, Grid}
+use Rattle.ripup_repair.proofs.Common.{NetSpec, capacity, demand_on, edge_numbers, kind, holds, load, net_load, excess, overflow}
 use Rattle.grid_graph.specs.Limits.{max_demand}
 use Rattle.edge_prices.proofs.Layers.{layer-below}
 use Rattle.tree_set.specs.Limits.{max_routing_load}
-use Rattle.tree_set.specs.Loads.{holds, load, net_load}
-use Rattle.tree_set.specs.Measures.{excess, overflow}
 
 -- the same loads of the edges have the same overflow
 pub overflow-same : (g : Grid) (f h : ℕ → ℕ) → ((e : ℕ) → e < edge_numbers g → f e ≡ h e) → overflow g f ≡ overflow g h

@@ -1,16 +1,11 @@
 -- The elements at some positions of a list, and lists in which others stand there.
-use Rattle.std.proofs.Common.{◌≡◌, ◌≢◌, ℕ, zero, suc, ◌+◌, ◌<◌, List, [], ◌∷◌, ◌++◌, length, take, get_or}
-use Rattle.std.proofs.Common.{slice_set, slice_range, Some, All, AllPairs, refl, sym, ◌∙◌, ap, arith}
-use Rattle.std.proofs.lemmas.List.{get_or-set_same, get_or-set_other, length-set, length-take, get_or-take}
-use Rattle.std.proofs.lemmas.List.{set-get_or, append-nil}
-use Rattle.std.proofs.lemmas.List.Elements.{All-nil, All-cons, All-tail}
+use Rattle.std.proofs.Common.{◌≡◌, ◌≢◌, ℕ, zero, suc, ◌+◌, ◌<◌, List, [], ◌∷◌, ◌++◌, length, take, get_or, slice_set, slice_range}
+use Rattle.std.proofs.Common.{Some, All, AllPairs, refl, sym, ◌∙◌, ap, arith}
 use Rattle.std.proofs.lemmas.Grind.{flat_map-append}
-use Rattle.std.proofs.lemmas.Option.{slice_get_within, get_or_from_slice_get, slice_get-get_or}
-use Rattle.grid_base.specs.Lists.{At}
-use Rattle.price_workers.proofs.TurnFacts.{stands}
-use Rattle.routing_passes.proofs.Positions.{AreWithin, at_positions-cons, first_within, one_here, rest_within}
-use Rattle.sharing_runs.specs.RepairRuns.{at_positions}
-use Rattle.ripup_repair.specs.Exchanged.{with_elements}
+use Rattle.ripup_repair.proofs.Common.{get_or-set_same, get_or-set_other, length-set, length-take, get_or-take, set-get_or}
+use Rattle.ripup_repair.proofs.Common.{append-nil, All-nil, All-cons, All-tail, slice_get_within, get_or_from_slice_get}
+use Rattle.ripup_repair.proofs.Common.{slice_get-get_or, At, stands, AreWithin, at_positions-cons, first_within, one_here}
+use Rattle.ripup_repair.proofs.Common.{rest_within, at_positions, with_elements}
 
 pub take_within : {X : Type 0} (xs : List X) (ks : List ℕ) (n : ℕ) → AreWithin xs ks → AreWithin xs (take n ks)
 take_within xs ks zero within = All-nil (λ j. j < length xs)

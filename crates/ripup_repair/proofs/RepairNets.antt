@@ -1,23 +1,13 @@
 -- Overfull edges, and the positions of the nets that are to be repaired.
 use Rattle.std.proofs.Common.{◌≡◌, ℕ, ◌≤◌, ◌<◌, Bool, ◌||◌, cond, List, [], ◌∷◌, length, slice_index_or, refl, ◌∙◌, ap, arith}
 use Rattle.std.proofs.Common.{not, ne_eqb}
-use Rattle.std.specs.List.{list_any, range_with_len}
-use Rattle.std.proofs.lemmas.List.Elements.{All-filter, All-head, All-tail}
 use Rattle.std.proofs.lemmas.List.Filters.{length-filter_both}
-use Rattle.std.proofs.lemmas.List.FromFn.{get_or-range_with_len, length-range_with_len}
 use Rattle.std.proofs.lemmas.List.Kept.{AllPairs-filter}
-use Rattle.grid_base.specs.declared.piece.Piece.{Piece}
+use Rattle.ripup_repair.proofs.Common.{list_any, range_with_len, All-filter, All-head, All-tail, get_or-range_with_len}
+use Rattle.ripup_repair.proofs.Common.{length-range_with_len, Piece, IsPiece, Design, Grid, NetSpec, capacity, edge_numbers, kind}
+use Rattle.ripup_repair.proofs.Common.{size_of, load, load_on, wirelength, ArePieces, holds_overfull, is_overfull}
+use Rattle.ripup_repair.proofs.Common.{is_overfull_edge, nets_to_repair, AreWithin}
 use Rattle.grid_base.specs.declared.piece.Piece.TheVariants.{Edge, Via}
-use Rattle.grid_base.specs.Numbers.{IsPiece}
-use Rattle.grid_graph.specs.declared.design.Design.{Design}
-use Rattle.grid_graph.specs.declared.grid.Grid.{Grid}
-use Rattle.grid_graph.specs.declared.net_spec.NetSpec.{NetSpec}
-use Rattle.grid_graph.specs.Grids.{capacity, edge_numbers, kind, size_of}
-use Rattle.tree_set.specs.Loads.{load, load_on}
-use Rattle.tree_set.specs.Measures.{wirelength}
-use Rattle.tree_set.specs.Routings.{ArePieces}
-use Rattle.sharing_runs.specs.RepairRuns.{holds_overfull, is_overfull, is_overfull_edge, nets_to_repair}
-use Rattle.routing_passes.proofs.Positions.{AreWithin}
 use Rattle.ripup_repair.proofs.Positions.{AreRising}
 
 -- the load of a routing on an edge

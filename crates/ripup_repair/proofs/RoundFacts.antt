@@ -1,38 +1,24 @@
 -- A round of repair as a whole: what its workers begin with, and what they leave.
-use Rattle.std.proofs.Common.{◌≡◌, ℕ, ◌+◌, ◌-◌, ◌≤◌, ◌<◌, List, [], ◌++◌, length, replicate, take}
-use Rattle.std.proofs.Common.{drop, get_or, slice_range, All, sym, ◌∙◌, ap, subst, arith, ⊎_elim}
-use Rattle.std.proofs.Math.Seq.{take-append_seam}
-use Rattle.std.proofs.lemmas.Bool.{cases_lt}
-use Rattle.std.proofs.lemmas.List.{get_or_past, length-replicate}
-use Rattle.std.proofs.lemmas.List.Elements.{All-nil}
-use Rattle.std.proofs.lemmas.Option.{get_or_from_slice_get, slice_get-get_or, slice_get_within}
-use Rattle.std.proofs.lemmas.Slice.Zip.{AllZip-long}
-use Rattle.grid_base.specs.declared.piece.Piece.{Piece}
-use Rattle.grid_graph.specs.declared.design.Design.{Design}
-use Rattle.grid_graph.specs.declared.grid.Grid.{Grid}
-use Rattle.grid_graph.specs.Grids.{entries}
+use Rattle.std.proofs.Common.{◌≡◌, ℕ, ◌+◌, ◌-◌, ◌≤◌, ◌<◌, List, [], ◌++◌, length, replicate, take, drop, get_or, slice_range, All}
+use Rattle.std.proofs.Common.{sym, ◌∙◌, ap, subst, arith, ⊎_elim}
+use Rattle.ripup_repair.proofs.Common.{take-append_seam, cases_lt, get_or_past, length-replicate, All-nil, get_or_from_slice_get}
+use Rattle.ripup_repair.proofs.Common.{slice_get-get_or, slice_get_within, AllZip-long, Piece, Design, Grid, entries, Holding}
+use Rattle.ripup_repair.proofs.Common.{load_on, IsRising, IsRoute, IsRouting, IsRepairTurn, nets_to_repair, repair_scale}
+use Rattle.ripup_repair.proofs.Common.{load_between-here, no_load, with_elements, IsPass, Pass, ServesTurns, AreSets, old_load}
+use Rattle.ripup_repair.proofs.Common.{old_sets, pass_nets, positions_load, turns_start, HasLoadOf, IsRoundDone, AreWithin}
+use Rattle.ripup_repair.proofs.Common.{at_positions-at, at_positions-long}
 use Rattle.grid_graph.specs.Grounds.{AreGrounds}
 use Rattle.edge_prices.specs.Limits.{IsBudget}
 use Rattle.routing_stages.specs.Limits.{max_workers}
-use Rattle.load_table.specs.Holdings.{Holding}
-use Rattle.tree_set.specs.Loads.{load_on}
-use Rattle.tree_set.specs.Order.{IsRising}
-use Rattle.tree_set.specs.Routings.{IsRoute, IsRouting}
 use Rattle.sharing_runs.specs.Parts.{IsInPart}
-use Rattle.sharing_runs.specs.RepairRuns.{IsRepairTurn, nets_to_repair, repair_scale}
 use Rattle.routing_passes.specs.Histories.{parts_history}
 use Rattle.even_parts.proofs.PartStarts.{all_parts, first_start, last_start}
 use Rattle.routing_passes.proofs.Parts.{find_part}
-use Rattle.routing_passes.proofs.Sums.{load_between-here, no_load}
-use Rattle.ripup_repair.specs.Exchanged.{with_elements}
-use Rattle.routing_passes.specs.Passes.{IsPass, Pass, ServesTurns, AreSets, old_load, old_sets, pass_nets, positions_load, turns_start}
 use Rattle.routing_stages.specs.Phases.{phases_load}
 use Rattle.routing_passes.specs.PassTurns.{HadTurns, IsPassTurn, new_load, start_of}
-use Rattle.ripup_repair.specs.RoundsDone.{HasLoadOf, IsRoundDone}
 use Rattle.ripup_repair.proofs.Exchanges.{load_on-with, load_on-within, routing-with}
 use Rattle.ripup_repair.proofs.RepairNets.{repair-few, repair-rising, repair-within}
 use Rattle.routing_passes.proofs.PartSteps.{routing_pieces, sets_within}
-use Rattle.routing_passes.proofs.Positions.{AreWithin, at_positions-at, at_positions-long}
 use Rattle.ripup_repair.proofs.Positions.{AreRising, at_positions-with, with_elements-long, with_elements-other}
 use Rattle.routing_passes.proofs.PassSplits.{turns_start-le}
 

@@ -1,22 +1,12 @@
 -- Rounds of repair, one after another.
 use Rattle.std.proofs.Common.{◌≡◌, ◌≢◌, ℕ, zero, suc, ◌+◌, ◌-◌, ◌≤◌, ◌<◌, List, [], ◌∷◌, ◌++◌, length, min, replicate}
 use Rattle.std.proofs.Common.{slice_index, slice_index_or, Option, refl, sym, ◌∙◌, ap, subst, arith, ⊎_elim}
-use Rattle.std.specs.List.{flat_map, range_with_len}
-use Rattle.std.proofs.lemmas.Bool.{cases_lt}
-use Rattle.std.proofs.lemmas.List.{append_assoc, append-nil, ext_get_or}
-use Rattle.std.proofs.lemmas.List.Elements.{All-nil, All-cons}
-use Rattle.std.proofs.lemmas.Option.{get_or_from_slice_get, same_Some, slice_get_within}
-use Rattle.atomic_table.specs.Seated.{TableId}
-use Rattle.grid_base.specs.declared.piece.Piece.{Piece}
-use Rattle.grid_base.specs.Lists.{At}
-use Rattle.grid_graph.specs.declared.design.Design.{Design}
-use Rattle.grid_graph.specs.Grids.{entries}
+use Rattle.ripup_repair.proofs.Common.{flat_map, range_with_len, cases_lt, append_assoc, append-nil, ext_get_or, All-nil}
+use Rattle.ripup_repair.proofs.Common.{All-cons, get_or_from_slice_get, same_Some, slice_get_within, TableId, Piece, At, Design}
+use Rattle.ripup_repair.proofs.Common.{entries, Holding, IsShare, load_list, load_on, IsRouting, load_list-at, load_list-long}
+use Rattle.ripup_repair.proofs.Common.{IsRepairResult, IsRepairRound, IsRepairRun, routing_overflow, AreRoundsDone, HasLoadOf}
+use Rattle.ripup_repair.proofs.Common.{IsRoundDone}
 use Rattle.edge_prices.specs.Vectors.{IsLoadList}
-use Rattle.load_table.specs.Holdings.{Holding, IsShare}
-use Rattle.tree_set.specs.Loads.{load_list, load_on}
-use Rattle.tree_set.specs.Routings.{IsRouting}
-use Rattle.sharing_runs.proofs.Between.{load_list-at, load_list-long}
-use Rattle.sharing_runs.specs.RepairRuns.{IsRepairResult, IsRepairRound, IsRepairRun, routing_overflow}
 use Rattle.routing_stages.specs.declared.chosen.Chosen.{Chosen}
 use Rattle.routing_stages.specs.declared.routed.Routed.{Routed}
 use Rattle.routing_stages.specs.declared.settings.Settings.{Settings}
@@ -25,7 +15,6 @@ use Rattle.routing_passes.proofs.WorkerSteps.{zeros_are_loads}
 use Rattle.ripup_repair.specs.declared.left.Left.{Left}
 use Rattle.ripup_repair.specs.declared.repaired.Repaired.{Repaired}
 use Rattle.ripup_repair.specs.RepairHistories.{IsRepaired, repair_history, round_history}
-use Rattle.ripup_repair.specs.RoundsDone.{AreRoundsDone, HasLoadOf, IsRoundDone}
 
 -- what is so of the first number and of all behind it
 abbrev pub from_first : (P : ℕ → Type 0) → P 0 → ((k : ℕ) → P (suc k)) → (k : ℕ) → P k

@@ -1,14 +1,8 @@
 use Rattle.std.proofs.Common.{◌≡◌, ◌<◌, ◌+◌, ◌-◌, ◌∷◌, ◌++◌, [], ℕ, List, length, take, drop, get_or, slice_set, sym, ◌∙◌, ap}
 use Rattle.std.proofs.Common.{arith}
-use Rattle.std.proofs.Math.Seq.{set-append_seam}
-use Rattle.std.proofs.lemmas.List.{take_more, length-take, append_assoc, drop_more, get_or-append_right}
-use Rattle.std.proofs.lemmas.Option.{slice_get-get_or}
-use Rattle.grid_base.specs.declared.piece.Piece.{Piece}
-use Rattle.sharing_runs.specs.RepairRuns.{at_positions}
-use Rattle.ripup_repair.specs.Exchanged.{with_elements}
-use Rattle.routing_passes.proofs.Positions.{at_positions-long}
-use Rattle.ripup_repair.proofs.Positions.{at_positions-push, with_elements-other, with_elements-push}
-use Rattle.ripup_repair.proofs.Positions.{earlier_apart, take_within}
+use Rattle.ripup_repair.proofs.Common.{set-append_seam, take_more, length-take, append_assoc, drop_more, get_or-append_right}
+use Rattle.ripup_repair.proofs.Common.{slice_get-get_or, Piece, at_positions, with_elements, at_positions-long}
+use Rattle.ripup_repair.proofs.Positions.{at_positions-push, with_elements-other, with_elements-push, earlier_apart, take_within}
 use Rattle.ripup_repair.proofs.exchange.exchange.Goals as goal
 
 pub loop-i-preserved : goal.loop-i-preserved

@@ -1,6 +1,5 @@
 use Rattle.std.proofs.Common.{◌≡◌, ◌++◌, take, drop}
-use Rattle.sharing_runs.specs.RepairRuns.{at_positions}
-use Rattle.ripup_repair.specs.Exchanged.{with_elements}
+use Rattle.ripup_repair.proofs.Common.{at_positions, with_elements}
 use Rattle.ripup_repair.proofs.exchange.exchange.Given as goal
 
 -- the sets at the positions so far are exchanged

@@ -1,12 +1,6 @@
 use Rattle.std.proofs.Common.{◌≡◌, ◌≤◌, ◌<◌, ◌*◌, ℕ, List, take, slice_index, refl, ◌∙◌, ap, arith, ⊎_elim}
-use Rattle.std.proofs.lemmas.Bool.{cases_lt}
-use Rattle.std.proofs.lemmas.List.{get_or-take, get_or_past, length-take}
-use Rattle.grid_base.specs.declared.piece.Piece.{Piece}
-use Rattle.grid_base.specs.Numbers.{vertices}
-use Rattle.grid_graph.specs.declared.design.Design.{Design}
-use Rattle.grid_graph.specs.Grids.{edge_numbers}
-use Rattle.tree_set.specs.Loads.{load, load_list}
-use Rattle.sharing_runs.proofs.Between.{load_list-at}
+use Rattle.ripup_repair.proofs.Common.{cases_lt, get_or-take, get_or_past, length-take, Piece, vertices, Design, edge_numbers}
+use Rattle.ripup_repair.proofs.Common.{load, load_list, load_list-at}
 use Rattle.ripup_repair.proofs.Overflows.{load-limit, overflow-same}
 use Rattle.ripup_repair.proofs.RepairNets.{load_on-edge}
 use Rattle.ripup_repair.proofs.overflow.overflow_of.Goals as goal

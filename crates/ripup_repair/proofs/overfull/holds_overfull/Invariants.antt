@@ -1,6 +1,5 @@
 use Rattle.std.proofs.Common.{◌≡◌, false, take}
-use Rattle.load_core.specs.Parties.{share_at}
-use Rattle.sharing_runs.specs.RepairRuns.{holds_overfull}
+use Rattle.ripup_repair.proofs.Common.{share_at, holds_overfull}
 use Rattle.ripup_repair.proofs.overfull.holds_overfull.Given as goal
 
 -- none of the pieces so far is overfull

@@ -1,22 +1,9 @@
-use Rattle.std.proofs.Common.{◌≡◌, ◌≤◌, ◌<◌, ◌∷◌, ◌++◌, [], ℕ, Bool, cond, List, length, take, get_or, slice_index_or, sym}
-use Rattle.std.proofs.Common.{◌∙◌, ap, subst, arith, ⊎_elim}
-use Rattle.std.specs.List.{filter, range_with_len}
-use Rattle.std.proofs.lemmas.Bool.{cases_lt}
-use Rattle.std.proofs.lemmas.List.{take_all}
-use Rattle.std.proofs.lemmas.List.Elements.{filter_more}
-use Rattle.std.proofs.lemmas.List.FromFn.{get_or-range_with_len, length-range_with_len}
-use Rattle.std.proofs.lemmas.Option.{get_or_from_slice_get}
-use Rattle.std.proofs.lemmas.Slice.Zip.{AllZip-long}
-use Rattle.grid_base.specs.declared.piece.Piece.{Piece}
-use Rattle.grid_base.specs.Lists.{At}
+use Rattle.std.proofs.Common.{◌≡◌, ◌≤◌, ◌<◌, ◌∷◌, ◌++◌, [], ℕ, Bool, cond, List, length, take, get_or, slice_index_or, sym, ◌∙◌}
+use Rattle.std.proofs.Common.{ap, subst, arith, ⊎_elim}
+use Rattle.ripup_repair.proofs.Common.{filter, range_with_len, cases_lt, take_all, filter_more, get_or-range_with_len}
+use Rattle.ripup_repair.proofs.Common.{length-range_with_len, get_or_from_slice_get, AllZip-long, Piece, At, size_of, share_at}
+use Rattle.ripup_repair.proofs.Common.{load, IsRising, ArePieces, IsRoute, At-read, route_pieces, stands, holds_overfull}
 use Rattle.grid_base.proofs.Lists.{AllZip-at}
-use Rattle.grid_graph.specs.Grids.{size_of}
-use Rattle.load_core.specs.Parties.{share_at}
-use Rattle.tree_set.specs.Loads.{load}
-use Rattle.tree_set.specs.Order.{IsRising}
-use Rattle.tree_set.specs.Routings.{ArePieces, IsRoute}
-use Rattle.price_workers.proofs.TurnFacts.{At-read, route_pieces, stands}
-use Rattle.sharing_runs.specs.RepairRuns.{holds_overfull}
 use Rattle.ripup_repair.proofs.RepairNets.{holds_overfull-same, load_on-edge}
 use Rattle.ripup_repair.proofs.overfull.nets_to_repair.Goals as goal
 

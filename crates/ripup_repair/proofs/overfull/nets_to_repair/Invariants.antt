@@ -1,9 +1,5 @@
 use Rattle.std.proofs.Common.{◌≡◌, ◌<◌, ℕ, List, [], length, take, slice_index_or}
-use Rattle.std.specs.List.{filter, range_with_len}
-use Rattle.grid_base.specs.declared.piece.Piece.{Piece}
-use Rattle.tree_set.specs.Loads.{load}
-use Rattle.tree_set.specs.Order.{IsRising}
-use Rattle.sharing_runs.specs.RepairRuns.{holds_overfull}
+use Rattle.ripup_repair.proofs.Common.{filter, range_with_len, Piece, load, IsRising, holds_overfull}
 use Rattle.ripup_repair.proofs.overfull.nets_to_repair.Given as goal
 
 -- the positions so far

@@ -1,12 +1,7 @@
 use Rattle.std.proofs.Common.{◌≡◌, ℕ, List, length, slice_index, refl, sym, ◌∙◌, ap, subst, arith}
-use Rattle.grid_base.specs.declared.piece.Piece.{Piece}
-use Rattle.grid_base.specs.Numbers.{vertices}
-use Rattle.tree_set.specs.Loads.{load_list}
-use Rattle.tree_set.specs.Routings.{IsRouting}
-use Rattle.sharing_runs.proofs.Between.{load_list-at, load_list-long}
+use Rattle.ripup_repair.proofs.Common.{Piece, vertices, load_list, IsRouting, load_list-at, load_list-long, routing_overflow}
+use Rattle.ripup_repair.proofs.Common.{AreRoundsDone, HasLoadOf}
 use Rattle.routing_stages.specs.Settings.{workers_in_use}
-use Rattle.sharing_runs.specs.RepairRuns.{routing_overflow}
-use Rattle.ripup_repair.specs.RoundsDone.{AreRoundsDone, HasLoadOf}
 use Rattle.ripup_repair.proofs.RoundFacts.{written_over}
 use Rattle.ripup_repair.proofs.RoundRuns.{from_chosen, is_repaired, is_result, whole_words}
 use Rattle.ripup_repair.proofs.repairing.repair.Goals as goal

@@ -1,14 +1,9 @@
 use Rattle.std.proofs.Common.{◌≡◌, ◌≢◌, ◌<◌, ◌-◌, ℕ, List, ◌∙◌, ap, subst, arith}
-use Rattle.std.proofs.lemmas.Bool.{le-ltb, lt-ltb}
-use Rattle.atomic_table.specs.Seated.{TableId}
-use Rattle.grid_base.specs.declared.piece.Piece.{Piece}
-use Rattle.sharing_runs.specs.RepairRuns.{routing_overflow}
-use Rattle.ripup_repair.specs.Exchanged.{with_elements}
-use Rattle.ripup_repair.specs.RoundsDone.{AreRoundsDone}
+use Rattle.ripup_repair.proofs.Common.{le-ltb, lt-ltb, TableId, Piece, routing_overflow, with_elements, AreRoundsDone}
 use Rattle.ripup_repair.proofs.RoundRuns.{more_done, none_done}
-use Rattle.ripup_repair.proofs.rounds.+repair_rounds.Goals as goal
 use Rattle.ripup_repair.proofs.rounds.+repair_rounds.Goals.{then-left-eq0-via-then-left-eq0}
 use Rattle.ripup_repair.proofs.rounds.+repair_rounds.Goals.{then-left-eq0-via-else-left-eq0+then-left-eq0-2}
+use Rattle.ripup_repair.proofs.rounds.+repair_rounds.Goals as goal
 
 pub returns-then-left-eq0 : goal.returns-then-left-eq0
 returns-then-left-eq0 g t c =

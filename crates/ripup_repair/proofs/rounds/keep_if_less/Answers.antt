@@ -1,11 +1,5 @@
 use Rattle.std.proofs.Common.{◌≡◌, ◌++◌, ℕ, List, length, take, drop, sym, ◌∙◌, arith}
-use Rattle.atomic_table.specs.Seated.{TableId}
-use Rattle.grid_base.specs.declared.piece.Piece.{Piece}
-use Rattle.grid_graph.specs.declared.design.Design.{Design}
-use Rattle.grid_graph.specs.Grids.{entries}
-use Rattle.load_table.specs.Holdings.{Holding, IsShare}
-use Rattle.tree_set.specs.Loads.{load_list}
-use Rattle.ripup_repair.specs.RoundsDone.{HasLoadOf}
+use Rattle.ripup_repair.proofs.Common.{TableId, Piece, Design, entries, Holding, IsShare, load_list, HasLoadOf}
 use Rattle.ripup_repair.proofs.RoundFacts.{written_over}
 use Rattle.ripup_repair.proofs.RoundRuns.{whole_share}
 use Rattle.ripup_repair.proofs.rounds.keep_if_less.Goals as goal

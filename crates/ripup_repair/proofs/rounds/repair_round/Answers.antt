@@ -1,14 +1,11 @@
 use Rattle.std.proofs.Common.{◌≡◌, ◌++◌, ℕ, List, length, take, drop, refl, sym, ◌∙◌, ap, arith}
-use Rattle.atomic_table.specs.Seated.{TableId}
-use Rattle.grid_base.specs.declared.piece.Piece.{Piece}
-use Rattle.sharing_runs.specs.RepairRuns.{at_positions, repair_scale}
-use Rattle.ripup_repair.specs.Exchanged.{with_elements}
-use Rattle.routing_passes.specs.Passes.{IsPass, Pass, pass_of}
-use Rattle.routing_passes.proofs.Positions.{at_positions-long}
+use Rattle.ripup_repair.proofs.Common.{TableId, Piece, at_positions, repair_scale, with_elements, IsPass, Pass, pass_of}
+use Rattle.ripup_repair.proofs.Common.{at_positions-long}
 use Rattle.ripup_repair.proofs.Positions.{with_elements-back}
-use Rattle.ripup_repair.proofs.RoundFacts.{IsRound, as_many, begins_round, round_done, round_rising, round_within, serves_all, written_over}
-use Rattle.ripup_repair.proofs.rounds.repair_round.Goals as goal
+use Rattle.ripup_repair.proofs.RoundFacts.{IsRound, as_many, begins_round, round_done, round_rising, round_within, serves_all}
+use Rattle.ripup_repair.proofs.RoundFacts.{written_over}
 use Rattle.ripup_repair.proofs.rounds.repair_round.Goals.{After-as_slice}
+use Rattle.ripup_repair.proofs.rounds.repair_round.Goals as goal
 
 -- the pass of the plan, which is a round
 abbrev planned : (g : _) (c : After-as_slice g) → Pass
