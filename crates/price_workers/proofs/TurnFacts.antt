@@ -96,10 +96,10 @@ pub working_put : (g : Grid) (width : ℕ) (ps : List Piece) (share new : Holdin
     → new.table ≡ share.table → KeepsSetting routed put → IsShare new → IsWorking new put labels refreshed
 working_put g width ps share new kept routed put {labels = labels} words close route same labelled differs gains seen table setting
     valid = record {
-  words = ap (λ (t : TableId). t.words) table ∙ words ∙ ap entries (sym (setting.grid ∙ route.grid));
-  loaded = put.kept.loaded;
-  labelled = subst (λ (x : Grid). AreTreeLabels (size_of x) labels) (sym (setting.grid ∙ route.grid)) labelled;
-  share_holds = λ yes. valid;
-  close = λ yes. close_put g width ps share.party new.party (loads_of kept) (loads_of put) close differs gains
-      (rw (← same) seen);
-}
+      words = ap (λ (t : TableId). t.words) table ∙ words ∙ ap entries (sym (setting.grid ∙ route.grid));
+      loaded = put.kept.loaded;
+      labelled = subst (λ (x : Grid). AreTreeLabels (size_of x) labels) (sym (setting.grid ∙ route.grid)) labelled;
+      share_holds = λ yes. valid;
+      close = λ yes. close_put g width ps share.party new.party (loads_of kept) (loads_of put) close differs gains
+          (rw (← same) seen);
+    }

@@ -3,10 +3,11 @@ pub use Rattle.std.proofs.Math.Seq.{set-append_seam, take-append_seam}
 pub use Rattle.std.proofs.lemmas.Bool.{cases_lt, cond_both, le-ltb, lt-ltb}
 pub use Rattle.std.proofs.lemmas.List.{append-nil, append_assoc, drop_more, ext_get_or, get_or-append_right, get_or-set_other}
 pub use Rattle.std.proofs.lemmas.List.{get_or-set_same, get_or-take, get_or_past, length-replicate, length-set, length-take}
-pub use Rattle.std.proofs.lemmas.List.{set-get_or, take_all, take_more}
-pub use Rattle.std.proofs.lemmas.List.Elements.{All-cons, All-filter, All-head, All-nil, All-tail, filter_more}
+pub use Rattle.std.proofs.lemmas.List.{set-get_or, set-set, set_comm, take_all, take_more}
+pub use Rattle.std.proofs.lemmas.List.Elements.{All-cons, All-filter, All-head, All-nil, All-tail, All-take, filter_more}
 pub use Rattle.std.proofs.lemmas.List.FromFn.{get_or-map-range_with_len, get_or-range_with_len, length-map-range_with_len}
 pub use Rattle.std.proofs.lemmas.List.FromFn.{length-range_with_len}
+pub use Rattle.std.proofs.lemmas.List.Sums.{count_by-le-length, length-filter, sum_by-le}
 pub use Rattle.std.proofs.lemmas.Option.{get_or_from_slice_get, same_Some, slice_get-get_or, slice_get_within}
 pub use Rattle.std.proofs.lemmas.Slice.Zip.{AllZip-long, get_or-zip, length-zip}
 pub use Rattle.std.specs.List.{filter, flat_map, list_any, range_with_len, sum, zip}
@@ -23,6 +24,7 @@ pub use Rattle.load_table.specs.Holdings.{Holding, IsShare}
 pub use Rattle.price_workers.proofs.TurnFacts.{At-read, route_pieces, stands}
 pub use Rattle.ripup_repair.specs.Exchanged.{with_elements}
 pub use Rattle.ripup_repair.specs.RoundsDone.{AreRoundsDone, HasLoadOf, IsRoundDone}
+pub use Rattle.routing_passes.proofs.PartSteps.{routing_pieces, sets_within}
 pub use Rattle.routing_passes.proofs.Positions.{AreWithin, at_positions-at, at_positions-cons, at_positions-long, first_within}
 pub use Rattle.routing_passes.proofs.Positions.{one_here, rest_within}
 pub use Rattle.routing_passes.proofs.Sums.{load_between-here, load_on-cons, no_load}

@@ -1,7 +1,6 @@
 -- The overflow of a routing by its loads.
 use Rattle.std.proofs.Common.{◌≡◌, ℕ, ◌≤◌, ◌<◌, List, length, map, get_or, sym, ◌∙◌, ap, subst, arith, All}
-use Rattle.std.proofs.lemmas.List.Sums.{sum_by-le}
-use Rattle.ripup_repair.proofs.Common.{sum, range_with_len, zip, cond_both, ext_get_or, get_or-map-range_with_len}
+use Rattle.ripup_repair.proofs.Common.{sum_by-le, sum, range_with_len, zip, cond_both, ext_get_or, get_or-map-range_with_len}
 use Rattle.ripup_repair.proofs.Common.{length-map-range_with_len, slice_get-get_or, get_or-zip, length-zip, Piece, Design, Grid}
 use Rattle.ripup_repair.proofs.Common.{NetSpec, capacity, demand_on, edge_numbers, kind, holds, load, net_load, excess, overflow}
 use Rattle.grid_graph.specs.Limits.{max_demand}

@@ -1,17 +1,11 @@
 -- The elements at some positions of a list, and lists in which others stand there.
-use Rattle.std.proofs.Common.{◌≡◌, ◌≢◌, ℕ, zero, suc, ◌+◌, ◌<◌, List, [], ◌∷◌, ◌++◌, length, take, get_or, slice_set, slice_range}
+use Rattle.std.proofs.Common.{◌≡◌, ◌≢◌, ℕ, suc, ◌+◌, ◌<◌, List, [], ◌∷◌, ◌++◌, length, take, get_or, slice_set, slice_range}
 use Rattle.std.proofs.Common.{Some, All, AllPairs, refl, sym, ◌∙◌, ap, arith}
 use Rattle.std.proofs.lemmas.Grind.{flat_map-append}
-use Rattle.ripup_repair.proofs.Common.{get_or-set_same, get_or-set_other, length-set, length-take, get_or-take, set-get_or}
-use Rattle.ripup_repair.proofs.Common.{append-nil, All-nil, All-cons, All-tail, slice_get_within, get_or_from_slice_get}
-use Rattle.ripup_repair.proofs.Common.{slice_get-get_or, At, stands, AreWithin, at_positions-cons, first_within, one_here}
-use Rattle.ripup_repair.proofs.Common.{rest_within, at_positions, with_elements}
-
-pub take_within : {X : Type 0} (xs : List X) (ks : List ℕ) (n : ℕ) → AreWithin xs ks → AreWithin xs (take n ks)
-take_within xs ks zero within = All-nil (λ j. j < length xs)
-take_within xs [] (suc n) within = within
-take_within xs (k ∷ ks) (suc n) within =
-    All-cons (λ j. j < length xs) k (take n ks) (first_within xs k ks within) (take_within xs ks n (rest_within xs k ks within))
+use Rattle.ripup_repair.proofs.Common.{set-set, set_comm, get_or-set_same, get_or-set_other, length-set, length-take, get_or-take}
+use Rattle.ripup_repair.proofs.Common.{set-get_or, append-nil, All-head, All-tail, slice_get_within}
+use Rattle.ripup_repair.proofs.Common.{get_or_from_slice_get, slice_get-get_or, At, stands, AreWithin, at_positions-cons}
+use Rattle.ripup_repair.proofs.Common.{first_within, one_here, rest_within, at_positions, with_elements}
 
 -- one position more
 pub at_positions-push : {X : Type 0} (xs : List X) (ks : List ℕ) (k : ℕ) (x : X) → At xs k x
@@ -27,11 +21,10 @@ AreRising ks = AllPairs (λ k later. k < later) ks
 pub rest_rising : (k : ℕ) (ks : List ℕ) → AreRising (k ∷ ks) → AreRising ks
 rest_rising k ks rising i j d before short = rising (suc i) (suc j) d (omega (arith, before)) (omega (arith, short))
 
-pub first_least : (k : ℕ) (ks : List ℕ) → AreRising (k ∷ ks) → All (λ j. k < j) ks
-first_least k ks rising i d short = rising 0 (suc i) d (omega arith) (omega (arith, short))
-
 pub none_is_first : (k : ℕ) (ks : List ℕ) → AreRising (k ∷ ks) → All (λ j. j ≢ k) ks
-none_is_first k ks rising i d short same = omega (arith, first_least k ks rising i d short, same)
+none_is_first k ks rising i d short same =
+    let after : k < get_or ks i d = rising 0 (suc i) d (omega arith) (omega (arith, short)) in
+    omega (arith, after, same)
 
 -- none before a place is the one there
 pub earlier_apart : (ks : List ℕ) (i : ℕ) → AreRising ks → i < length ks → All (λ k. k ≢ get_or ks i 0) (take i ks)
@@ -40,9 +33,6 @@ earlier_apart ks i rising within j d short same =
     let here : get_or (take i ks) j d ≡ get_or ks j d = get_or-take i ks j d before in
     let there : get_or ks i d ≡ get_or ks i 0 = get_or_from_slice_get ks i (get_or ks i 0) d (slice_get-get_or ks i 0 within) in
     omega (arith, rising j i d before within, here, there, same)
-
-head_of : (P : ℕ → Type 0) (k : ℕ) (ks : List ℕ) → All P (k ∷ ks) → P k
-head_of P k ks all = all 0 0 (omega arith)
 
 -- another element elsewhere
 pub At-set_other : {X : Type 0} (xs : List X) (k j : ℕ) (x y : X) → At xs k x → k ≢ j → At (slice_set xs j y) k x
@@ -56,7 +46,7 @@ pub at_positions-elsewhere : {X : Type 0} (xs : List X) (j : ℕ) (y : X) (ks : 
 at_positions-elsewhere xs j y [] within others = refl
 at_positions-elsewhere xs j y (k ∷ ks) within others =
     let x = stands xs k (first_within xs k ks within) in
-    at_positions-cons (slice_set xs j y) k ks x.0 (At-set_other xs k j x.0 y x.1 (head_of (λ i. i ≢ j) k ks others))
+    at_positions-cons (slice_set xs j y) k ks x.0 (At-set_other xs k j x.0 y x.1 (All-head (λ i. i ≢ j) k ks others))
     ∙ ap (λ rest. x.0 ∷ rest) (at_positions-elsewhere xs j y ks (rest_within xs k ks within)
     (All-tail (λ i. i ≢ j) k ks others))
     ∙ sym (at_positions-cons xs k ks x.0 x.1)
@@ -81,7 +71,7 @@ pub with_elements-other : {X : Type 0} (xs : List X) (ks : List ℕ) (ys : List 
 with_elements-other xs [] ys j d others = refl
 with_elements-other xs (k ∷ ks) [] j d others = refl
 with_elements-other xs (k ∷ ks) (y ∷ ys) j d others =
-    let apart : j ≢ k = λ same. head_of (λ i. i ≢ j) k ks others (sym same) in
+    let apart : j ≢ k = λ same. All-head (λ i. i ≢ j) k ks others (sym same) in
     with_elements-other (slice_set xs k y) ks ys j d (All-tail (λ i. i ≢ j) k ks others) ∙ get_or-set_other xs k j y d apart
 
 within_set : {X : Type 0} (xs : List X) (k : ℕ) (y : X) (ks : List ℕ) → AreWithin xs ks → AreWithin (slice_set xs k y) ks
@@ -106,28 +96,14 @@ at_positions-with xs (k ∷ ks) (y ∷ ys) within rising long =
     ∙ ap (λ rest. y ∷ rest) (at_positions-with zs ks ys (within_set xs k y ks (rest_within xs k ks within))
     (rest_rising k ks rising) (omega (arith, long)))
 
--- two elements at different places can be put there in either order
-set_apart : {X : Type 0} (xs : List X) (j k : ℕ) (x y : X) → j ≢ k
-    → slice_set (slice_set xs j x) k y ≡ slice_set (slice_set xs k y) j x
-set_apart [] j k x y apart = refl
-set_apart (z ∷ xs) zero zero x y apart = absurd (apart refl)
-set_apart (z ∷ xs) zero (suc k) x y apart = refl
-set_apart (z ∷ xs) (suc j) zero x y apart = refl
-set_apart (z ∷ xs) (suc j) (suc k) x y apart = ap (λ l. z ∷ l) (set_apart xs j k x y (λ same. apart (ap (λ n. suc n) same)))
-
--- and one at a place that is none of the positions
+-- an element at a place that is none of the positions can be put there before or after
 set_aside : {X : Type 0} (xs : List X) (ks : List ℕ) (ys : List X) (k : ℕ) (y : X) → All (λ j. j ≢ k) ks
     → slice_set (with_elements xs ks ys) k y ≡ with_elements (slice_set xs k y) ks ys
 set_aside xs [] ys k y others = refl
 set_aside xs (j ∷ ks) [] k y others = refl
 set_aside xs (j ∷ ks) (z ∷ ys) k y others =
     set_aside (slice_set xs j z) ks ys k y (All-tail (λ i. i ≢ k) j ks others)
-    ∙ ap (λ l. with_elements l ks ys) (set_apart xs j k z y (head_of (λ i. i ≢ k) j ks others))
-
-set_twice : {X : Type 0} (xs : List X) (k : ℕ) (x y : X) → slice_set (slice_set xs k x) k y ≡ slice_set xs k y
-set_twice [] k x y = refl
-set_twice (z ∷ xs) zero x y = refl
-set_twice (z ∷ xs) (suc k) x y = ap (λ l. z ∷ l) (set_twice xs k x y)
+    ∙ ap (λ l. with_elements l ks ys) (set_comm xs j k z y (All-head (λ i. i ≢ k) j ks others))
 
 -- with the elements that stood there before, it is the list that it was
 pub with_elements-back : {X : Type 0} (xs : List X) (ks : List ℕ) (ys : List X) → AreWithin xs ks → AreRising ks
@@ -140,7 +116,7 @@ with_elements-back xs (k ∷ ks) (y ∷ ys) within rising long =
     let zs = slice_set xs k y in
     let others = none_is_first k ks rising in
     let again : slice_set zs k x.0 ≡ xs =
-    set_twice xs k y x.0 ∙ ap (slice_set xs k) (sym (get_or_from_slice_get xs k x.0 x.0 x.1)) ∙ set-get_or xs k x.0 in
+    set-set xs k y x.0 ∙ ap (slice_set xs k) (sym (get_or_from_slice_get xs k x.0 x.0 x.1)) ∙ set-get_or xs k x.0 in
     ap (with_elements (with_elements zs ks ys) (k ∷ ks)) (at_positions-cons xs k ks x.0 x.1)
     ∙ ap (λ l. with_elements l ks (at_positions xs ks))
     (set_aside zs ks ys k x.0 others ∙ ap (λ l. with_elements l ks ys) again)

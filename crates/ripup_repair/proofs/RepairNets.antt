@@ -1,12 +1,11 @@
 -- Overfull edges, and the positions of the nets that are to be repaired.
 use Rattle.std.proofs.Common.{◌≡◌, ℕ, ◌≤◌, ◌<◌, Bool, ◌||◌, cond, List, [], ◌∷◌, length, slice_index_or, refl, ◌∙◌, ap, arith}
-use Rattle.std.proofs.Common.{not, ne_eqb}
-use Rattle.std.proofs.lemmas.List.Filters.{length-filter_both}
+use Rattle.std.proofs.Common.{ne_eqb}
 use Rattle.std.proofs.lemmas.List.Kept.{AllPairs-filter}
-use Rattle.ripup_repair.proofs.Common.{list_any, range_with_len, All-filter, All-head, All-tail, get_or-range_with_len}
-use Rattle.ripup_repair.proofs.Common.{length-range_with_len, Piece, IsPiece, Design, Grid, NetSpec, capacity, edge_numbers, kind}
-use Rattle.ripup_repair.proofs.Common.{size_of, load, load_on, wirelength, ArePieces, holds_overfull, is_overfull}
-use Rattle.ripup_repair.proofs.Common.{is_overfull_edge, nets_to_repair, AreWithin}
+use Rattle.ripup_repair.proofs.Common.{count_by-le-length, length-filter, list_any, range_with_len, All-filter, All-head}
+use Rattle.ripup_repair.proofs.Common.{All-tail, get_or-range_with_len, length-range_with_len, Piece, IsPiece, Design, Grid}
+use Rattle.ripup_repair.proofs.Common.{NetSpec, capacity, edge_numbers, kind, size_of, load, load_on, wirelength, ArePieces}
+use Rattle.ripup_repair.proofs.Common.{holds_overfull, is_overfull, is_overfull_edge, nets_to_repair, AreWithin}
 use Rattle.grid_base.specs.declared.piece.Piece.TheVariants.{Edge, Via}
 use Rattle.ripup_repair.proofs.Positions.{AreRising}
 
@@ -61,8 +60,5 @@ repair-rising d trees =
 pub repair-few : (d : Design) (trees : List (List Piece)) → length (nets_to_repair d trees) ≤ length trees
 repair-few d trees =
     let due : ℕ → Bool = λ position. holds_overfull d.grid (load d.grid d.nets trees) (slice_index_or trees position []) in
-    omega (
-      arith,
-      length-filter_both due (λ position. not (due position)) (λ position. refl) (range_with_len 0 (length trees)),
-      length-range_with_len 0 (length trees),
-    )
+    let all : List ℕ = range_with_len 0 (length trees) in
+    omega (arith, length-filter due all, count_by-le-length due all, length-range_with_len 0 (length trees))

@@ -6,7 +6,7 @@ use Rattle.ripup_repair.proofs.Common.{slice_get-get_or, slice_get_within, AllZi
 use Rattle.ripup_repair.proofs.Common.{load_on, IsRising, IsRoute, IsRouting, IsRepairTurn, nets_to_repair, repair_scale}
 use Rattle.ripup_repair.proofs.Common.{load_between-here, no_load, with_elements, IsPass, Pass, ServesTurns, AreSets, old_load}
 use Rattle.ripup_repair.proofs.Common.{old_sets, pass_nets, positions_load, turns_start, HasLoadOf, IsRoundDone, AreWithin}
-use Rattle.ripup_repair.proofs.Common.{at_positions-at, at_positions-long}
+use Rattle.ripup_repair.proofs.Common.{at_positions-at, at_positions-long, routing_pieces, sets_within}
 use Rattle.grid_graph.specs.Grounds.{AreGrounds}
 use Rattle.edge_prices.specs.Limits.{IsBudget}
 use Rattle.routing_stages.specs.Limits.{max_workers}
@@ -18,7 +18,6 @@ use Rattle.routing_stages.specs.Phases.{phases_load}
 use Rattle.routing_passes.specs.PassTurns.{HadTurns, IsPassTurn, new_load, start_of}
 use Rattle.ripup_repair.proofs.Exchanges.{load_on-with, load_on-within, routing-with}
 use Rattle.ripup_repair.proofs.RepairNets.{repair-few, repair-rising, repair-within}
-use Rattle.routing_passes.proofs.PartSteps.{routing_pieces, sets_within}
 use Rattle.ripup_repair.proofs.Positions.{AreRising, at_positions-with, with_elements-long, with_elements-other}
 use Rattle.routing_passes.proofs.PassSplits.{turns_start-le}
 

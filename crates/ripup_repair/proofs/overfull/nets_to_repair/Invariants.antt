@@ -8,5 +8,5 @@ invariant-loop-position l = record {
   found : l.positions.items ≡ filter (λ position. holds_overfull l.design.grid (load l.design.grid l.design.nets l.trees)
       (slice_index_or l.trees position []))
       (take l.position (range_with_len 0 (length l.trees)));
-  rising : (k : ℕ) (d : List Piece) → k < l.position → IsRising (slice_index_or l.trees k d);
+  rising : (k : ℕ) → k < l.position → (d : List Piece) → IsRising (slice_index_or l.trees k d);
 }

@@ -33,8 +33,11 @@ returns g t c =
     let round = c.in_ok-share.ensures in
     let later = c.in_ok-later.later in
     let read = c.in_ok-overflow.ensures.overflow c.args.table.now after round.done.share in
-    let done = subst (λ (m : ℕ). AreRoundsDone c.args.design.now (record left { rounds = left.rounds - 1;
-    overflow = c.in_ok-overflow.overflow; least = m }) c.args.table.now c.in_ok-share.share after c.repair_rounds.new.trees
+    let done = subst (λ (m : ℕ). AreRoundsDone c.args.design.now (record left {
+      rounds = left.rounds - 1;
+      overflow = c.in_ok-overflow.overflow;
+      least = m;
+    }) c.args.table.now c.in_ok-share.share after c.repair_rounds.new.trees
     c.keep_if_less.new.loads.items c.repair_rounds.new.loads.items later) c.min.ensures c.in_ok-later.ensures.done in
     let back : later.least ≡ left.least → c.put_back_unless.new.trees ≡ c.args.trees.now =
     λ equal.
