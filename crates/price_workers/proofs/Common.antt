@@ -1,4 +1,5 @@
 -- Words of lower crates, and of this one's specs, that several files of proofs take.
+pub use Rattle.std.proofs.lemmas.Bool.{cases_eq, cases_lt, cond_both}
 pub use Rattle.std.proofs.lemmas.List.{ext_get_or, get_or-set_other, get_or-set_same, get_or_past, get_or_push, length-set}
 pub use Rattle.std.proofs.lemmas.List.{length-take, take_all, take_more}
 pub use Rattle.std.proofs.lemmas.Option.{get_or_from_slice_get, same_Some, slice_get-get_or, slice_get_within}
@@ -25,6 +26,6 @@ pub use Rattle.sharing_runs.specs.NetSteps.{IsLightest, IsStep, IsStepAt, set_we
 pub use Rattle.steiner_exact.specs.LeastSets.{IsLeastSet, IsLeastTree}
 pub use Rattle.steiner_span.specs.LightTrees.{IsLightTree}
 pub use Rattle.tree_set.proofs.Loads.{IsCounted, IsCounted-edge, IsCounted-via, edge_number}
-pub use Rattle.tree_set.specs.Loads.{is_edge_of, load_on, max_tree_load, net_load, tree_load}
+pub use Rattle.tree_set.specs.Loads.{holds, is_edge_of, load_on, max_tree_load, net_load, tree_load}
 pub use Rattle.tree_set.specs.Order.{IsRising}
 pub use Rattle.tree_set.specs.Routings.{ArePieces, IsRoute, KeepsTo}

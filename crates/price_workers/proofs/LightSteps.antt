@@ -1,12 +1,12 @@
 -- A set of least weight at prices is a step.
-use Rattle.std.proofs.Common.{◌≡◌, ◌<◌, ◌≤◌, ◌+◌, ◌*◌, ℕ, Bool, true, false, cond, List, [], ◌∷◌, length, get_or, map, All, refl}
+use Rattle.std.proofs.Common.{◌≡◌, ◌<◌, ◌≤◌, ◌+◌, ◌*◌, ℕ, List, [], ◌∷◌, length, get_or, map, All, refl}
 use Rattle.std.proofs.Common.{sym, ◌∙◌, ap, subst, arith, Option}
 use Rattle.std.proofs.lemmas.List.Sums.{sum_by-cons}
 use Rattle.std.proofs.lemmas.List.Elements.{All-head, All-map, All-tail, Contains-get_or}
-use Rattle.price_workers.proofs.Common.{sum_by, Contains, Piece, Grid, NetSpec, Allows, size_of, IsGround, KeepsTo, Size, Vertex}
-use Rattle.price_workers.proofs.Common.{Joins, JoinsList, InVertices, max_weight, IsAllowed, piece_weight, is_open, edge_cost}
-use Rattle.price_workers.proofs.Common.{wirelength_price, IsRising, IsStep, IsStepAt, IsLightest, weighed, set_weight, IsLeastSet}
-use Rattle.price_workers.proofs.Common.{IsLightTree}
+use Rattle.price_workers.proofs.Common.{cond_both, sum_by, Contains, Piece, Grid, NetSpec, Allows, size_of, IsGround, KeepsTo}
+use Rattle.price_workers.proofs.Common.{Size, Vertex, Joins, JoinsList, InVertices, max_weight, IsAllowed, piece_weight, is_open}
+use Rattle.price_workers.proofs.Common.{edge_cost, wirelength_price, IsRising, IsStep, IsStepAt, IsLightest, weighed, set_weight}
+use Rattle.price_workers.proofs.Common.{IsLeastSet, IsLightTree}
 use Rattle.grid_base.specs.declared.piece.Piece.TheVariants.{Edge, Via}
 use Rattle.grid_base.proofs.Joined.{Joins-superset}
 use Rattle.grid_graph.specs.declared.ground.Ground.{Ground}
@@ -18,13 +18,11 @@ use Rattle.steiner_tables.specs.Masks.{few_terminals}
 use Rattle.shortest_paths.specs.Spanning.{Link, IsSpanningTree}
 use Rattle.label_search.specs.Sets as sets
 
-one_of : (b : Bool) (x y : ℕ) → 0 < x → 0 < y → 0 < cond b x y
-one_of true x y first second = first
-one_of false x y first second = second
-
 -- no piece weighs nothing
 pub piece_weight-positive : (g : Grid) (width : ℕ) (prices : List ℕ) (p : Piece) → 0 < piece_weight g width prices p
-piece_weight-positive g width prices (Edge e) = one_of (is_open g e.0) (4 * (edge_cost g width prices e.0 + wirelength_price g prices) + 1) max_weight (omega arith) (omega arith)
+piece_weight-positive g width prices (Edge e) =
+    cond_both (is_open g e.0) (4 * (edge_cost g width prices e.0 + wirelength_price g prices) + 1) max_weight (λ n. 0 < n)
+    (λ held. omega arith) (λ closed. omega arith)
 piece_weight-positive g width prices (Via v) = omega arith
 
 pub none_weighs_nothing : (g : Grid) (over : Ground) (width : ℕ) (prices : List ℕ) (pieces : List (Piece × ℕ)) → AreGroundPieces g over (piece_weight g width prices) pieces → NoneWeighsNothing pieces
@@ -68,7 +66,8 @@ set_over g n over prices pieces set tree are of is_set =
     let f : Piece → ℕ = piece_weight g n.width prices in
     let each : (x : Piece × ℕ) → Contains set x → Allows g over x.0 × (x.1 ≡ f x.0) = λ x in_set. (are x.0 x.1).0 (is_set.allowed x in_set) in
     record {
-      inside = subst (KeepsTo g over) of (All-map (Allows g over) (λ x. x.0) set (λ i d short. (each (get_or set i d) (Contains-get_or set i d short)).0));
+      inside = subst (KeepsTo g over) of (All-map (Allows g over) (λ x. x.0) set
+          (λ i d short. (each (get_or set i d) (Contains-get_or set i d short)).0));
       weighs = sum_by-given f set (λ i d short. (each (get_or set i d) (Contains-get_or set i d short)).1) ∙ ap (λ ps. sum_by f ps) of;
       fore = λ x in_pieces. (pieces_with-Weighs g over f x.0 x.1).1 ((are x.0 x.1).0 in_pieces);
       back = λ x in_others. (are x.0 x.1).1 ((pieces_with-Weighs g over f x.0 x.1).0 in_others);
@@ -117,7 +116,7 @@ step_from_light g n over prices pieces tree total are many ground light =
     }
 
 -- a step at some prices is one at the same prices by other names
-pub step_moved : {g h : Grid} {n : NetSpec} {loads others : List ℕ} {scale scale' : ℕ} {budget budget' : Option ℕ} {tree : List Piece}
-    → g ≡ h → loads ≡ others → scale ≡ scale' → budget ≡ budget' → IsStep g n loads scale budget tree
+pub step_moved : {g h : Grid} {n : NetSpec} {loads others : List ℕ} {scale scale' : ℕ} {budget budget' : Option ℕ}
+    {tree : List Piece} → g ≡ h → loads ≡ others → scale ≡ scale' → budget ≡ budget' → IsStep g n loads scale budget tree
     → IsStep h n others scale' budget' tree
 step_moved grid loads scale budget step = rw (← grid, ← loads, ← scale, ← budget) step

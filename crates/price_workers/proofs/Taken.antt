@@ -1,13 +1,13 @@
 -- Loads as the set of a net is taken off, and what is put back.
-use Rattle.std.proofs.Common.{◌≡◌, ℕ, ◌+◌, ◌-◌, ◌<◌, ◌≤◌, ◌≢◌, Bool, true, false, cond, List, length, get_or, map, take}
-use Rattle.std.proofs.Common.{slice_index, slice_set, refl, sym, ◌∙◌, ap, subst, ⊎_elim, arith, eq-eqb, ne_eqb}
-use Rattle.std.proofs.lemmas.Bool.{cases_eq, cases_lt}
+use Rattle.std.proofs.Common.{◌≡◌, ℕ, ◌+◌, ◌-◌, ◌<◌, ◌≤◌, ◌≢◌, Bool, cond, List, length, get_or, map, take, slice_index}
+use Rattle.std.proofs.Common.{slice_set, refl, sym, ◌∙◌, ap, subst, ⊎_elim, arith, eq-eqb, ne_eqb}
 use Rattle.std.proofs.lemmas.List.Folds.{list_any_at}
 use Rattle.std.proofs.lemmas.List.FromFn.{fill_by_all, get_or-map-range_with_len, length-map-range_with_len}
+use Rattle.price_workers.proofs.Common.{cases_eq, cases_lt, cond_both, holds, is_edge_of, max_tree_load, net_load, tree_load}
 use Rattle.price_workers.proofs.Common.{range_with_len, get_or-set_same, get_or-set_other, get_or_past, length-set, ext_get_or}
-use Rattle.price_workers.proofs.Common.{take_all, Piece, Grid, demand_on, edge_numbers, entries, size_of, is_edge_of}
-use Rattle.price_workers.proofs.Common.{max_tree_load, net_load, tree_load, ArePieces, IsCounted, IsCounted-edge, edge_number}
-use Rattle.price_workers.proofs.Common.{net_load-beyond, tree_load-added, GainsTree, without_tree, max_demand, IsRising}
+use Rattle.price_workers.proofs.Common.{take_all, Piece, Grid, demand_on, edge_numbers, entries, size_of, ArePieces, IsCounted}
+use Rattle.price_workers.proofs.Common.{IsCounted-edge, edge_number, net_load-beyond, tree_load-added, GainsTree, without_tree}
+use Rattle.price_workers.proofs.Common.{max_demand, IsRising}
 use Rattle.grid_base.specs.declared.edge.Edge.{Edge as EdgeNumber}
 use Rattle.grid_base.specs.declared.piece.Piece.TheVariants.{Edge}
 use Rattle.tree_set.proofs.Counting.{length-pieces}
@@ -18,13 +18,11 @@ net_load-held g width ps i d x within is =
     ap (λ (b : Bool). cond b (demand_on g width x.0) 0)
     (list_any_at (is_edge_of x.0) ps i d within (ap (λ (q : Piece). is_edge_of x.0 q) is ∙ eq-eqb x.0 x.0 refl))
 
-cond-le : (b : Bool) (n : ℕ) → cond b n 0 ≤ n
-cond-le true n = omega arith
-cond-le false n = omega arith
-
 -- the load of an edge
-pub tree_load-edge : (g : Grid) (width : ℕ) (ps : List Piece) (r : ℕ) → (edge_numbers g ≡ r → ⊥) → tree_load g width ps r ≡ net_load g width ps r
-tree_load-edge g width ps r other = ap (λ (b : Bool). cond b (length ps) (net_load g width ps r)) (ne_eqb r (edge_numbers g) (λ same. other (sym same)))
+pub tree_load-edge : (g : Grid) (width : ℕ) (ps : List Piece) (r : ℕ) → (edge_numbers g ≡ r → ⊥)
+    → tree_load g width ps r ≡ net_load g width ps r
+tree_load-edge g width ps r other =
+    ap (λ (b : Bool). cond b (length ps) (net_load g width ps r)) (ne_eqb r (edge_numbers g) (λ same. other (sym same)))
 
 -- what was put on one list at a place may as well be taken off the other one there, which still has it
 taken_there : (k n : ℕ) (first loads : List ℕ) (f : ℕ → ℕ) → k < length first → k < length loads → f k ≤ slice_index first k
@@ -86,7 +84,8 @@ pub edge_taken : {g : Grid} {width : ℕ} {tree ps : List Piece} {i : ℕ} {x : 
 edge_taken {g = g} {width = width} {ps = ps} {i = i} {x = x} {amount = amount} {first = first} {loads = loads}
     next wide long listed had before =
     let moved = edge_put next wide before in
-    let most : net_load g width (take (i + 1) ps) x.0 ≤ demand_on g width x.0 = cond-le _ (demand_on g width x.0) in
+    let most : net_load g width (take (i + 1) ps) x.0 ≤ demand_on g width x.0 = cond_both (holds (take (i + 1) ps) x.0)
+    (demand_on g width x.0) 0 (λ n. n ≤ demand_on g width x.0) (λ held. omega arith) (λ off. omega arith) in
     let held : tree_load g width ps x.0 ≤ slice_index first x.0 = rw listed (had x.0) in
     let left = taken_there x.0 amount first loads (net_load g width (take (i + 1) ps)) (omega (arith, next.number, wide))
     (omega (arith, next.number, long)) (omega (

@@ -94,12 +94,10 @@ pub working_put : (g : Grid) (width : ℕ) (ps : List Piece) (share new : Holdin
     → DiffersInShares share.party new.party → GainsTree g width ps share.party.shares new.party.shares
     → GainsTree g width ps (loads_of routed) (loads_of put)
     → new.table ≡ share.table → KeepsSetting routed put → IsShare new → IsWorking new put labels refreshed
-working_put g width ps share new kept routed put {labels = labels} words close route same labelled differs gains seen table setting
-    valid = record {
-      words = ap (λ (t : TableId). t.words) table ∙ words ∙ ap entries (sym (setting.grid ∙ route.grid));
-      loaded = put.kept.loaded;
-      labelled = subst (λ (x : Grid). AreTreeLabels (size_of x) labels) (sym (setting.grid ∙ route.grid)) labelled;
-      share_holds = λ yes. valid;
-      close = λ yes. close_put g width ps share.party new.party (loads_of kept) (loads_of put) close differs gains
-          (rw (← same) seen);
-    }
+working_put g width ps share new kept routed put words close route same labelled differs gains seen table setting valid = record {
+  words = ap (λ (t : TableId). t.words) table ∙ words ∙ ap entries (sym (setting.grid ∙ route.grid));
+  loaded = put.kept.loaded;
+  labelled = rw (setting.grid ∙ route.grid) labelled;
+  share_holds = λ yes. valid;
+  close = λ yes. close_put g width ps share.party new.party (loads_of kept) (loads_of put) close differs gains (rw (← same) seen);
+}

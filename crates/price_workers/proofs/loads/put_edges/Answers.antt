@@ -13,10 +13,11 @@ loop-p-preserved c =
       | in-Edge w ↦
           let next = next_edge c.args.grid.now c.args.width _ w.in-Edge.e its.listed its.rising c.requires.pieces
           c.loop-p-test.true w.in-Edge.is w.demand.ensures.value w.demand.ensures.limit w.from.ensures in
+          let long = kept_long c.loop-p.kept (inv.setting.grid ∙ c.requires.grid) in
           let wide = share_wide c.args.grid.now inv.valid (inv.table ∙ c.requires.table) c.requires.words in
           rw (w.share-is, w.kept-is) (record {
             share = rw w.raise.ensures.event (edge_put next wide inv.share);
-            seen = rw w.raise.ensures.seen (edge_put next (kept_long c.loop-p.kept (inv.setting.grid ∙ c.requires.grid)) inv.seen);
+            seen = rw w.raise.ensures.seen (edge_put next long inv.seen);
             party = rw w.raise.ensures.event (DiffersInShares-trans c.args.share.now.party c.loop-p.share.party _ inv.party refl);
             table = ap (λ (h : Holding). h.table) w.raise.ensures.event ∙ sym c.requires.table;
             setting = KeepsSetting-trans _ _ _ inv.setting w.raise.ensures.setting;

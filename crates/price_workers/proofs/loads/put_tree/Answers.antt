@@ -38,6 +38,6 @@ pub returns-clause-share : goal.returns-clause-share
 returns-clause-share c r =
     let now = c.put_edges.ensures in
     rw (c.raise.ensures.event, c.vertices-wirelength.ensures, c.size.ensures, c.pieces.ensures.listed)
-    (tree_load-added c.args.grid.now c.args.width c.args.tree.now c.args.share.now.party.shares c.put_edges.new.share.party.shares r
-    c.requires.pieces
+    (tree_load-added c.args.grid.now c.args.width c.args.tree.now c.args.share.now.party.shares
+    c.put_edges.new.share.party.shares r c.requires.pieces
     (share_wide c.args.grid.now now.valid (now.table ∙ c.requires.table) c.requires.words) now.share)

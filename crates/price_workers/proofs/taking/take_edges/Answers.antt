@@ -14,8 +14,10 @@ loop-p-preserved c =
           let next = next_edge c.args.grid.now c.args.width _ w.in-Edge.e its.listed its.rising c.requires.had.pieces
           c.loop-p-test.true w.in-Edge.is w.demand.ensures.value w.demand.ensures.limit w.from.ensures in
           rw w.share-is (record {
-            shares = rw w.sub.ensures.event (edge_taken next (share_wide c.args.grid.now c.requires.share c.requires.table c.requires.words)
-                (share_wide c.args.grid.now inv.valid (inv.table ∙ c.requires.table) c.requires.words) its.listed c.requires.had.had inv.shares).1;
+            shares = rw w.sub.ensures.event (edge_taken next
+                (share_wide c.args.grid.now c.requires.share c.requires.table c.requires.words)
+                (share_wide c.args.grid.now inv.valid (inv.table ∙ c.requires.table) c.requires.words)
+                its.listed c.requires.had.had inv.shares).1;
             party = rw w.sub.ensures.event (DiffersInShares-trans c.args.share.now.party c.loop-p.share.party _ inv.party refl);
             table = ap (λ (h : Holding). h.table) w.sub.ensures.event ∙ inv.table;
             valid = w.sub.ensures.share;
@@ -41,4 +43,5 @@ sub-requires-clause-had c =
     let next = next_edge c.args.grid.now c.args.width _ c.in-Edge.e its.listed its.rising c.requires.had.pieces
     c.loop-p-test.true c.in-Edge.is c.demand.ensures.value c.demand.ensures.limit c.from.ensures in
     (edge_taken next (share_wide c.args.grid.now c.requires.share c.requires.table c.requires.words)
-    (share_wide c.args.grid.now inv.valid (inv.table ∙ c.requires.table) c.requires.words) its.listed c.requires.had.had inv.shares).0
+    (share_wide c.args.grid.now inv.valid (inv.table ∙ c.requires.table) c.requires.words)
+    its.listed c.requires.had.had inv.shares).0

@@ -8,8 +8,8 @@ sub-requires-clause-had c =
     let had = c.requires.had in
     let now = c.take_edges.ensures in
     rw (c.vertices-wirelength.ensures, c.size.ensures, c.pieces.ensures.listed)
-    (set_taken c.args.grid.now c.args.width c.args.tree.now c.args.share.now.party.shares c.take_edges.new.share.party.shares had.pieces
-    (share_wide c.args.grid.now c.requires.share c.requires.table c.requires.words)
+    (set_taken c.args.grid.now c.args.width c.args.tree.now c.args.share.now.party.shares c.take_edges.new.share.party.shares
+    had.pieces (share_wide c.args.grid.now c.requires.share c.requires.table c.requires.words)
     (share_wide c.args.grid.now now.valid (now.table ∙ c.requires.table) c.requires.words) now.shares had.had).0
 
 pub returns-clause-shares : goal.returns-clause-shares
@@ -17,6 +17,6 @@ returns-clause-shares c =
     let had = c.requires.had in
     let now = c.take_edges.ensures in
     rw (c.sub.ensures.event, c.vertices-wirelength.ensures, c.size.ensures, c.pieces.ensures.listed)
-    (set_taken c.args.grid.now c.args.width c.args.tree.now c.args.share.now.party.shares c.take_edges.new.share.party.shares had.pieces
-    (share_wide c.args.grid.now c.requires.share c.requires.table c.requires.words)
+    (set_taken c.args.grid.now c.args.width c.args.tree.now c.args.share.now.party.shares c.take_edges.new.share.party.shares
+    had.pieces (share_wide c.args.grid.now c.requires.share c.requires.table c.requires.words)
     (share_wide c.args.grid.now now.valid (now.table ∙ c.requires.table) c.requires.words) now.shares had.had).1

@@ -35,7 +35,8 @@ put_tree-requires-clause-width c =
 
 pub put_tree-requires-clause-pieces : goal.put_tree-requires-clause-pieces
 put_tree-requires-clause-pieces c =
-    rw (pushed c, ← c.requires.works.on_grid) (step_pieces _ c.index-list-net.result _ c.in_ok-tree.tree c.in_ok-tree.ensures.step)
+    rw (pushed c, ← c.requires.works.on_grid)
+    (step_pieces _ c.index-list-net.result _ c.in_ok-tree.tree c.in_ok-tree.ensures.step)
 
 pub invariant_of-self-2 : goal.invariant_of-self-2
 invariant_of-self-2 c =

@@ -96,8 +96,9 @@ invariant_of-self c =
     let put = c.put_tree.ensures in
     record {
       working = working_put c.args.design.now.grid c.index-list-net.result.width c.index-in-Ok.result.now c.take_tree.new.share
-          c.put_tree.new.share c.take_tree.new.kept c.route_net.new.kept c.put_tree.new.kept (words_without took) (close_without took)
-          route.setting route.loads route.labels put.party put.share put.seen put.table put.setting put.valid;
+          c.put_tree.new.share c.take_tree.new.kept c.route_net.new.kept c.put_tree.new.kept (words_without took)
+          (close_without took) route.setting route.loads route.labels put.party put.share put.seen put.table put.setting
+          put.valid;
     }
 
 pub put_tree-requires-in-Err-clause-width : goal.put_tree-requires-in-Err-clause-width
@@ -122,7 +123,8 @@ invariant_of-self-in-Err c =
     record {
       working = working_put c.args.design.now.grid c.index-list-net.result.width c.index-in-Err.result.now c.take_tree.new.share
           c.put_tree-in-Err.new.share c.take_tree.new.kept c.route_net.new.kept c.put_tree-in-Err.new.kept (words_without took)
-          (close_without took) route.setting route.loads route.labels put.party put.share put.seen put.table put.setting put.valid;
+          (close_without took) route.setting route.loads route.labels put.party put.share put.seen put.table put.setting
+          put.valid;
     }
 
 pub returns-in-Ok-clause-repriced : goal.returns-in-Ok-clause-repriced
@@ -166,8 +168,8 @@ returns-in-Err-clause-no_memory c =
     record {
       share = same_share w.share c.put_tree-in-Err.new.share table (same_party w.share.party now
           (DiffersInShares-trans w.share.party c.take_tree.new.share.party now took.party put.party) (put_back g width old
-          w.share.party.shares now.shares (put.valid.wide.shares ∙ ap (λ (t : TableId). t.words) table ∙ sym valid.wide.shares) had
-          (gains_moved g width now.shares its took.share put.share)));
+          w.share.party.shares now.shares (put.valid.wide.shares ∙ ap (λ (t : TableId). t.words) table ∙ sym valid.wide.shares)
+          had (gains_moved g width now.shares its took.share put.share)));
       trees = refl;
       seen = put_back g width old (loads_of w.kept) (loads_of kept) (kept_long kept on_grid ∙ sym w.kept.kept.loaded.long)
           (λ r. omega (arith, had r, (w.working.close c.requires.may.refreshed r).least))
