@@ -1,11 +1,11 @@
 -- The elements at some positions of a list, and lists in which others stand there.
-use Rattle.std.proofs.Common.{◌≡◌, ◌≢◌, ℕ, suc, ◌+◌, ◌<◌, List, [], ◌∷◌, ◌++◌, length, take, get_or, slice_set, slice_range}
-use Rattle.std.proofs.Common.{Some, All, AllPairs, refl, sym, ◌∙◌, ap, arith}
+use Rattle.std.proofs.Common.{◌≡◌, ◌≢◌, ℕ, suc, ◌+◌, ◌<◌, List, [], ◌∷◌, ◌++◌, length, take, get_or, slice_set, slice_range, Some}
+use Rattle.std.proofs.Common.{All, AllPairs, refl, sym, ◌∙◌, ap, arith}
 use Rattle.std.proofs.lemmas.Grind.{flat_map-append}
 use Rattle.ripup_repair.proofs.Common.{set-set, set_comm, get_or-set_same, get_or-set_other, length-set, length-take, get_or-take}
-use Rattle.ripup_repair.proofs.Common.{set-get_or, append-nil, All-head, All-tail, slice_get_within}
-use Rattle.ripup_repair.proofs.Common.{get_or_from_slice_get, slice_get-get_or, At, stands, AreWithin, at_positions-cons}
-use Rattle.ripup_repair.proofs.Common.{first_within, one_here, rest_within, at_positions, with_elements}
+use Rattle.ripup_repair.proofs.Common.{set-get_or, append-nil, All-head, All-tail, slice_get_within, get_or_from_slice_get}
+use Rattle.ripup_repair.proofs.Common.{slice_get-get_or, At, stands, AreWithin, at_positions-cons, first_within, one_here}
+use Rattle.ripup_repair.proofs.Common.{rest_within, at_positions, with_elements}
 
 -- one position more
 pub at_positions-push : {X : Type 0} (xs : List X) (ks : List ℕ) (k : ℕ) (x : X) → At xs k x

@@ -138,20 +138,20 @@ pub more_done : {d : Design} {left : Left} {table : TableId} {old mid : Holding}
     {loads0 loads1 loads2 : List ℕ} {over : ℕ} {r : Repaired}
     → 0 < left.rounds → 0 < routing_overflow d before → over ≡ routing_overflow d after
     → IsRoundDone d left.workers left.budget table old mid before after
-    → AreRoundsDone d (record left { rounds = left.rounds - 1; overflow = over; least = min left.least over }) table mid after kept
-    loads1 loads2 r
+    → AreRoundsDone d (record left { rounds = left.rounds - 1; overflow = over; least = min left.least over }) table mid after
+    kept loads1 loads2 r
     → (over < left.least → loads1 ≡ load_list d.grid d.nets after) → (left.least ≤ over → loads1 ≡ loads0)
     → (r.least ≡ left.least → final ≡ before) → (r.least ≢ left.least → final ≡ kept)
     → AreRoundsDone d left table old before final loads0 loads2 (record r { rounds = r.rounds + 1 })
-more_done {d = d} {left = left} {table = table} {old = old} {before = before} {after = after} {kept = kept} {final = final} {over = over}
-    {r = r} some positive is round done better none back stay =
+more_done {d = d} {left = left} {old = old} {before = before} {after = after} {kept = kept} {final = final} {over = over} {r = r}
+    some positive is round done better none back stay =
     let next : r.rounds + 1 ≡ suc r.rounds = omega arith in
     let routings : List (List (List Piece)) = after ∷ done.later in
     let reads : ℕ → ℕ → List ℕ = from_first (λ _. ℕ → List ℕ) round.read done.run.read in
     record {
       later = routings;
-      run = run_first d left.workers left.budget left.rounds before after done.later round.read round.seen some positive round.round
-          round.read_loads done.run;
+      run = run_first d left.workers left.budget left.rounds before after done.later round.read round.seen some positive
+          round.round round.read_loads done.run;
       count = omega (arith, done.count);
       routings = All-cons (IsRouting d.grid d.nets) after done.later round.routing done.routings;
       share = λ t at. done.share t (subst (λ (k : ℕ). At (before ∷ routings) k t) next at);
@@ -159,7 +159,8 @@ more_done {d = d} {left = left} {table = table} {old = old} {before = before} {a
           ∙ ap (λ h. h ++ repair_history d left.workers routings done.run.read r.rounds) round.history
           ∙ append_assoc old.party.history (round_history d left.workers before round.read)
           (repair_history d left.workers routings done.run.read r.rounds)
-          ∙ ap (λ h. old.party.history ++ h) (sym (history-first d left.workers before routings round.read done.run.read r.rounds))
+          ∙ ap (λ h. old.party.history ++ h)
+          (sym (history-first d left.workers before routings round.read done.run.read r.rounds))
           ∙ ap (λ k. old.party.history ++ repair_history d left.workers (before ∷ routings) reads k) (sym next);
       within = omega (arith, done.within);
       better = λ less.
@@ -197,12 +198,22 @@ whole_share d table trees share has is words = record {
 }
 
 -- what a pick handed on has a table with a word for each entry
-pub whole_words : {d : Design} {chosen : Chosen} → IsWholeChosen d chosen → IsShare chosen.share → chosen.table.words ≡ entries d.grid
+pub whole_words : {d : Design} {chosen : Chosen} → IsWholeChosen d chosen → IsShare chosen.share
+    → chosen.table.words ≡ entries d.grid
 whole_words {d = d} {chosen = chosen} whole is =
     sym (ap (λ (t : TableId). t.words) whole.share.of_table)
     ∙ sym is.wide.shares
     ∙ ap length (whole.share.shares ∙ whole.loads)
     ∙ load_list-long d.grid d.nets chosen.trees
+
+-- and a share with the load of its sets
+pub whole_load : {d : Design} {chosen : Chosen} → IsWholeChosen d chosen → HasLoadOf d chosen.table chosen.trees chosen.share
+whole_load {d = d} {chosen = chosen} whole = record {
+  of_table = whole.share.of_table;
+  allot = whole.share.allot;
+  loads = λ r inside. ap (λ (l : List ℕ). slice_index l r) (whole.share.shares ∙ whole.loads)
+      ∙ load_list-at d.grid d.nets chosen.trees r inside;
+}
 
 -- rounds from the chosen sets on
 abbrev pub from_chosen : ℕ → Settings → ℕ → Left
@@ -210,10 +221,10 @@ from_chosen workers settings over =
     record { workers = workers; budget = settings.budget; rounds = settings.rounds; overflow = over; least = over }
 
 -- the result of rounds from the chosen sets on, which is a routing, with its loads
-pub is_result : {d : Design} {left : Left} {table : TableId} {old : Holding} {before after : List (List Piece)} {loads0 loads1 : List ℕ}
-    {r : Repaired} → (done : AreRoundsDone d left table old before after loads0 loads1 r)
+pub is_result : {d : Design} {left : Left} {table : TableId} {old : Holding} {before after : List (List Piece)}
+    {loads0 loads1 : List ℕ} {r : Repaired} → (done : AreRoundsDone d left table old before after loads0 loads1 r)
     → left.least ≡ routing_overflow d before → loads0 ≡ load_list d.grid d.nets before → IsRouting d.grid d.nets before
-    → (result : IsRepairResult d (before ∷ done.later) after) × (loads1 ≡ load_list d.grid d.nets after) × IsRouting d.grid d.nets after
+    → IsRepairResult d (before ∷ done.later) after × (loads1 ≡ load_list d.grid d.nets after) × IsRouting d.grid d.nets after
 is_result {d = d} {left = left} {before = before} {after = after} {loads1 = loads1} {r = r} done is loads first =
     let routings : List (List (List Piece)) = before ∷ done.later in
     let found : IsRepairResult d routings after × (loads1 ≡ load_list d.grid d.nets after) = ⊎_elim

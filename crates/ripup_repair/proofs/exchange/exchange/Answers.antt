@@ -1,4 +1,4 @@
-use Rattle.std.proofs.Common.{◌≡◌, ◌<◌, ◌+◌, ◌-◌, ◌∷◌, ◌++◌, [], ℕ, List, length, take, drop, get_or, slice_set, sym, ◌∙◌, ap}
+use Rattle.std.proofs.Common.{◌≡◌, ◌<◌, ◌+◌, ◌-◌, ◌∷◌, ◌++◌, ℕ, List, length, take, drop, get_or, slice_set, sym, ◌∙◌, ap}
 use Rattle.std.proofs.Common.{arith}
 use Rattle.ripup_repair.proofs.Common.{set-append_seam, take_more, length-take, append_assoc, drop_more, get_or-append_right}
 use Rattle.ripup_repair.proofs.Common.{slice_get-get_or, Piece, at_positions, with_elements, at_positions-long, All-take}
@@ -36,17 +36,14 @@ loop-i-preserved c =
     ∙ with_elements-other trees (take i ks) (take i sets) k c.index-trees-positions.result
     (earlier_apart ks i c.requires.rising short) in
     record {
-      trees = ap (λ l. slice_set l k c.swap.new.x) c.loop-i.invariant.trees
-          ∙ ap (λ z. slice_set (with_elements trees (take i ks) (take i sets)) k z) read
-          ∙ sym (with_elements-push trees (take i ks) (take i sets) k y even)
-          ∙ ap (λ l. with_elements trees l (take i sets ++ y ∷ [])) (sym (take_more ks i 0 short))
-          ∙ ap (λ l. with_elements trees (take (i + 1) ks) l) (sym (take_more sets i c.index-sets-i.result in_sets));
-      sets = ap (λ l. slice_set l i c.swap.new.y) now
+      trees = rw (take_more ks i 0 short, take_more sets i c.index-sets-i.result in_sets)
+          (rw (with_elements-push trees (take i ks) (take i sets) k y even)
+          (ap (λ l. slice_set l k c.swap.new.x) c.loop-i.invariant.trees
+          ∙ ap (slice_set (with_elements trees (take i ks) (take i sets)) k) read));
+      sets = rw (take_more ks i 0 short, at_positions-push trees (take i ks) k t
+          (slice_get-get_or trees k c.index-trees-positions.result in_trees), append_assoc)
+          (ap (λ l. slice_set l i c.swap.new.y) now
           ∙ ap (λ n. slice_set (so_far ++ y ∷ drop (i + 1) sets) n c.swap.new.y) (sym long)
           ∙ set-append_seam so_far y (drop (i + 1) sets) c.swap.new.y
-          ∙ ap (λ z. so_far ++ z ∷ drop (i + 1) sets) had
-          ∙ sym (append_assoc so_far (t ∷ []) (drop (i + 1) sets))
-          ∙ ap (λ l. l ++ drop (i + 1) sets) (sym (at_positions-push trees (take i ks) k t
-          (slice_get-get_or trees k c.index-trees-positions.result in_trees)))
-          ∙ ap (λ l. at_positions trees l ++ drop (i + 1) sets) (sym (take_more ks i 0 short));
+          ∙ ap (λ z. so_far ++ z ∷ drop (i + 1) sets) had);
     }

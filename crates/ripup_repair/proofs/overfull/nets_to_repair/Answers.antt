@@ -1,5 +1,5 @@
-use Rattle.std.proofs.Common.{◌≡◌, ◌<◌, ◌∷◌, ◌++◌, [], ℕ, Bool, cond, List, length, take, get_or, slice_index_or, sym, ◌∙◌}
-use Rattle.std.proofs.Common.{ap, subst, arith, below_more}
+use Rattle.std.proofs.Common.{◌≡◌, ◌<◌, ◌∷◌, ◌++◌, [], ℕ, Bool, cond, List, length, take, get_or, slice_index_or, sym, ◌∙◌, ap}
+use Rattle.std.proofs.Common.{subst, arith, below_more}
 use Rattle.ripup_repair.proofs.Common.{filter, range_with_len, take_all, filter_more, get_or-range_with_len}
 use Rattle.ripup_repair.proofs.Common.{length-range_with_len, get_or_from_slice_get, AllZip-long, Piece, At, size_of, share_at}
 use Rattle.ripup_repair.proofs.Common.{load, IsRising, ArePieces, IsRoute, At-read, holds_overfull, routing_pieces, Grid}
@@ -58,6 +58,3 @@ returns-clause-positions c =
     ∙ ap (filter (λ position. holds_overfull d.grid (load d.grid d.nets trees) (slice_index_or trees position [])))
     (take_all c.loop-position.position (range_with_len 0 (length trees)) (omega
     (arith, c.loop-position-test.false, length-range_with_len 0 (length trees))))
-
-pub returns-clause-rising : goal.returns-clause-rising
-returns-clause-rising c k e short = c.loop-position.invariant.rising k (omega (arith, short, c.loop-position-test.false)) e

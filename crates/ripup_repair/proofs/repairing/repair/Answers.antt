@@ -1,9 +1,9 @@
-use Rattle.std.proofs.Common.{◌≡◌, ℕ, List, length, slice_index, refl, sym, ◌∙◌, ap, subst, arith}
-use Rattle.ripup_repair.proofs.Common.{Piece, vertices, load_list, IsRouting, load_list-at, load_list-long, routing_overflow}
-use Rattle.ripup_repair.proofs.Common.{AreRoundsDone, HasLoadOf}
+use Rattle.std.proofs.Common.{◌≡◌, ℕ, List, length, refl, sym, ◌∙◌, ap, subst, arith}
+use Rattle.ripup_repair.proofs.Common.{size_of, Piece, vertices, load_list, load_list-long}
+use Rattle.ripup_repair.proofs.Common.{routing_overflow, AreRoundsDone}
 use Rattle.routing_stages.specs.Settings.{workers_in_use}
 use Rattle.ripup_repair.proofs.RoundFacts.{written_over}
-use Rattle.ripup_repair.proofs.RoundRuns.{from_chosen, is_repaired, is_result, whole_words}
+use Rattle.ripup_repair.proofs.RoundRuns.{from_chosen, is_repaired, is_result, whole_load, whole_words}
 use Rattle.ripup_repair.proofs.repairing.repair.Goals as goal
 
 pub overflow_of-rounded-requires-clause-long : goal.overflow_of-rounded-requires-clause-long
@@ -11,29 +11,12 @@ overflow_of-rounded-requires-clause-long g c =
     let d = c.args.design.now in
     ap length (c.deref.ensures.value ∙ c.requires.whole.loads) ∙ load_list-long d.grid d.nets c.args.chosen.trees
 
-pub overflow_of-rounded-requires-clause-listed : goal.overflow_of-rounded-requires-clause-listed
-overflow_of-rounded-requires-clause-listed g c = (c.args.chosen.trees, c.deref.ensures.value ∙ c.requires.whole.loads)
-
 pub repair_rounds-requires-clause-words : goal.repair_rounds-requires-clause-words
 repair_rounds-requires-clause-words g c κs within = whole_words c.requires.whole c.allotment.ensures.share
 
-pub repair_rounds-requires-clause-routing : goal.repair_rounds-requires-clause-routing
-repair_rounds-requires-clause-routing g c κs within =
-    let d = c.args.design.now in
-    subst (λ (ts : List (List Piece)). IsRouting d.grid d.nets ts)
-    (sym (c.deref_mut.ensures.value ∙ c.into_list-list.ensures)) c.requires.whole.routing
-
 pub repair_rounds-requires-clause-share : goal.repair_rounds-requires-clause-share
 repair_rounds-requires-clause-share g c κs within =
-    let d = c.args.design.now in
-    let whole = c.requires.whole in
-    subst (λ (ts : List (List Piece)). HasLoadOf d c.args.chosen.table ts c.args.chosen.share)
-    (sym (c.deref_mut.ensures.value ∙ c.into_list-list.ensures)) (record {
-      of_table = whole.share.of_table;
-      allot = whole.share.allot;
-      loads = λ r inside. ap (λ (l : List ℕ). slice_index l r) (whole.share.shares ∙ whole.loads)
-          ∙ load_list-at d.grid d.nets c.args.chosen.trees r inside;
-    })
+    rw (c.deref_mut.ensures.value ∙ c.into_list-list.ensures) (whole_load c.requires.whole)
 
 pub repair_rounds-requires-clause-overflow : goal.repair_rounds-requires-clause-overflow
 repair_rounds-requires-clause-overflow g c κs within =
@@ -49,20 +32,20 @@ returns g c =
     let over : ℕ = c.overflow_of-rounded.result in
     let after : List (List Piece) = c.repair_rounds.new.trees in
     let loads : List ℕ = c.repair_rounds.new.loads.items in
-    let workers = c.workers_in_use-workers.ensures.value ∙ ap (λ z. workers_in_use s.workers (vertices z)) c.size.ensures in
-    let done =
-    subst (λ (w : ℕ). AreRoundsDone d (from_chosen w s over) chosen.table chosen.share chosen.trees after chosen.loads.items loads
-    c.in_ok-done.done) workers
-    (subst (λ (ts : List (List Piece)). AreRoundsDone d (from_chosen c.workers_in_use-workers.result s over) chosen.table chosen.share
-    ts after chosen.loads.items loads c.in_ok-done.done) (c.deref_mut.ensures.value ∙ c.into_list-list.ensures)
-    c.in_ok-done.ensures.done) in
+    let in_use : ℕ = workers_in_use s.workers (vertices (size_of d.grid)) in
+    let workers : c.workers_in_use-workers.result ≡ in_use =
+    c.workers_in_use-workers.ensures.value ∙ ap (λ z. workers_in_use s.workers (vertices z)) c.size.ensures in
+    let done = subst (λ (ts : List (List Piece)). AreRoundsDone d (from_chosen in_use s over) chosen.table chosen.share ts after
+    chosen.loads.items loads c.in_ok-done.done) (c.deref_mut.ensures.value ∙ c.into_list-list.ensures)
+    (rw (← workers) c.in_ok-done.ensures.done) in
     let now : c.of.result ≡ after =
     c.of.ensures ∙ written_over c.into_list-list.result.len after c.into_list-list.result.items
     (omega (arith, c.repair_rounds.auto.trees, c.deref_mut.ensures.len)) in
     let is = c.overflow_of-rounded.ensures chosen.trees (c.deref.ensures.value ∙ whole.loads) in
     let result = is_result done is whole.loads whole.routing in
     record {
-      repaired = is_repaired _ done result.0 c.allotment-2.ensures.share (whole_words whole c.allotment.ensures.share) refl refl refl now;
+      repaired = is_repaired _ done result.0 c.allotment-2.ensures.share (whole_words whole c.allotment.ensures.share) refl refl refl
+          now;
       routing = rw now result.2;
       rounded = is;
       loads = result.1 ∙ ap (load_list d.grid d.nets) (sym now);

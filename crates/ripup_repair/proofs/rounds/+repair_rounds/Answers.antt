@@ -1,5 +1,5 @@
 use Rattle.std.proofs.Common.{◌≡◌, ◌≢◌, ◌<◌, ◌-◌, ℕ, List, ◌∙◌, ap, subst, arith}
-use Rattle.ripup_repair.proofs.Common.{le-ltb, lt-ltb, TableId, Piece, routing_overflow, with_elements, AreRoundsDone}
+use Rattle.ripup_repair.proofs.Common.{le-ltb, lt-ltb, Piece, routing_overflow, with_elements, AreRoundsDone}
 use Rattle.ripup_repair.proofs.RoundRuns.{more_done, none_done}
 use Rattle.ripup_repair.proofs.rounds.+repair_rounds.Goals.{then-left-eq0-via-then-left-eq0}
 use Rattle.ripup_repair.proofs.rounds.+repair_rounds.Goals.{then-left-eq0-via-else-left-eq0+then-left-eq0-2}
@@ -13,14 +13,6 @@ returns-then-left-eq0 g t c =
       | then-left-eq0-via-else-left-eq0+then-left-eq0-2 w ↦ absurd (omega (arith, w.if-left-eq0-2.true, left))
     ] in
     record { done = none_done c.requires.workers.0 over c.requires.share }
-
-pub keep_if_less-requires-clause-words : goal.keep_if_less-requires-clause-words
-keep_if_less-requires-clause-words g t c =
-    ap (λ (id : TableId). id.words) c.in_ok-share.ensures.done.share.of_table ∙ c.requires.words
-
-pub keep_if_less-requires-clause-routed : goal.keep_if_less-requires-clause-routed
-keep_if_less-requires-clause-routed g t c =
-    (c.args.table.now, c.repair_round.new.trees, c.in_ok-share.ensures.done.share)
 
 pub repair_rounds-requires-clause-overflow : goal.repair_rounds-requires-clause-overflow
 repair_rounds-requires-clause-overflow g t c κs within =
@@ -50,5 +42,6 @@ returns g t c =
     record {
       done = more_done {final = c.put_back_unless.new.trees} {loads0 = c.args.loads.now.items}
           {loads2 = c.repair_rounds.new.loads.items} (omega (arith, c.if-left-eq0-2.false))
-          (omega (arith, c.if-left-eq0.false, c.requires.overflow)) read.0 round.done done read.1 c.in_ok-overflow.ensures.kept back stay;
+          (omega (arith, c.if-left-eq0.false, c.requires.overflow)) read.0 round.done done read.1 c.in_ok-overflow.ensures.kept
+          back stay;
     }
