@@ -1,6 +1,6 @@
 -- A set of least weight at prices is a step.
-use Rattle.std.proofs.Common.{◌≡◌, ◌<◌, ◌≤◌, ◌+◌, ◌*◌, ℕ, List, [], ◌∷◌, length, get_or, map, All, refl}
-use Rattle.std.proofs.Common.{sym, ◌∙◌, ap, subst, arith, Option}
+use Rattle.std.proofs.Common.{◌≡◌, ◌<◌, ◌≤◌, ◌+◌, ◌*◌, ℕ, List, [], ◌∷◌, length, get_or, map, All, refl, sym, ◌∙◌, ap, subst}
+use Rattle.std.proofs.Common.{arith, Option}
 use Rattle.std.proofs.lemmas.List.Sums.{sum_by-cons}
 use Rattle.std.proofs.lemmas.List.Elements.{All-head, All-map, All-tail, Contains-get_or}
 use Rattle.price_workers.proofs.Common.{cond_both, sum_by, Contains, Piece, Grid, NetSpec, Allows, size_of, IsGround, KeepsTo}

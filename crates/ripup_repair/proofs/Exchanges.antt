@@ -1,6 +1,6 @@
 -- Routings in which the nets at some positions have other sets.
 use Rattle.std.proofs.Common.{◌≡◌, ℕ, suc, ◌+◌, ◌*◌, ◌≤◌, List, [], ◌∷◌, length, slice_set, refl, ◌∙◌, ap, arith}
-use Rattle.ripup_repair.proofs.Common.{length-set, Piece, At, Grid, NetSpec, IsNetWidth, load_on, max_tree_load, tree_load}
+use Rattle.ripup_repair.proofs.Common.{length-set, Piece, At, Grid, NetSpec, IsNetWidth, load_on, max_tree_load}
 use Rattle.ripup_repair.proofs.Common.{IsRising, IsRoute, IsRouting, at_positions, load_on-none, route_pieces, stands}
 use Rattle.ripup_repair.proofs.Common.{load_on-cons, with_elements, AreWithin, at_positions-cons, first_within, rest_within}
 use Rattle.sharing_runs.proofs.Exchanges.{AllZip-set, load_on-set}
@@ -23,22 +23,15 @@ load_on-with g nets trees (k ∷ ks) (y ∷ sets) r long within rising even =
     let among : AreWithin trees ks = λ i d short. omega (arith, rest_within nets k ks within i d short, long) in
     let again : at_positions zs ks ≡ at_positions trees ks =
     at_positions-elsewhere trees k y ks among (none_is_first k ks rising) in
-    let first : load_on g (at_positions nets (k ∷ ks)) (at_positions trees (k ∷ ks)) r
-    ≡ tree_load g n.0.width t.0 r + load_on g ns (at_positions trees ks) r =
-    ap (λ l. load_on g l (at_positions trees (k ∷ ks)) r) (at_positions-cons nets k ks n.0 n.1)
-    ∙ ap (λ l. load_on g (n.0 ∷ ns) l r) (at_positions-cons trees k ks t.0 t.1)
-    ∙ load_on-cons g n.0 ns t.0 (at_positions trees ks) r in
-    let second : load_on g (at_positions nets (k ∷ ks)) (y ∷ sets) r ≡ tree_load g n.0.width y r + load_on g ns sets r =
-    ap (λ l. load_on g l (y ∷ sets) r) (at_positions-cons nets k ks n.0 n.1) ∙ load_on-cons g n.0 ns y sets r in
-    omega (
+    rw (at_positions-cons nets k ks n.0 n.1, at_positions-cons trees k ks t.0 t.1) (omega (
       arith,
-      first,
-      second,
+      load_on-cons g n.0 ns t.0 (at_positions trees ks) r,
+      load_on-cons g n.0 ns y sets r,
       load_on-with g nets zs ks sets r (length-set trees k y ∙ long) (rest_within nets k ks within) (rest_rising k ks rising)
           (omega (arith, even)),
       ap (λ l. load_on g ns l r) again,
       load_on-set g nets trees k n.0 t.0 y r n.1 t.1,
-    )
+    ))
 
 -- where each new set is a route of its net, all sets are a routing
 pub routing-with : (g : Grid) (nets : List NetSpec) (trees : List (List Piece)) (ks : List ℕ) (sets : List (List Piece))

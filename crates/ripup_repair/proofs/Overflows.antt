@@ -1,8 +1,9 @@
 -- The overflow of a routing by its loads.
 use Rattle.std.proofs.Common.{◌≡◌, ℕ, ◌≤◌, ◌<◌, List, length, map, get_or, sym, ◌∙◌, ap, subst, arith, All}
-use Rattle.ripup_repair.proofs.Common.{sum_by-le, sum, range_with_len, zip, cond_both, ext_get_or, get_or-map-range_with_len}
-use Rattle.ripup_repair.proofs.Common.{length-map-range_with_len, slice_get-get_or, get_or-zip, length-zip, Piece, Design, Grid}
-use Rattle.ripup_repair.proofs.Common.{NetSpec, capacity, demand_on, edge_numbers, kind, holds, load, net_load, excess, overflow}
+use Rattle.ripup_repair.proofs.Common.{fill_by_all, get_or-map-range_with_len, length-map-range_with_len, sum_by-le, sum}
+use Rattle.ripup_repair.proofs.Common.{range_with_len, zip, cond_both, slice_get-get_or, get_or-zip, length-zip}
+use Rattle.ripup_repair.proofs.Common.{Piece, Design, Grid, NetSpec, capacity, demand_on, edge_numbers, kind, holds, load}
+use Rattle.ripup_repair.proofs.Common.{net_load, excess, overflow}
 use Rattle.grid_graph.specs.Limits.{max_demand}
 use Rattle.edge_prices.proofs.Layers.{layer-below}
 use Rattle.tree_set.specs.Limits.{max_routing_load}
@@ -12,13 +13,9 @@ pub overflow-same : (g : Grid) (f h : ℕ → ℕ) → ((e : ℕ) → e < edge_n
 overflow-same g f h same =
     let n : ℕ = edge_numbers g in
     let over : (ℕ → ℕ) → ℕ → ℕ = λ l e. excess (kind g e) (l e) (capacity g e) in
-    ap sum (ext_get_or 0 (map (over f) (range_with_len 0 n)) (map (over h) (range_with_len 0 n))
-    (length-map-range_with_len (over f) 0 n ∙ sym (length-map-range_with_len (over h) 0 n))
-    (λ e short.
-    let within : e < n = omega (arith, short, length-map-range_with_len (over f) 0 n) in
-    get_or-map-range_with_len (over f) 0 n e e 0 within (omega arith)
-    ∙ ap (λ l. excess (kind g e) l (capacity g e)) (same e within)
-    ∙ sym (get_or-map-range_with_len (over h) 0 n e e 0 within (omega arith))))
+    ap sum (fill_by_all (over h) (map (over f) (range_with_len 0 n)) n 0 (length-map-range_with_len (over f) 0 n)
+    (λ e within. get_or-map-range_with_len (over f) 0 n e e 0 within (omega arith)
+    ∙ ap (λ l. excess (kind g e) l (capacity g e)) (same e within)))
 
 -- no sets have a greater load on an edge than this
 pub load-limit : (d : Design) (trees : List (List Piece)) (e : ℕ) → e < edge_numbers d.grid

@@ -157,7 +157,8 @@ repair_turn p sets worker turn seen read its had = record {
 -- all nets that are to be repaired had their turns
 pub round_done : {p : Pass} {old new : Holding} {sets : List (List Piece)} → IsPass p → IsRound p
     → IsRouting p.design.grid p.design.nets p.before → HasLoadOf p.design p.table p.before old
-    → HadTurns p 0 p.workers old new sets → IsRoundDone p.design p.workers p.budget p.table old new p.before (with_elements p.before p.positions sets)
+    → HadTurns p 0 p.workers old new sets
+    → IsRoundDone p.design p.workers p.budget p.table old new p.before (with_elements p.before p.positions sets)
 round_done {p = p} {old = old} {new = new} {sets = sets} pass its routed has had =
     let d : Design = p.design in
     let ks : List ℕ = p.positions in

@@ -1,11 +1,11 @@
 -- Rounds of repair, one after another.
 use Rattle.std.proofs.Common.{◌≡◌, ◌≢◌, ℕ, zero, suc, ◌+◌, ◌-◌, ◌≤◌, ◌<◌, List, [], ◌∷◌, ◌++◌, length, min, replicate}
 use Rattle.std.proofs.Common.{slice_index, slice_index_or, Option, refl, sym, ◌∙◌, ap, subst, arith, ⊎_elim}
-use Rattle.ripup_repair.proofs.Common.{flat_map, range_with_len, cases_lt, append_assoc, append-nil, ext_get_or, All-nil}
-use Rattle.ripup_repair.proofs.Common.{All-cons, get_or_from_slice_get, same_Some, slice_get_within, TableId, Piece, At, Design}
-use Rattle.ripup_repair.proofs.Common.{entries, Holding, IsShare, load_list, load_on, IsRouting, load_list-at, load_list-long}
-use Rattle.ripup_repair.proofs.Common.{IsRepairResult, IsRepairRound, IsRepairRun, routing_overflow, AreRoundsDone, HasLoadOf}
-use Rattle.ripup_repair.proofs.Common.{IsRoundDone}
+use Rattle.ripup_repair.proofs.Common.{fill_by_all, flat_map, range_with_len, cases_lt, append_assoc, append-nil}
+use Rattle.ripup_repair.proofs.Common.{All-nil, All-cons, get_or_from_slice_get, same_Some, slice_get_within, TableId, Piece, At}
+use Rattle.ripup_repair.proofs.Common.{Design, entries, Holding, IsShare, load_list, load_on, IsRouting, load_list-at}
+use Rattle.ripup_repair.proofs.Common.{load_list-long, IsRepairResult, IsRepairRound, IsRepairRun, routing_overflow}
+use Rattle.ripup_repair.proofs.Common.{AreRoundsDone, HasLoadOf, IsRoundDone}
 use Rattle.edge_prices.specs.Vectors.{IsLoadList}
 use Rattle.routing_stages.specs.declared.chosen.Chosen.{Chosen}
 use Rattle.routing_stages.specs.declared.routed.Routed.{Routed}
@@ -100,16 +100,6 @@ run_first d workers budget rounds before after later read seen left over round l
           (λ k t at last less. run.ends k t at (omega (arith, last)) (omega (arith, less)));
     }
 
--- a list that has these loads, entry by entry
-pub listed : (d : Design) (trees : List (List Piece)) (loads : List ℕ) → length loads ≡ entries d.grid
-    → ((r : ℕ) → r < entries d.grid → slice_index loads r ≡ load_on d.grid d.nets trees r)
-    → loads ≡ load_list d.grid d.nets trees
-listed d trees loads long each =
-    ext_get_or 0 loads (load_list d.grid d.nets trees) (long ∙ sym (load_list-long d.grid d.nets trees))
-    (λ r short.
-    let within : r < entries d.grid = omega (arith, short, long) in
-    each r within ∙ sym (load_list-at d.grid d.nets trees r within))
-
 -- the first of least overflow is one of the rounds behind the first
 result_behind : (d : Design) (after : List (List Piece)) (later : List (List (List Piece))) (trees : List (List Piece))
     → routing_overflow d trees < routing_overflow d after → IsRepairResult d later trees
@@ -194,7 +184,7 @@ pub whole_share : (d : Design) (table : TableId) (trees : List (List Piece)) (sh
 whole_share d table trees share has is words = record {
   of_table = has.of_table;
   allot = has.allot;
-  shares = listed d trees share.party.shares (is.wide.shares ∙ words) (λ r within. has.loads r within);
+  shares = fill_by_all (load_on d.grid d.nets trees) share.party.shares (entries d.grid) 0 (is.wide.shares ∙ words) has.loads;
 }
 
 -- what a pick handed on has a table with a word for each entry

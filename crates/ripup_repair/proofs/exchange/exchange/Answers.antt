@@ -1,5 +1,4 @@
-use Rattle.std.proofs.Common.{◌≡◌, ◌<◌, ◌+◌, ◌-◌, ◌∷◌, ◌++◌, ℕ, List, length, take, drop, get_or, slice_set, sym, ◌∙◌, ap}
-use Rattle.std.proofs.Common.{arith}
+use Rattle.std.proofs.Common.{◌≡◌, ◌<◌, ◌+◌, ◌-◌, ◌∷◌, ◌++◌, ℕ, List, length, take, drop, get_or, slice_set, sym, ◌∙◌, ap, arith}
 use Rattle.ripup_repair.proofs.Common.{set-append_seam, take_more, length-take, append_assoc, drop_more, get_or-append_right}
 use Rattle.ripup_repair.proofs.Common.{slice_get-get_or, Piece, at_positions, with_elements, at_positions-long, All-take}
 use Rattle.ripup_repair.proofs.Positions.{at_positions-push, with_elements-other, with_elements-push, earlier_apart}
@@ -16,7 +15,8 @@ loop-i-preserved c =
     let in_sets : i < length sets = omega (arith, short, c.requires.long) in
     let in_trees : k < length trees = c.requires.positions i 0 short in
     let so_far : List (List Piece) = at_positions trees (take i ks) in
-    let long : length so_far ≡ i = at_positions-long trees (take i ks) (All-take (λ k. k < length trees) i ks c.requires.positions)
+    let long : length so_far ≡ i =
+    at_positions-long trees (take i ks) (All-take (λ k. k < length trees) i ks c.requires.positions)
     ∙ length-take i ks ∙ omega (arith, short) in
     let even : length (take i sets) ≡ length (take i ks) =
     length-take i sets ∙ omega (arith, length-take i ks, short, in_sets) in

@@ -1,6 +1,5 @@
 use Rattle.std.proofs.Common.{◌≡◌, ℕ, List, length, refl, sym, ◌∙◌, ap, subst, arith}
-use Rattle.ripup_repair.proofs.Common.{size_of, Piece, vertices, load_list, load_list-long}
-use Rattle.ripup_repair.proofs.Common.{routing_overflow, AreRoundsDone}
+use Rattle.ripup_repair.proofs.Common.{size_of, Piece, vertices, load_list, load_list-long, routing_overflow, AreRoundsDone}
 use Rattle.routing_stages.specs.Settings.{workers_in_use}
 use Rattle.ripup_repair.proofs.RoundFacts.{written_over}
 use Rattle.ripup_repair.proofs.RoundRuns.{from_chosen, is_repaired, is_result, whole_load, whole_words}
@@ -44,8 +43,8 @@ returns g c =
     let is = c.overflow_of-rounded.ensures chosen.trees (c.deref.ensures.value ∙ whole.loads) in
     let result = is_result done is whole.loads whole.routing in
     record {
-      repaired = is_repaired _ done result.0 c.allotment-2.ensures.share (whole_words whole c.allotment.ensures.share) refl refl refl
-          now;
+      repaired = is_repaired _ done result.0 c.allotment-2.ensures.share (whole_words whole c.allotment.ensures.share)
+          refl refl refl now;
       routing = rw now result.2;
       rounded = is;
       loads = result.1 ∙ ap (load_list d.grid d.nets) (sym now);

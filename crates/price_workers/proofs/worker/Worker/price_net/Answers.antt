@@ -1,14 +1,9 @@
-use Rattle.std.proofs.Common.{◌≡◌, ℕ, List, length, get_or, ◌∷◌, ◌++◌, [], refl, sym, ◌∙◌, ap, subst}
-use Rattle.price_workers.proofs.Common.{get_or_push, same_Some, Piece, At, Grid, NetSpec, IsGround, loads_of, scale_of, budget_of}
+use Rattle.std.proofs.Common.{◌≡◌, ℕ, List, length, get_or, refl, sym, ◌∙◌, ap}
+use Rattle.price_workers.proofs.Common.{get_or_push, same_Some, Piece, At, NetSpec, loads_of, scale_of, budget_of}
 use Rattle.price_workers.proofs.LightSteps.{step_moved}
 use Rattle.price_workers.proofs.TurnFacts.{At-read, gains_moved, step_pieces, working_put}
 use Rattle.price_workers.proofs.worker.Worker.price_net.Goals.{After-index, After-index-list-net}
 use Rattle.price_workers.proofs.worker.Worker.price_net.Goals as goal
-
--- what was pushed is read at the length before
-read_pushed : (old all : List (List Piece)) (tree found : List Piece) → all ≡ old ++ tree ∷ [] → found ≡ get_or all (length old) found → found ≡ tree
-read_pushed old all tree found items is =
-    is ∙ ap (λ (l : List (List Piece)). get_or l (length old) found) items ∙ get_or_push old tree found (length old) refl
 
 -- the net stands in the design
 here : (c : After-index-list-net) → At c.args.design.now.nets c.args.net c.index-list-net.result
@@ -19,15 +14,17 @@ here c =
 -- the set that is read is the one that was pushed
 pushed : (c : After-index) → c.index.result.now ≡ c.in_ok-tree.tree
 pushed c =
-    let w = c.args.self.now in
-    let tree : List Piece = c.in_ok-tree.tree in
-    read_pushed w.trees.items c.push.new.self.items tree c.index.result.now c.in_ok-push.ensures.items
-    (c.index.ensures ∙ ap (λ (k : ℕ). get_or c.push.new.self.items k c.index.result.now) (c.len-at.ensures ∙ w.trees.ok.0))
+    let old : List (List Piece) = c.args.self.now.trees.items in
+    let found : List Piece = c.index.result.now in
+    c.index.ensures
+    ∙ ap (λ (k : ℕ). get_or c.push.new.self.items k found) (c.len-at.ensures ∙ c.args.self.now.trees.ok.0)
+    ∙ ap (λ (l : List (List Piece)). get_or l (length old) found) c.in_ok-push.ensures.items
+    ∙ get_or_push old c.in_ok-tree.tree found (length old) refl
 
 pub route_net-requires-clause-ground : goal.route_net-requires-clause-ground
 route_net-requires-clause-ground c =
-    subst (λ (x : Grid). IsGround x c.index-list-net.result.terminals c.args.over) (sym c.requires.works.on_grid)
-    (c.requires.ground c.index-list-net.result (here (goal.at.route_net-requires-clause-ground c).After-index-list-net))
+    rw c.requires.works.on_grid
+    (c.requires.ground _ (here (goal.at.route_net-requires-clause-ground c).After-index-list-net))
 
 pub put_tree-requires-clause-width : goal.put_tree-requires-clause-width
 put_tree-requires-clause-width c =

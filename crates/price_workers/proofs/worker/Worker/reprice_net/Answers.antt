@@ -1,5 +1,5 @@
-use Rattle.std.proofs.Common.{◌≡◌, List, get_or, refl, sym, ◌∙◌, ap, subst, arith}
-use Rattle.price_workers.proofs.Common.{get_or-set_same, same_Some, Piece, At, Grid, NetSpec, entries, IsNetWidth, IsGround}
+use Rattle.std.proofs.Common.{◌≡◌, List, get_or, refl, sym, ◌∙◌, ap, arith}
+use Rattle.price_workers.proofs.Common.{get_or-set_same, same_Some, Piece, At, NetSpec, entries, IsNetWidth}
 use Rattle.price_workers.proofs.Common.{grid_of, loads_of, HasRoomForSet, HoldsTree, TableId, AreCloseTo}
 use Rattle.price_workers.proofs.LightSteps.{step_moved}
 use Rattle.price_workers.proofs.Taken.{put_back}
@@ -71,8 +71,7 @@ route_net-requires-clause-width c =
 pub route_net-requires-clause-ground : goal.route_net-requires-clause-ground
 route_net-requires-clause-ground c =
     let took = (goal.at.route_net-requires-clause-ground c).After-take_tree in
-    subst (λ (x : Grid). IsGround x c.index-list-net.result.terminals c.args.over) (sym (grid_without took))
-    (c.requires.ground c.index-list-net.result (here took))
+    rw (grid_without took) (c.requires.ground _ (here took))
 
 pub put_tree-requires-clause-width : goal.put_tree-requires-clause-width
 put_tree-requires-clause-width c = limited (goal.at.put_tree-requires-clause-width c).After-take_tree
