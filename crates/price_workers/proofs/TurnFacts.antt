@@ -1,8 +1,9 @@
 -- What a turn leaves of a worker's share and of what it sees.
-use Rattle.std.proofs.Common.{◌≡◌, ℕ, ◌-◌, ◌<◌, ◌≤◌, Bool, List, [], ◌∷◌, length, get_or, slice_index, sym, ◌∙◌, ap, subst, arith}
+use Rattle.std.proofs.Common.{◌≡◌, ℕ, ◌+◌, ◌-◌, ◌<◌, Bool, List, [], ◌∷◌, length, get_or, slice_index, sym, ◌∙◌, ap, subst}
+use Rattle.std.proofs.Common.{arith}
 use Rattle.price_workers.proofs.Common.{Piece, At, Grid, NetSpec, size_of, entries, grid_of, loads_of, KeepsSetting, Holding}
 use Rattle.price_workers.proofs.Common.{IsShare, held, slice_get-get_or, tree_load, ArePieces, IsRoute, GainsTree, without_tree}
-use Rattle.price_workers.proofs.Common.{DiffersInShares, HasRoomForSet, TableId, IsStepAt, AreCloseTo}
+use Rattle.price_workers.proofs.Common.{DiffersInShares, TableId, IsStepAt, AreCloseTo}
 use Rattle.edge_prices.specs.declared.kept_prices.KeptPrices.{KeptPrices}
 use Rattle.grid_graph.proofs.Allowed.{Allows-IsPiece}
 use Rattle.load_core.specs.declared.party.Party.{Party}
@@ -26,32 +27,18 @@ same_party p q differs same = differs ∙ ap (λ (s : List ℕ). record p { shar
 pub same_share : (h k : Holding) → k.table ≡ h.table → k.party ≡ h.party → k ≡ h
 same_share h k table party = ap (λ t. held t k.party) table ∙ ap (λ q. held h.table q) party
 
--- what is seen stays close where it gains the same as the share
-pub close_put : (g : Grid) (width : ℕ) (ps : List Piece) (p q : Party) (old new : List ℕ) → AreCloseTo p old → DiffersInShares p q
-    → GainsTree g width ps p.shares q.shares → GainsTree g width ps old new → AreCloseTo q new
-close_put g width ps p q old new close differs share seen r = record {
-  least = omega (arith, (close r).least, share r, seen r);
-  most = omega (arith, (close r).most, share r, seen r, same_allot p q differs);
+-- what is seen stays close where it changes as the share does
+pub close_moved : (p q : Party) (old new : List ℕ) → AreCloseTo p old → DiffersInShares p q
+    → ((r : ℕ) → slice_index new r + share_at r p ≡ slice_index old r + share_at r q) → AreCloseTo q new
+close_moved p q old new close differs same r = record {
+  least = omega (arith, (close r).least, same r);
+  most = omega (arith, (close r).most, (close r).least, same r, same_allot p q differs);
 }
 
--- and where the same is taken from both
-pub close_taken : (g : Grid) (width : ℕ) (ps : List Piece) (p q : Party) (old new : List ℕ) → AreCloseTo p old → DiffersInShares p q
-    → ((r : ℕ) → tree_load g width ps r ≤ share_at r p)
-    → q.shares ≡ without_tree g width ps p.shares → new ≡ without_tree g width ps old → AreCloseTo q new
-close_taken g width ps p q old new close differs had share seen r =
-    let shared : slice_index q.shares r ≡ slice_index p.shares r - tree_load g width ps r =
-    ap (λ (l : List ℕ). slice_index l r) share ∙ without_tree-at g width ps p.shares r in
-    let looked : slice_index new r ≡ slice_index old r - tree_load g width ps r =
-    ap (λ (l : List ℕ). slice_index l r) seen ∙ without_tree-at g width ps old r in
-    record {
-      least = omega (arith, (close r).least, shared, looked);
-      most = omega (arith, (close r).most, (close r).least, shared, looked, had r, same_allot p q differs);
-    }
-
--- where something was taken there is still room
-pub room_taken : (g : Grid) (width : ℕ) (ps : List Piece) (p q : Party) → HasRoomForSet p → DiffersInShares p q → q.shares ≡ without_tree g width ps p.shares → HasRoomForSet q
-room_taken g width ps p q room differs share r =
-    omega (arith, room r, ap (λ (l : List ℕ). slice_index l r) share ∙ without_tree-at g width ps p.shares r, same_allot p q differs)
+-- what a list without the load of a set has
+pub less_at : (g : Grid) (width : ℕ) (ps : List Piece) (old : List ℕ) {new : List ℕ} (r : ℕ) → new ≡ without_tree g width ps old
+    → slice_index new r ≡ slice_index old r - tree_load g width ps r
+less_at g width ps old r same = ap (λ (l : List ℕ). slice_index l r) same ∙ without_tree-at g width ps old r
 
 -- a route is made of pieces of the grid
 pub route_pieces : (g : Grid) (n : NetSpec) (tree : List Piece) → IsRoute g n tree → ArePieces (size_of g) tree
@@ -74,11 +61,6 @@ pub stands : {X : Type 0} (xs : List X) (k : ℕ) → k < length xs → (x : X) 
 stands [] k within = absurd (omega (arith, within))
 stands (x ∷ xs) k within = (get_or (x ∷ xs) k x, slice_get-get_or (x ∷ xs) k x within)
 
--- a gain, told of the same things by other names
-pub gains_moved : (g : Grid) (width : ℕ) {ps qs : List Piece} {old old' : List ℕ} (new : List ℕ) → ps ≡ qs → old ≡ old'
-    → GainsTree g width ps old new → GainsTree g width qs old' new
-gains_moved g width new set before gains = rw (← set, ← before) gains
-
 -- a keeper's loads, and the shares of a holding, have an entry for each word
 pub kept_long : {g : Grid} (kept : KeptPrices) → grid_of kept ≡ g → length (loads_of kept) ≡ entries g
 kept_long kept same = kept.kept.loaded.long ∙ ap entries same
@@ -99,5 +81,6 @@ working_put g width ps share new kept routed put words close route same labelled
   loaded = put.kept.loaded;
   labelled = rw (setting.grid ∙ route.grid) labelled;
   share_holds = λ yes. valid;
-  close = λ yes. close_put g width ps share.party new.party (loads_of kept) (loads_of put) close differs gains (rw (← same) seen);
+  close = λ yes. close_moved share.party new.party (loads_of kept) (loads_of put) close differs
+      (λ r. omega (arith, gains r, seen r, ap (λ (l : List ℕ). slice_index l r) same));
 }

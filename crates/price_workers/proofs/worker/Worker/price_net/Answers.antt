@@ -1,7 +1,7 @@
 use Rattle.std.proofs.Common.{◌≡◌, ℕ, List, length, get_or, refl, sym, ◌∙◌, ap}
 use Rattle.price_workers.proofs.Common.{get_or_push, same_Some, Piece, At, NetSpec, loads_of, scale_of, budget_of}
 use Rattle.price_workers.proofs.LightSteps.{step_moved}
-use Rattle.price_workers.proofs.TurnFacts.{At-read, gains_moved, step_pieces, working_put}
+use Rattle.price_workers.proofs.TurnFacts.{At-read, step_pieces, working_put}
 use Rattle.price_workers.proofs.worker.Worker.price_net.Goals.{After-index, After-index-list-net}
 use Rattle.price_workers.proofs.worker.Worker.price_net.Goals as goal
 
@@ -48,18 +48,16 @@ invariant_of-self-2 c =
 
 pub returns-clause-priced : goal.returns-clause-priced
 returns-clause-priced c n at =
-    let g = c.args.design.now.grid in
     let w = c.args.self.now in
     let spec = c.index-list-net.result in
     let put = c.put_tree.ensures in
     let its = pushed (goal.at.returns-clause-priced c).After-index in
-    let shares : w.share.party.shares ≡ w.share.party.shares = refl in
     rw (same_Some n spec (sym at ∙ here (goal.at.returns-clause-priced c).After-index-list-net)) (record {
       tree = c.in_ok-tree.tree;
       step = step_moved {loads = loads_of w.kept} {scale = scale_of w.kept} {budget = budget_of w.kept} c.requires.works.on_grid
           refl refl refl c.in_ok-tree.ensures.step;
       trees = c.in_ok-push.ensures.items;
-      seen = gains_moved g spec.width (loads_of c.put_tree.new.kept) its c.in_ok-tree.ensures.loads put.seen;
-      share = gains_moved g spec.width c.put_tree.new.share.party.shares its shares put.share;
+      seen = rw (← c.in_ok-tree.ensures.loads, ← its) put.seen;
+      share = rw (← its) put.share;
       counted = record { since = refl; refreshed = c.requires.may.refreshed; party = put.party };
     })

@@ -1,9 +1,9 @@
 use Rattle.std.proofs.Common.{◌≡◌, List, get_or, refl, sym, ◌∙◌, ap, arith}
-use Rattle.price_workers.proofs.Common.{get_or-set_same, same_Some, Piece, At, NetSpec, entries, IsNetWidth}
-use Rattle.price_workers.proofs.Common.{grid_of, loads_of, HasRoomForSet, HoldsTree, TableId, AreCloseTo}
+use Rattle.price_workers.proofs.Common.{Grid, get_or-set_same, same_Some, Piece, At, NetSpec, entries, IsNetWidth, grid_of}
+use Rattle.price_workers.proofs.Common.{loads_of, HasRoomForSet, HoldsTree, TableId, AreCloseTo}
 use Rattle.price_workers.proofs.LightSteps.{step_moved}
 use Rattle.price_workers.proofs.Taken.{put_back}
-use Rattle.price_workers.proofs.TurnFacts.{DiffersInShares-trans, same_party, same_share, close_taken, room_taken, gains_moved}
+use Rattle.price_workers.proofs.TurnFacts.{DiffersInShares-trans, same_party, same_share, close_moved, less_at, same_allot}
 use Rattle.price_workers.proofs.TurnFacts.{kept_long, At-read, step_pieces, working_put}
 use Rattle.price_workers.proofs.worker.Worker.reprice_net.Goals.{After-take_tree, After-index-in-Ok, After-index-in-Err}
 use Rattle.price_workers.proofs.worker.Worker.reprice_net.Goals as goal
@@ -25,14 +25,29 @@ held c = c.requires.had c.index-list-net.result c.index.result.now (here c) (sto
 -- without it what is seen is still close, and there is still room
 close_without : (c : After-take_tree) → AreCloseTo c.take_tree.new.share.party (loads_of c.take_tree.new.kept)
 close_without c =
+    let g : Grid = c.args.design.now.grid in
     let w = c.args.self.now in
-    close_taken c.args.design.now.grid c.index-list-net.result.width c.index.result.now w.share.party c.take_tree.new.share.party (loads_of w.kept)
-    (loads_of c.take_tree.new.kept) (w.working.close c.requires.may.refreshed) c.take_tree.ensures.party (held c).had c.take_tree.ensures.share c.take_tree.ensures.seen
+    let width = c.index-list-net.result.width in
+    let tree : List Piece = c.index.result.now in
+    let close = w.working.close c.requires.may.refreshed in
+    close_moved w.share.party c.take_tree.new.share.party (loads_of w.kept) (loads_of c.take_tree.new.kept) close
+    c.take_tree.ensures.party (λ r. omega (
+      arith,
+      (close r).least,
+      (held c).had r,
+      less_at g width tree w.share.party.shares r c.take_tree.ensures.share,
+      less_at g width tree (loads_of w.kept) r c.take_tree.ensures.seen,
+    ))
 
 room_without : (c : After-take_tree) → HasRoomForSet c.take_tree.new.share.party
-room_without c =
-    room_taken c.args.design.now.grid c.index-list-net.result.width c.index.result.now c.args.self.now.share.party c.take_tree.new.share.party
-    c.requires.may.room c.take_tree.ensures.party c.take_tree.ensures.share
+room_without c r =
+    let p = c.args.self.now.share.party in
+    omega (
+      arith,
+      c.requires.may.room r,
+      less_at c.args.design.now.grid c.index-list-net.result.width c.index.result.now p.shares r c.take_tree.ensures.share,
+      same_allot p c.take_tree.new.share.party c.take_tree.ensures.party,
+    )
 
 -- the grid is that of the design, which has so many entries, and the net's width is one of its widths
 words_without : (c : After-take_tree) → c.take_tree.new.share.table.words ≡ entries (grid_of c.take_tree.new.kept)
@@ -128,7 +143,6 @@ invariant_of-self-in-Err c =
 
 pub returns-in-Ok-clause-repriced : goal.returns-in-Ok-clause-repriced
 returns-in-Ok-clause-repriced c n before at_net at_tree =
-    let g = c.args.design.now.grid in
     let w = c.args.self.now in
     let spec = c.index-list-net.result in
     let took = c.take_tree.ensures in
@@ -139,8 +153,8 @@ returns-in-Ok-clause-repriced c n before at_net at_tree =
       tree = c.in-Ok.tree;
       step = step_moved (grid_without after) took.seen took.setting.scale took.setting.budget c.in-Ok.ensures.step;
       trees = refl;
-      seen = gains_moved g spec.width (loads_of c.put_tree.new.kept) its (c.in-Ok.ensures.loads ∙ took.seen) put.seen;
-      share = gains_moved g spec.width c.put_tree.new.share.party.shares its took.share put.share;
+      seen = rw (← (c.in-Ok.ensures.loads ∙ took.seen), ← its) put.seen;
+      share = rw (← took.share, ← its) put.share;
       counted = record {
         since = refl;
         refreshed = c.requires.may.refreshed;
@@ -168,11 +182,11 @@ returns-in-Err-clause-no_memory c =
       share = same_share w.share c.put_tree-in-Err.new.share table (same_party w.share.party now
           (DiffersInShares-trans w.share.party c.take_tree.new.share.party now took.party put.party) (put_back g width old
           w.share.party.shares now.shares (put.valid.wide.shares ∙ ap (λ (t : TableId). t.words) table ∙ sym valid.wide.shares)
-          had (gains_moved g width now.shares its took.share put.share)));
+          had (rw (← took.share, ← its) put.share)));
       trees = refl;
       seen = put_back g width old (loads_of w.kept) (loads_of kept) (kept_long kept on_grid ∙ sym w.kept.kept.loaded.long)
           (λ r. omega (arith, had r, (w.working.close c.requires.may.refreshed r).least))
-          (gains_moved g width (loads_of kept) its (c.in-Err.ensures.loads ∙ took.seen) put.seen);
+          (rw (← (c.in-Err.ensures.loads ∙ took.seen), ← its) put.seen);
       since = refl;
       refreshed = refl;
     }
