@@ -1,7 +1,7 @@
 -- Words of lower crates, and of this one's specs, that several files of proofs take.
 pub use Rattle.std.proofs.Math.Seq.{set-append_seam, take-append_seam}
 pub use Rattle.std.proofs.lemmas.Bool.{cases_lt, cond_both, le-ltb, lt-ltb}
-pub use Rattle.std.proofs.lemmas.List.{append-nil, append_assoc, drop_more, ext_get_or, get_or-append_right, get_or-set_other}
+pub use Rattle.std.proofs.lemmas.List.{append-nil, append_assoc, drop_more, get_or-append_right, get_or-set_other}
 pub use Rattle.std.proofs.lemmas.List.{get_or-set_same, get_or-take, get_or_past, length-replicate, length-set, length-take}
 pub use Rattle.std.proofs.lemmas.List.{set-get_or, set-set, set_comm, take_all, take_more}
 pub use Rattle.std.proofs.lemmas.List.Elements.{All-cons, All-filter, All-head, All-nil, All-tail, All-take, filter_more}
@@ -34,7 +34,7 @@ pub use Rattle.sharing_runs.proofs.Between.{load_list-at, load_list-long, load_o
 pub use Rattle.sharing_runs.specs.RepairRuns.{IsRepairResult, IsRepairRound, IsRepairRun, IsRepairTurn, at_positions}
 pub use Rattle.sharing_runs.specs.RepairRuns.{holds_overfull, is_overfull, is_overfull_edge, nets_to_repair, repair_scale}
 pub use Rattle.sharing_runs.specs.RepairRuns.{routing_overflow}
-pub use Rattle.tree_set.specs.Loads.{holds, load, load_list, load_on, max_tree_load, net_load, tree_load}
+pub use Rattle.tree_set.specs.Loads.{holds, load, load_list, load_on, max_tree_load, net_load}
 pub use Rattle.tree_set.specs.Measures.{excess, overflow, wirelength}
 pub use Rattle.tree_set.specs.Order.{IsRising}
 pub use Rattle.tree_set.specs.Routings.{ArePieces, IsRoute, IsRouting}

@@ -1,8 +1,8 @@
 -- Routings in which the nets at some positions have other sets.
 use Rattle.std.proofs.Common.{◌≡◌, ℕ, suc, ◌+◌, ◌*◌, ◌≤◌, List, [], ◌∷◌, length, slice_set, refl, ◌∙◌, ap, arith}
-use Rattle.ripup_repair.proofs.Common.{length-set, Piece, At, Grid, NetSpec, IsNetWidth, load_on, max_tree_load}
-use Rattle.ripup_repair.proofs.Common.{IsRising, IsRoute, IsRouting, at_positions, load_on-none, route_pieces, stands}
-use Rattle.ripup_repair.proofs.Common.{load_on-cons, with_elements, AreWithin, at_positions-cons, first_within, rest_within}
+use Rattle.ripup_repair.proofs.Common.{length-set, Piece, At, Grid, NetSpec, IsNetWidth, load_on, max_tree_load, IsRising}
+use Rattle.ripup_repair.proofs.Common.{IsRoute, IsRouting, at_positions, load_on-none, route_pieces, stands, load_on-cons}
+use Rattle.ripup_repair.proofs.Common.{with_elements, AreWithin, at_positions-cons, first_within, rest_within}
 use Rattle.sharing_runs.proofs.Exchanges.{AllZip-set, load_on-set}
 use Rattle.routing_passes.proofs.TreeLimits.{tree_load-within}
 use Rattle.ripup_repair.proofs.Positions.{AreRising, at_positions-elsewhere, none_is_first, rest_rising}

@@ -1,9 +1,9 @@
 -- The overflow of a routing by its loads.
 use Rattle.std.proofs.Common.{◌≡◌, ℕ, ◌≤◌, ◌<◌, List, length, map, get_or, sym, ◌∙◌, ap, subst, arith, All}
 use Rattle.ripup_repair.proofs.Common.{fill_by_all, get_or-map-range_with_len, length-map-range_with_len, sum_by-le, sum}
-use Rattle.ripup_repair.proofs.Common.{range_with_len, zip, cond_both, slice_get-get_or, get_or-zip, length-zip}
-use Rattle.ripup_repair.proofs.Common.{Piece, Design, Grid, NetSpec, capacity, demand_on, edge_numbers, kind, holds, load}
-use Rattle.ripup_repair.proofs.Common.{net_load, excess, overflow}
+use Rattle.ripup_repair.proofs.Common.{range_with_len, zip, cond_both, slice_get-get_or, get_or-zip, length-zip, Piece, Design}
+use Rattle.ripup_repair.proofs.Common.{Grid, NetSpec, capacity, demand_on, edge_numbers, kind, holds, load, net_load, excess}
+use Rattle.ripup_repair.proofs.Common.{overflow}
 use Rattle.grid_graph.specs.Limits.{max_demand}
 use Rattle.edge_prices.proofs.Layers.{layer-below}
 use Rattle.tree_set.specs.Limits.{max_routing_load}

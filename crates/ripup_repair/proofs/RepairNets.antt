@@ -31,11 +31,14 @@ holds_overfull-same g f h (p ∷ ps) pieces same =
     ap (λ b. b || list_any (is_overfull_edge g f) ps) (same_edge g f h p (All-head (IsPiece (size_of g)) p ps pieces) same)
     ∙ ap (λ b. is_overfull_edge g h p || b) (holds_overfull-same g f h ps (All-tail (IsPiece (size_of g)) p ps pieces) same)
 
+-- the net at this position is to be repaired
+abbrev pub is_due : Design → List (List Piece) → ℕ → Bool
+is_due d trees position = holds_overfull d.grid (load d.grid d.nets trees) (slice_index_or trees position [])
+
 -- the positions are those of nets, in rising order, and no more than the nets
 pub repair-within : (d : Design) (trees : List (List Piece)) → AreWithin trees (nets_to_repair d trees)
 repair-within d trees =
-    All-filter (λ position. holds_overfull d.grid (load d.grid d.nets trees) (slice_index_or trees position []))
-    (λ k. k < length trees) (range_with_len 0 (length trees))
+    All-filter (is_due d trees) (λ k. k < length trees) (range_with_len 0 (length trees))
     (λ k e short. omega (
       arith,
       get_or-range_with_len 0 (length trees) k e
@@ -46,8 +49,7 @@ repair-within d trees =
 
 pub repair-rising : (d : Design) (trees : List (List Piece)) → AreRising (nets_to_repair d trees)
 repair-rising d trees =
-    AllPairs-filter (λ k later. k < later) (λ position. holds_overfull d.grid (load d.grid d.nets trees)
-    (slice_index_or trees position [])) (range_with_len 0 (length trees))
+    AllPairs-filter (λ k later. k < later) (is_due d trees) (range_with_len 0 (length trees))
     (λ i j e before short.
     let inside : j < length trees = omega (arith, short, length-range_with_len 0 (length trees)) in
     omega (
@@ -59,6 +61,5 @@ repair-rising d trees =
 
 pub repair-few : (d : Design) (trees : List (List Piece)) → length (nets_to_repair d trees) ≤ length trees
 repair-few d trees =
-    let due : ℕ → Bool = λ position. holds_overfull d.grid (load d.grid d.nets trees) (slice_index_or trees position []) in
     let all : List ℕ = range_with_len 0 (length trees) in
-    omega (arith, length-filter due all, count_by-le-length due all, length-range_with_len 0 (length trees))
+    omega (arith, length-filter (is_due d trees) all, count_by-le-length (is_due d trees) all, length-range_with_len 0 (length trees))

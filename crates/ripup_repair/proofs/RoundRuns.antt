@@ -1,11 +1,11 @@
 -- Rounds of repair, one after another.
 use Rattle.std.proofs.Common.{◌≡◌, ◌≢◌, ℕ, zero, suc, ◌+◌, ◌-◌, ◌≤◌, ◌<◌, List, [], ◌∷◌, ◌++◌, length, min, replicate}
 use Rattle.std.proofs.Common.{slice_index, slice_index_or, Option, refl, sym, ◌∙◌, ap, subst, arith, ⊎_elim}
-use Rattle.ripup_repair.proofs.Common.{fill_by_all, flat_map, range_with_len, cases_lt, append_assoc, append-nil}
-use Rattle.ripup_repair.proofs.Common.{All-nil, All-cons, get_or_from_slice_get, same_Some, slice_get_within, TableId, Piece, At}
-use Rattle.ripup_repair.proofs.Common.{Design, entries, Holding, IsShare, load_list, load_on, IsRouting, load_list-at}
-use Rattle.ripup_repair.proofs.Common.{load_list-long, IsRepairResult, IsRepairRound, IsRepairRun, routing_overflow}
-use Rattle.ripup_repair.proofs.Common.{AreRoundsDone, HasLoadOf, IsRoundDone}
+use Rattle.ripup_repair.proofs.Common.{fill_by_all, flat_map, range_with_len, cases_lt, append_assoc, append-nil, All-nil}
+use Rattle.ripup_repair.proofs.Common.{All-cons, get_or_from_slice_get, same_Some, slice_get_within, TableId, Piece, At, Design}
+use Rattle.ripup_repair.proofs.Common.{entries, Holding, IsShare, load_list, load_on, IsRouting, load_list-at, load_list-long}
+use Rattle.ripup_repair.proofs.Common.{IsRepairResult, IsRepairRound, IsRepairRun, routing_overflow, AreRoundsDone, HasLoadOf}
+use Rattle.ripup_repair.proofs.Common.{IsRoundDone}
 use Rattle.edge_prices.specs.Vectors.{IsLoadList}
 use Rattle.routing_stages.specs.declared.chosen.Chosen.{Chosen}
 use Rattle.routing_stages.specs.declared.routed.Routed.{Routed}
@@ -251,9 +251,7 @@ is_repaired {d = d} {workers = workers} {chosen = chosen} {x = x} r done result 
   rounds = omega (arith, done.count, rounds);
   last = λ ts at.
       let has = done.share ts (subst (λ (k : ℕ). At (chosen.trees ∷ done.later) k ts) rounds at) in
-      subst (λ (t : TableId). IsWholeShare t (load_list d.grid d.nets ts) r.share) (sym table)
-      (subst (λ (h : Holding). IsWholeShare chosen.table (load_list d.grid d.nets ts) h) (sym share)
-      (whole_share d chosen.table ts x.share has valid (ap (λ (t : TableId). t.words) has.of_table ∙ words)));
+      rw (table, share) (whole_share d chosen.table ts x.share has valid (ap (λ (t : TableId). t.words) has.of_table ∙ words));
   history = ap (λ (h : Holding). h.party.history) share
       ∙ done.history
       ∙ ap (λ k. chosen.share.party.history ++ repair_history d workers (chosen.trees ∷ done.later) done.run.read k) (sym rounds);

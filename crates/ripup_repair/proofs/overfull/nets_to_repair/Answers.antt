@@ -3,7 +3,7 @@ use Rattle.std.proofs.Common.{subst, arith, below_more}
 use Rattle.ripup_repair.proofs.Common.{filter, range_with_len, take_all, filter_more, get_or-range_with_len}
 use Rattle.ripup_repair.proofs.Common.{length-range_with_len, get_or_from_slice_get, AllZip-long, Piece, At, size_of, share_at}
 use Rattle.ripup_repair.proofs.Common.{load, IsRising, ArePieces, IsRoute, At-read, holds_overfull, routing_pieces, Grid}
-use Rattle.ripup_repair.proofs.RepairNets.{holds_overfull-same, load_on-edge}
+use Rattle.ripup_repair.proofs.RepairNets.{holds_overfull-same, is_due, load_on-edge}
 use Rattle.ripup_repair.proofs.overfull.nets_to_repair.Goals as goal
 
 pub holds_overfull-due-requires-clause-pieces : goal.holds_overfull-due-requires-clause-pieces
@@ -30,7 +30,7 @@ loop-position-preserved c =
     let short : k < length trees = c.loop-position-test.true in
     let tree : List Piece = c.index-trees-position.result in
     let all : List ℕ = range_with_len 0 (length trees) in
-    let test : ℕ → Bool = λ position. holds_overfull d.grid (load d.grid d.nets trees) (slice_index_or trees position []) in
+    let test : ℕ → Bool = is_due d trees in
     let at : At trees k tree = At-read trees k tree c.index-trees-position.is short in
     let due : c.holds_overfull-due.result ≡ test k =
     c.holds_overfull-due.ensures.overfull
@@ -52,9 +52,7 @@ loop-position-preserved c =
 
 pub returns-clause-positions : goal.returns-clause-positions
 returns-clause-positions c =
-    let d = c.args.design.now in
-    let trees : List (List Piece) = c.args.trees.now in
+    let all : List ℕ = range_with_len 0 (length c.args.trees.now) in
     c.loop-position.invariant.found
-    ∙ ap (filter (λ position. holds_overfull d.grid (load d.grid d.nets trees) (slice_index_or trees position [])))
-    (take_all c.loop-position.position (range_with_len 0 (length trees)) (omega
-    (arith, c.loop-position-test.false, length-range_with_len 0 (length trees))))
+    ∙ ap (filter (is_due c.args.design.now c.args.trees.now)) (take_all c.loop-position.position all (omega
+    (arith, c.loop-position-test.false, length-range_with_len 0 (length c.args.trees.now))))
