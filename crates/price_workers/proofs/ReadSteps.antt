@@ -1,14 +1,12 @@
 -- A reading, word by word.
-use Rattle.std.proofs.Common.{◌≡◌, ℕ, ◌+◌, ◌<◌, ◌≤◌, List, [], ◌∷◌, ◌++◌, length, map, slice_index, slice_set, refl, sym, ◌∙◌, ap, subst, ⊎_elim, arith}
-use Rattle.std.specs.List.{range_with_len}
-use Rattle.std.proofs.lemmas.Bool.{cases_eq, cases_lt}
-use Rattle.std.proofs.lemmas.List.{get_or-set_same, get_or-set_other, get_or_past, ext_get_or, append-nil, append_assoc}
-use Rattle.std.proofs.lemmas.List.FromFn.{fill_by_all, get_or-map-range_with_len, length-map-range_with_len, map-range_with_len_more}
+use Rattle.std.proofs.Common.{◌≡◌, ℕ, ◌+◌, ◌<◌, ◌≤◌, List, [], ◌∷◌, ◌++◌, length, map, slice_index, slice_set, refl, sym, ◌∙◌, ap}
+use Rattle.std.proofs.Common.{subst, ⊎_elim, arith, below_more}
+use Rattle.price_workers.proofs.Common.{range_with_len, cases_lt, get_or-set_same, get_or-set_other, get_or_past, ext_get_or}
+use Rattle.price_workers.proofs.Common.{append-nil, append_assoc, fill_by_all, get_or-map-range_with_len}
+use Rattle.price_workers.proofs.Common.{length-map-range_with_len, map-range_with_len_more, Party, entry, loaded, share_at}
+use Rattle.price_workers.proofs.Common.{after_reading, AreCloseTo}
 use Rattle.load_core.specs.declared.loaded.Loaded.{Loaded}
-use Rattle.load_core.specs.declared.party.Party.{Party}
-use Rattle.load_core.specs.Parties.{entry, loaded, share_at}
 use Rattle.load_core.specs.Soundness.{IsCloseTo}
-use Rattle.price_workers.specs.Readings.{after_reading, AreCloseTo}
 
 -- the loads of the first k words, where these values were found
 abbrev pub first_loads : List ℕ → ℕ → List Loaded
@@ -38,13 +36,6 @@ first_loads-same values others k same =
     fill_by_all (λ word. entry word (slice_index others word)) (first_loads values k) k d (length-map-range_with_len f 0 k)
     (λ w early. get_or-map-range_with_len f 0 k w w d early (omega arith) ∙ ap (λ (n : ℕ). entry w n) (sym (same w early)))
 
--- what is close to a party's shares stays so where other parts of the party change
-near_start : (start : Party) (last : List ℕ) (history : List Loaded) (w n : ℕ) → IsCloseTo (record start { last = last; history = history }) w n → IsCloseTo start w n
-near_start start last history w n close = record { least = close.least; most = close.most }
-
-near_end : (start : Party) (last : List ℕ) (history : List Loaded) (w n : ℕ) → IsCloseTo start w n → IsCloseTo (record start { last = last; history = history }) w n
-near_end start last history w n close = record { least = close.least; most = close.most }
-
 -- one word more
 pub IsReadUpTo-more : (start p : Party) (values others : List ℕ) (k : ℕ) → IsReadUpTo start p values k → k < length p.last
     → IsCloseTo p k (slice_index others k)
@@ -52,29 +43,21 @@ pub IsReadUpTo-more : (start p : Party) (values others : List ℕ) (k : ℕ) →
     → IsReadUpTo start (loaded p k (slice_index others k)) others (k + 1)
 IsReadUpTo-more start p values others k before within close same =
     let n : ℕ = slice_index others k in
-    let f : ℕ → Loaded = λ word. entry word (slice_index others word) in
     let early : (w : ℕ) → w < k → slice_index others w ≡ slice_index values w = λ w low. same w (λ at. omega (arith, low, at)) in
     let last : List ℕ = slice_set p.last k n in
     let history : List Loaded = p.history ++ entry k n ∷ [] in
+    let here = subst (λ (q : Party). IsCloseTo q k n) before.only close in
     record {
       only = ap (λ (q : Party). record q { last = last; history = history }) before.only;
       loads = ap (λ (h : List Loaded). h ++ entry k n ∷ []) before.loads
           ∙ ap (λ (h : List Loaded). (start.history ++ h) ++ entry k n ∷ []) (first_loads-same values others k early)
           ∙ append_assoc start.history (first_loads others k) (entry k n ∷ [])
-          ∙ ap (λ (h : List Loaded). start.history ++ h) (sym (map-range_with_len_more f 0 k k (omega arith)));
-      found = λ w low. ⊎_elim
-          (λ (here : k ≡ w). subst (λ (y : ℕ). slice_index last y ≡ slice_index others y) here (get_or-set_same p.last k n 0 within))
-          (λ (other : k ≡ w → ⊥).
-          let less : w < k = omega (arith, low, other) in
-          get_or-set_other p.last k w n 0 (λ at. other (sym at)) ∙ before.found w less ∙ sym (early w less))
-          (cases_eq k w);
-      near = λ w low. ⊎_elim
-          (λ (here : k ≡ w). subst (λ (y : ℕ). IsCloseTo start y (slice_index others y)) here
-          (near_start start p.last p.history k n (subst (λ (q : Party). IsCloseTo q k n) before.only close)))
-          (λ (other : k ≡ w → ⊥).
-          let less : w < k = omega (arith, low, other) in
-          subst (λ (y : ℕ). IsCloseTo start w y) (sym (early w less)) (before.near w less))
-          (cases_eq k w);
+          ∙ ap (λ (h : List Loaded). start.history ++ h) (sym (map-range_with_len_more (λ w. entry w (slice_index others w)) 0 k k (omega arith)));
+      found = below_more (λ w. slice_index last w ≡ slice_index others w) k
+          (λ w low. get_or-set_other p.last k w n 0 (λ at. omega (arith, low, at)) ∙ before.found w low ∙ sym (early w low))
+          (get_or-set_same p.last k n 0 within);
+      near = below_more (λ w. IsCloseTo start w (slice_index others w)) k (λ w low. rw (early w low) (before.near w low))
+          (record { least = here.least; most = here.most });
     }
 
 -- all words were loaded
@@ -90,8 +73,9 @@ pub close_to_all : (start p : Party) (values : List ℕ) → IsReadUpTo start p 
 close_to_all start p values read long word =
     ⊎_elim
     (λ (within : word < length values).
+    let near = read.near word within in
     subst (λ (q : Party). IsCloseTo q word (slice_index values word)) (sym read.only)
-    (near_end start p.last p.history word (slice_index values word) (read.near word within)))
+    (record { least = near.least; most = near.most }))
     (λ (beyond : length values ≤ word).
     let none : slice_index values word ≡ 0 = get_or_past values word 0 beyond in
     let empty : share_at word p ≡ 0 = get_or_past p.shares word 0 (omega (arith, beyond, long)) in

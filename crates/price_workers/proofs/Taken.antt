@@ -2,12 +2,12 @@
 use Rattle.std.proofs.Common.{◌≡◌, ℕ, ◌+◌, ◌-◌, ◌<◌, ◌≤◌, ◌≢◌, Bool, cond, List, length, get_or, map, take, slice_index}
 use Rattle.std.proofs.Common.{slice_set, refl, sym, ◌∙◌, ap, subst, ⊎_elim, arith, eq-eqb, ne_eqb}
 use Rattle.std.proofs.lemmas.List.Folds.{list_any_at}
-use Rattle.std.proofs.lemmas.List.FromFn.{fill_by_all, get_or-map-range_with_len, length-map-range_with_len}
-use Rattle.price_workers.proofs.Common.{cases_eq, cases_lt, cond_both, holds, is_edge_of, max_tree_load, net_load, tree_load}
-use Rattle.price_workers.proofs.Common.{range_with_len, get_or-set_same, get_or-set_other, get_or_past, length-set, ext_get_or}
-use Rattle.price_workers.proofs.Common.{take_all, Piece, Grid, demand_on, edge_numbers, entries, size_of, ArePieces, IsCounted}
-use Rattle.price_workers.proofs.Common.{IsCounted-edge, edge_number, net_load-beyond, tree_load-added, GainsTree, without_tree}
-use Rattle.price_workers.proofs.Common.{max_demand, IsRising}
+use Rattle.price_workers.proofs.Common.{fill_by_all, get_or-map-range_with_len, length-map-range_with_len, cases_eq, cases_lt}
+use Rattle.price_workers.proofs.Common.{cond_both, holds, is_edge_of, max_tree_load, net_load, tree_load, range_with_len}
+use Rattle.price_workers.proofs.Common.{get_or-set_same, get_or-set_other, get_or_past, length-set, ext_get_or, take_all, Piece}
+use Rattle.price_workers.proofs.Common.{Grid, demand_on, edge_numbers, entries, size_of, ArePieces, IsCounted, IsCounted-edge}
+use Rattle.price_workers.proofs.Common.{edge_number, net_load-beyond, tree_load-added, GainsTree, without_tree, max_demand}
+use Rattle.price_workers.proofs.Common.{IsRising}
 use Rattle.grid_base.specs.declared.edge.Edge.{Edge as EdgeNumber}
 use Rattle.grid_base.specs.declared.piece.Piece.TheVariants.{Edge}
 use Rattle.tree_set.proofs.Counting.{length-pieces}

@@ -1,13 +1,10 @@
 -- What a turn leaves of a worker's share and of what it sees.
-use Rattle.std.proofs.Common.{◌≡◌, ℕ, ◌+◌, ◌-◌, ◌<◌, Bool, List, [], ◌∷◌, length, get_or, slice_index, sym, ◌∙◌, ap, subst}
-use Rattle.std.proofs.Common.{arith}
+use Rattle.std.proofs.Common.{◌≡◌, ℕ, ◌+◌, ◌-◌, ◌<◌, Bool, List, [], ◌∷◌, length, get_or, slice_index, sym, ◌∙◌, ap, subst, arith}
 use Rattle.price_workers.proofs.Common.{Piece, At, Grid, NetSpec, size_of, entries, grid_of, loads_of, KeepsSetting, Holding}
 use Rattle.price_workers.proofs.Common.{IsShare, held, slice_get-get_or, tree_load, ArePieces, IsRoute, GainsTree, without_tree}
-use Rattle.price_workers.proofs.Common.{DiffersInShares, TableId, IsStepAt, AreCloseTo}
+use Rattle.price_workers.proofs.Common.{DiffersInShares, TableId, IsStepAt, AreCloseTo, Party, share_at}
 use Rattle.edge_prices.specs.declared.kept_prices.KeptPrices.{KeptPrices}
 use Rattle.grid_graph.proofs.Allowed.{Allows-IsPiece}
-use Rattle.load_core.specs.declared.party.Party.{Party}
-use Rattle.load_core.specs.Parties.{share_at}
 use Rattle.steiner_exact.specs.declared.tree_labels.TreeLabels.{TreeLabels}
 use Rattle.steiner_exact.specs.TreeLabelWords.{AreTreeLabels}
 use Rattle.price_workers.specs.Working.{IsWorking}

@@ -1,14 +1,7 @@
 use Rattle.std.proofs.Common.{◌≡◌, ◌<◌, ℕ, length, sym, ◌∙◌, ap, subst, arith, slice_index}
-use Rattle.std.proofs.lemmas.List.{length-set}
-use Rattle.atomic_table.specs.Seated.{TableId}
-use Rattle.grid_base.specs.declared.size.Size.{Size}
+use Rattle.price_workers.proofs.Common.{length-set, TableId, Size, size_of, entries, loads_of, loaded, Holding, IsShare, held}
+use Rattle.price_workers.proofs.Common.{KeepsSetting-trans, after_reading}
 use Rattle.grid_base.specs.Numbers.{vertices}
-use Rattle.grid_graph.specs.Grids.{size_of, entries}
-use Rattle.edge_prices.specs.KeptLists.{loads_of}
-use Rattle.load_core.specs.Parties.{loaded}
-use Rattle.load_table.specs.Holdings.{Holding, IsShare, held}
-use Rattle.sharing_runs.proofs.Kept.{KeepsSetting-trans}
-use Rattle.price_workers.specs.Readings.{after_reading}
 use Rattle.price_workers.proofs.ReadSteps.{IsReadUpTo, IsReadUpTo-more, after_all_words}
 use Rattle.price_workers.proofs.TurnFacts.{same_share}
 use Rattle.price_workers.proofs.reading.read_all.Goals as goal

@@ -1,6 +1,5 @@
 use Rattle.std.proofs.Common.{◌≡◌, ◌<◌}
-use Rattle.edge_prices.specs.KeptLists.{loads_of, KeepsSetting}
-use Rattle.load_table.specs.Holdings.{IsShare}
+use Rattle.price_workers.proofs.Common.{loads_of, KeepsSetting, IsShare}
 use Rattle.price_workers.proofs.ReadSteps.{IsReadUpTo}
 use Rattle.price_workers.proofs.reading.read_all.Given as goal
 
