@@ -52,7 +52,8 @@ IsReadUpTo-more start p values others k before within close same =
       loads = ap (λ (h : List Loaded). h ++ entry k n ∷ []) before.loads
           ∙ ap (λ (h : List Loaded). (start.history ++ h) ++ entry k n ∷ []) (first_loads-same values others k early)
           ∙ append_assoc start.history (first_loads others k) (entry k n ∷ [])
-          ∙ ap (λ (h : List Loaded). start.history ++ h) (sym (map-range_with_len_more (λ w. entry w (slice_index others w)) 0 k k (omega arith)));
+          ∙ ap (λ (h : List Loaded). start.history ++ h)
+          (sym (map-range_with_len_more (λ w. entry w (slice_index others w)) 0 k k (omega arith)));
       found = below_more (λ w. slice_index last w ≡ slice_index others w) k
           (λ w low. get_or-set_other p.last k w n 0 (λ at. omega (arith, low, at)) ∙ before.found w low ∙ sym (early w low))
           (get_or-set_same p.last k n 0 within);

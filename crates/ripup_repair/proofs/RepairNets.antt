@@ -62,4 +62,5 @@ repair-rising d trees =
 pub repair-few : (d : Design) (trees : List (List Piece)) → length (nets_to_repair d trees) ≤ length trees
 repair-few d trees =
     let all : List ℕ = range_with_len 0 (length trees) in
-    omega (arith, length-filter (is_due d trees) all, count_by-le-length (is_due d trees) all, length-range_with_len 0 (length trees))
+    let due : ℕ → Bool = is_due d trees in
+    omega (arith, length-filter due all, count_by-le-length due all, length-range_with_len 0 (length trees))

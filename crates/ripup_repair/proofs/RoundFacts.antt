@@ -2,7 +2,7 @@
 use Rattle.std.proofs.Common.{◌≡◌, ℕ, ◌+◌, ◌-◌, ◌≤◌, ◌<◌, List, [], ◌++◌, length, replicate, take, drop, get_or, slice_range, All}
 use Rattle.std.proofs.Common.{sym, ◌∙◌, ap, subst, arith, ⊎_elim}
 use Rattle.ripup_repair.proofs.Common.{take-append_seam, cases_lt, get_or_past, length-replicate, All-nil, get_or_from_slice_get}
-use Rattle.ripup_repair.proofs.Common.{slice_get-get_or, slice_get_within, AllZip-long, Piece, Design, Grid, entries, Holding}
+use Rattle.ripup_repair.proofs.Common.{slice_get-get_or, slice_get_within, AllZip-long, Piece, Design, entries, Holding}
 use Rattle.ripup_repair.proofs.Common.{load_on, IsRising, IsRoute, IsRouting, IsRepairTurn, nets_to_repair, repair_scale}
 use Rattle.ripup_repair.proofs.Common.{load_between-here, no_load, with_elements, IsPass, Pass, ServesTurns, AreSets, old_load}
 use Rattle.ripup_repair.proofs.Common.{old_sets, pass_nets, positions_load, turns_start, HasLoadOf, IsRoundDone, AreWithin}
@@ -15,7 +15,7 @@ use Rattle.routing_passes.specs.Histories.{parts_history}
 use Rattle.even_parts.proofs.PartStarts.{all_parts, first_start, last_start}
 use Rattle.routing_passes.proofs.Parts.{find_part}
 use Rattle.routing_stages.specs.Phases.{phases_load}
-use Rattle.routing_passes.specs.PassTurns.{HadTurns, IsPassTurn, new_load, start_of}
+use Rattle.routing_passes.specs.PassTurns.{HadTurns, IsPassTurn, start_of}
 use Rattle.ripup_repair.proofs.Exchanges.{load_on-with, load_on-within, routing-with}
 use Rattle.ripup_repair.proofs.RepairNets.{repair-few, repair-rising, repair-within}
 use Rattle.ripup_repair.proofs.Positions.{AreRising, at_positions-with, with_elements-long, with_elements-other}
@@ -25,16 +25,15 @@ use Rattle.routing_passes.proofs.PassSplits.{turns_start-le}
 pub load_on-part : (p : Pass) (r : ℕ) → IsPass p → AreRising p.positions
     → load_on p.design.grid (pass_nets p) (old_sets p) r ≤ load_on p.design.grid p.design.nets p.before r
 load_on-part p r round rising =
-    let g : Grid = p.design.grid in
     let none : List (List Piece) = replicate (length p.positions) [] in
-    let even : length none ≡ length p.positions = length-replicate (length p.positions) [] in
     omega (
       arith,
-      load_on-with g p.design.nets p.before p.positions none r round.before.long round.nets rising even,
-      no_load g (pass_nets p) (length p.positions) r,
+      load_on-with p.design.grid p.design.nets p.before p.positions none r round.before.long round.nets rising
+          (length-replicate (length p.positions) []),
+      no_load p.design.grid (pass_nets p) (length p.positions) r,
     )
 
--- the old sets of all turns, and the new ones
+-- the load of the old sets of all turns
 old_whole : (p : Pass) (r : ℕ) → IsPass p
     → old_load p (turns_start p 0) (turns_start p p.workers) r ≡ load_on p.design.grid (pass_nets p) (old_sets p) r
 old_whole p r round =
@@ -44,11 +43,6 @@ old_whole p r round =
     load_between-here p.design.grid (pass_nets p) (old_sets p) (old_sets p) (turns_start p 0) (turns_start p p.workers) r
     (all_parts p.workers n (old_sets p) round.some long)
     ∙ ap (λ k. load_on p.design.grid (drop k (pass_nets p)) (old_sets p) r) (first_start p.workers n)
-
-new_whole : (p : Pass) (sets : List (List Piece)) (r : ℕ)
-    → new_load p (turns_start p 0) sets r ≡ load_on p.design.grid (pass_nets p) sets r
-new_whole p sets r = ap (λ k. load_on p.design.grid (drop k (pass_nets p)) sets r)
-    (first_start p.workers (length (pass_nets p)))
 
 -- a pass that is a round: no other sets are in the table, and the nets that are to be repaired get new ones, at prices of the
 -- scale of repair
@@ -205,7 +199,7 @@ round_done {p = p} {old = old} {new = new} {sets = sets} pass its routed has had
           had.shares r,
           has.loads r within,
           old_whole p r pass,
-          new_whole p sets r,
+          ap (λ k. load_on d.grid (drop k (pass_nets p)) sets r) first,
           load_on-with d.grid d.nets before ks sets r pass.before.long pass.nets (round_rising p its) even,
         );
       };

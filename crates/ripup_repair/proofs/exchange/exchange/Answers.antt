@@ -40,8 +40,12 @@ loop-i-preserved c =
           (rw (with_elements-push trees (take i ks) (take i sets) k y even)
           (ap (λ l. slice_set l k c.swap.new.x) c.loop-i.invariant.trees
           ∙ ap (slice_set (with_elements trees (take i ks) (take i sets)) k) read));
-      sets = rw (take_more ks i 0 short, at_positions-push trees (take i ks) k t
-          (slice_get-get_or trees k c.index-trees-positions.result in_trees), append_assoc)
+      sets = rw (
+        take_more ks i 0 short,
+        at_positions-push trees (take i ks) k t
+            (slice_get-get_or trees k c.index-trees-positions.result in_trees),
+        append_assoc,
+      )
           (ap (λ l. slice_set l i c.swap.new.y) now
           ∙ ap (λ n. slice_set (so_far ++ y ∷ drop (i + 1) sets) n c.swap.new.y) (sym long)
           ∙ set-append_seam so_far y (drop (i + 1) sets) c.swap.new.y
