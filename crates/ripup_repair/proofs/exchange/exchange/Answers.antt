@@ -35,17 +35,13 @@ loop-i-preserved c =
     ∙ ap (λ l. get_or l k c.index-trees-positions.result) c.loop-i.invariant.trees
     ∙ with_elements-other trees (take i ks) (take i sets) k c.index-trees-positions.result
     (earlier_apart ks i c.requires.rising short) in
+    let more = at_positions-push trees (take i ks) k t (slice_get-get_or trees k c.index-trees-positions.result in_trees) in
     record {
       trees = rw (take_more ks i 0 short, take_more sets i c.index-sets-i.result in_sets)
           (rw (with_elements-push trees (take i ks) (take i sets) k y even)
           (ap (λ l. slice_set l k c.swap.new.x) c.loop-i.invariant.trees
           ∙ ap (slice_set (with_elements trees (take i ks) (take i sets)) k) read));
-      sets = rw (
-        take_more ks i 0 short,
-        at_positions-push trees (take i ks) k t
-            (slice_get-get_or trees k c.index-trees-positions.result in_trees),
-        append_assoc,
-      )
+      sets = rw (take_more ks i 0 short, more, append_assoc)
           (ap (λ l. slice_set l i c.swap.new.y) now
           ∙ ap (λ n. slice_set (so_far ++ y ∷ drop (i + 1) sets) n c.swap.new.y) (sym long)
           ∙ set-append_seam so_far y (drop (i + 1) sets) c.swap.new.y

@@ -1,5 +1,5 @@
-use Rattle.std.proofs.Common.{◌≡◌, ◌≢◌, ◌<◌, ◌-◌, ℕ, List, ◌∙◌, ap, subst, arith}
-use Rattle.ripup_repair.proofs.Common.{le-ltb, lt-ltb, Piece, routing_overflow, with_elements, AreRoundsDone}
+use Rattle.std.proofs.Common.{◌≡◌, ◌≢◌, ◌<◌, List, ◌∙◌, ap, arith}
+use Rattle.ripup_repair.proofs.Common.{le-ltb, lt-ltb, Piece, routing_overflow, with_elements}
 use Rattle.ripup_repair.proofs.RoundRuns.{more_done, none_done}
 use Rattle.ripup_repair.proofs.rounds.+repair_rounds.Goals.{then-left-eq0-via-then-left-eq0}
 use Rattle.ripup_repair.proofs.rounds.+repair_rounds.Goals.{then-left-eq0-via-else-left-eq0+then-left-eq0-2}
@@ -25,12 +25,7 @@ returns g t c =
     let round = c.in_ok-share.ensures in
     let later = c.in_ok-later.later in
     let read = c.in_ok-overflow.ensures.overflow c.args.table.now after round.done.share in
-    let done = subst (λ (m : ℕ). AreRoundsDone c.args.design.now (record left {
-      rounds = left.rounds - 1;
-      overflow = c.in_ok-overflow.overflow;
-      least = m;
-    }) c.args.table.now c.in_ok-share.share after c.repair_rounds.new.trees
-    c.keep_if_less.new.loads.items c.repair_rounds.new.loads.items later) c.min.ensures c.in_ok-later.ensures.done in
+    let done = rw c.min.ensures at c.in_ok-later.ensures.done in
     let back : later.least ≡ left.least → c.put_back_unless.new.trees ≡ c.args.trees.now =
     λ equal.
     c.put_back_unless.ensures.back (le-ltb later.least left.least (omega (arith, equal)))
