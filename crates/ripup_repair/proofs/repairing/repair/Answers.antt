@@ -1,8 +1,8 @@
-use Rattle.std.proofs.Common.{◌≡◌, ℕ, List, length, refl, sym, ◌∙◌, ap, subst, arith}
-use Rattle.ripup_repair.proofs.Common.{size_of, Piece, vertices, load_list, load_list-long, routing_overflow, AreRoundsDone}
+use Rattle.std.proofs.Common.{◌≡◌, ℕ, List, length, refl, sym, ◌∙◌, ap, arith}
+use Rattle.ripup_repair.proofs.Common.{Piece, vertices, load_list, load_list-long, routing_overflow}
 use Rattle.routing_stages.specs.Settings.{workers_in_use}
 use Rattle.ripup_repair.proofs.RoundFacts.{written_over}
-use Rattle.ripup_repair.proofs.RoundRuns.{from_chosen, is_repaired, is_result, whole_load, whole_words}
+use Rattle.ripup_repair.proofs.RoundRuns.{is_repaired, is_result, whole_load, whole_words}
 use Rattle.ripup_repair.proofs.repairing.repair.Goals as goal
 
 pub overflow_of-rounded-requires-clause-long : goal.overflow_of-rounded-requires-clause-long
@@ -31,12 +31,8 @@ returns g c =
     let over : ℕ = c.overflow_of-rounded.result in
     let after : List (List Piece) = c.repair_rounds.new.trees in
     let loads : List ℕ = c.repair_rounds.new.loads.items in
-    let in_use : ℕ = workers_in_use s.workers (vertices (size_of d.grid)) in
-    let workers : c.workers_in_use-workers.result ≡ in_use =
-    c.workers_in_use-workers.ensures.value ∙ ap (λ z. workers_in_use s.workers (vertices z)) c.size.ensures in
-    let done = subst (λ (ts : List (List Piece)). AreRoundsDone d (from_chosen in_use s over) chosen.table chosen.share ts after
-    chosen.loads.items loads c.in_ok-done.done) (c.deref_mut.ensures.value ∙ c.into_list-list.ensures)
-    (rw (← workers) c.in_ok-done.ensures.done) in
+    let workers = c.workers_in_use-workers.ensures.value ∙ ap (λ z. workers_in_use s.workers (vertices z)) c.size.ensures in
+    let done = rw (workers, c.deref_mut.ensures.value ∙ c.into_list-list.ensures) at c.in_ok-done.ensures.done in
     let now : c.of.result ≡ after =
     c.of.ensures ∙ written_over c.into_list-list.result.len after c.into_list-list.result.items
     (omega (arith, c.repair_rounds.auto.trees, c.deref_mut.ensures.len)) in
