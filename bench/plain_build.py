@@ -16,6 +16,7 @@ import shutil
 HERE = os.path.dirname(os.path.abspath(__file__))
 # crates that stand in for what the toolchain offers, by the names that the sources have for them
 STAND_INS = ('plain_std', 'rayon', 'rand_core', 'rand_chacha', 'itoa', 'atomic_table', 'clap')
+PROGRAMS = ('grouter', 'reroute', 'unavoidable', 'congestion_map')
 PRELUDE = '#[allow(unused_imports)]\nuse std::prelude::*;\n'
 ALLOWED = '#![no_std]\n#![allow(warnings)]\nextern crate plain_std as std;\n'
 PROFILE = """
@@ -213,7 +214,8 @@ def main():
         write_crate(asked.checkout, asked.folder, name, below)
     copy_tree(os.path.join(HERE, 'plain_std'), os.path.join(asked.folder, 'stand_ins'))
     copy_tree(os.path.join(HERE, 'plain_programs'), os.path.join(asked.folder, 'programs'))
-    write(os.path.join(asked.folder, 'Cargo.toml'), '[workspace]\nresolver = "3"\nmembers = ["programs"]\n' + PROFILE)
+    members = ', '.join(f'"{member}"' for member in ['programs'] + [f'crates/{program}' for program in PROGRAMS])
+    write(os.path.join(asked.folder, 'Cargo.toml'), f'[workspace]\nresolver = "3"\nmembers = [{members}]\n{PROFILE}')
 
 
 if __name__ == '__main__':

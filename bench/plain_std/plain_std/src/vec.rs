@@ -156,6 +156,12 @@ impl<T> Vec<T> {
     }
 
     #[inline(always)]
+    pub fn extend<I: IntoIterator<Item = T>>(&mut self, values: I) -> Result<(), AllocError> {
+        self.0.extend(values);
+        Ok(())
+    }
+
+    #[inline(always)]
     pub fn retain<F: FnMut(&T) -> bool>(&mut self, keeps: F) {
         self.0.retain(keeps)
     }

@@ -1,0 +1,115 @@
+#!/usr/bin/env python3
+"""Tells where the processor time of plain_route goes, by samples of `perf`.
+
+    bench/plain_profile.py CHECKOUT FOLDER DESIGN [WORD ..]
+
+Writes the plain sources of CHECKOUT to FOLDER as bench/plain_build.py does, keeps the functions named below out of line, builds
+and runs `plain_route DESIGN WORD ..` by one thread, and prints for each stage which share of the samples lies in each function,
+with what it calls. A function inside another one that is named is printed below it.
+"""
+import argparse
+import collections
+import os
+import re
+import subprocess
+
+HERE = os.path.dirname(os.path.abspath(__file__))
+STAGES = ('read_grounded', 'share', 'repair', 'bound')
+# by crate and file, the functions that are told apart
+NAMED = {
+    'command_runs/sources': ['read_grounded'],
+    'sharing_phases/sharing': ['share'],
+    'ripup_repair/repairing': ['repair'],
+    'dual_bound/design_bound': ['bound'],
+    'price_workers/reading': ['read_all'],
+    'price_workers/loads': ['put_tree', 'take_tree'],
+    'edge_prices/kept_prices': ['renew'],
+    'steiner_exact/least_path': ['least_path'],
+    'steiner_exact/trees': ['least_of_several', 'least_weight', 'least_by_boxes'],
+    'steiner_exact/guess': ['tree_guess'],
+    'steiner_exact/root_search': ['least_at_root'],
+    'steiner_exact/reading': ['read_tree'],
+    'steiner_span/spanning': ['spanning_tree'],
+    'steiner_span/grow': ['grow_tree'],
+    'steiner_span/way_back': ['way_back'],
+    'lower_bound/class_bounds': ['least_cost', 'sum_of_halves', 'bound_of_many'],
+    'lower_bound/class_costs': ['new', 'renew'],
+    'lower_bound/raised_search': ['least_raised'],
+    'lower_bound/halves': ['sum_of_halves'],
+    'lower_bound/kept_halves': ['sum_of_kept_halves'],
+    'lower_bound/spread': ['choose'],
+    'dual_bound/class_order': ['nets_by_class'],
+}
+
+
+def keep_out_of_line(folder):
+    for place, functions in NAMED.items():
+        crate, file = place.split('/')
+        path = os.path.join(folder, 'crates', crate, 'src', f'{file}.rs')
+        text = open(path).read()
+        for function in functions:
+            text = re.sub(rf'^( *)((?:pub(?:\(crate\))? )?fn {function}\b)', r'\1#[inline(never)]\n\1\2', text, flags=re.M)
+        with open(path, 'w') as out:
+            out.write(text)
+
+
+def label(symbol):
+    """The named function that a symbol is, or None."""
+    found = re.search(r'(\w+)::(\w+)(?:::<impl .*?>|::<.*?>|::\w+)*::(\w+)(?:::<.*>)?$', symbol) or re.search(r'(\w+)::(\w+)::(\w+)', symbol)
+    plain = re.sub(r'<[^<>]*>', '', re.sub(r'<[^<>]*>', '', re.sub(r'<[^<>]*>', '', symbol)))
+    function = [part for part in plain.split('::') if part][-1] if plain else ''
+    for place, functions in NAMED.items():
+        crate, file = place.split('/')
+        if function in functions and f'{crate}::{file}' in symbol:
+            return f'{crate}::{function}'
+    return None
+
+
+def count_samples(script):
+    totals = collections.Counter()
+    for sample in script.split('\n\n'):
+        symbols = [re.sub(r'^\s*[0-9a-f]+ (.*?)(\+0x[0-9a-f]+)? \(.*$', r'\1', line) for line in sample.splitlines()[1:]]
+        path = []
+        for symbol in reversed(symbols):
+            name = label(symbol)
+            if name and name not in path:
+                path.append(name)
+        if symbols:
+            for end in range(len(path) + 1):
+                totals[tuple(path[:end])] += 1
+    return totals
+
+
+def show(totals, path=(), depth=0):
+    below = sorted((found for found in totals if len(found) == len(path) + 1 and found[:len(path)] == path), key=lambda found: -totals[found])
+    for found in below:
+        print(f'{100 * totals[found] / totals[()]:6.1f} %  {"    " * depth}{found[-1]}')
+        show(totals, found, depth + 1)
+    rest = totals[path] - sum(totals[found] for found in below)
+    if below and rest * 1000 > totals[()]:
+        print(f'{100 * rest / totals[()]:6.1f} %  {"    " * depth}else')
+
+
+def main():
+    words = argparse.ArgumentParser(description=__doc__, formatter_class=argparse.RawDescriptionHelpFormatter)
+    words.add_argument('checkout')
+    words.add_argument('folder')
+    words.add_argument('design')
+    words.add_argument('words', nargs=argparse.REMAINDER)
+    asked = words.parse_args()
+    subprocess.run([os.path.join(HERE, 'plain_build.py'), asked.checkout, asked.folder], check=True)
+    keep_out_of_line(asked.folder)
+    flags = {'RUSTFLAGS': '-C force-frame-pointers=yes', 'PLAIN_THREADS': '1'}
+    subprocess.run(['cargo', 'build', '-q', '--release', '--offline'], cwd=asked.folder, check=True, env=os.environ | flags)
+    data = os.path.join(asked.folder, 'perf.data')
+    program = os.path.join(asked.folder, 'target', 'release', 'plain_route')
+    run = ['perf', 'record', '-q', '-F', '199', '--call-graph', 'fp', '-o', data, program, asked.design, '--timing', *asked.words]
+    subprocess.run(run, check=True, env=os.environ | flags)
+    script = subprocess.run(['perf', 'script', '-i', data, '-F', 'comm,ip,sym,dso'], check=True, capture_output=True, text=True).stdout
+    totals = count_samples(script)
+    print(f'{totals[()]} samples')
+    show(totals)
+
+
+if __name__ == '__main__':
+    main()
