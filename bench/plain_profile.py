@@ -14,7 +14,8 @@ import re
 import subprocess
 
 HERE = os.path.dirname(os.path.abspath(__file__))
-STAGES = ('read_grounded', 'share', 'repair', 'bound')
+# what a function may be for, by its types, the first of which counts
+KINDS = {'RowFamily': 'on the grid', 'FlatWeights': 'between tiles', 'TileCosts': 'between tiles of a class'}
 # by crate and file, the functions that are told apart
 NAMED = {
     'command_runs/sources': ['read_grounded'],
@@ -29,11 +30,11 @@ NAMED = {
     'steiner_exact/guess': ['tree_guess'],
     'steiner_exact/root_search': ['least_at_root'],
     'steiner_exact/reading': ['read_tree'],
+    'shortest_paths/labels': ['pruned', 'distance_between', 'path_to', 'distance_from_any'],
     'steiner_span/spanning': ['spanning_tree'],
     'steiner_span/grow': ['grow_tree'],
     'steiner_span/way_back': ['way_back'],
     'lower_bound/class_bounds': ['least_cost', 'sum_of_halves', 'bound_of_many'],
-    'lower_bound/class_costs': ['new', 'renew'],
     'lower_bound/raised_search': ['least_raised'],
     'lower_bound/halves': ['sum_of_halves'],
     'lower_bound/kept_halves': ['sum_of_kept_halves'],
@@ -53,15 +54,21 @@ def keep_out_of_line(folder):
             out.write(text)
 
 
+def plain_name(symbol):
+    """A symbol without what it is generic over."""
+    symbol, before = re.sub(r'^<(\S+?)(?:<.*>)?(?: as \S+)?>', r'\1', symbol), None
+    while symbol != before:
+        symbol, before = re.sub(r'(::)?<[^<>]*>', '', symbol), symbol
+    return symbol
+
+
 def label(symbol):
     """The named function that a symbol is, or None."""
-    found = re.search(r'(\w+)::(\w+)(?:::<impl .*?>|::<.*?>|::\w+)*::(\w+)(?:::<.*>)?$', symbol) or re.search(r'(\w+)::(\w+)::(\w+)', symbol)
-    plain = re.sub(r'<[^<>]*>', '', re.sub(r'<[^<>]*>', '', re.sub(r'<[^<>]*>', '', symbol)))
-    function = [part for part in plain.split('::') if part][-1] if plain else ''
+    parts = plain_name(symbol).split('::')
     for place, functions in NAMED.items():
-        crate, file = place.split('/')
-        if function in functions and f'{crate}::{file}' in symbol:
-            return f'{crate}::{function}'
+        crate = place.split('/')[0]
+        if parts[0] == crate and parts[-1] in functions:
+            return f'{crate}::{parts[-1]}' + next((f' ({KINDS[kind]})' for kind in KINDS if kind in symbol), '')
     return None
 
 
@@ -90,6 +97,15 @@ def show(totals, path=(), depth=0):
         print(f'{100 * rest / totals[()]:6.1f} %  {"    " * depth}else')
 
 
+def show_leaves(script):
+    leaves = collections.Counter()
+    for sample in script.split('\n\n'):
+        if len(lines := sample.splitlines()) > 1:
+            leaves[plain_name(re.sub(r'^\s*[0-9a-f]+ (.*?)(\+0x[0-9a-f]+)? \(.*$', r'\1', lines[1]))] += 1
+    for name, count in leaves.most_common(16):
+        print(f'{100 * count / sum(leaves.values()):6.1f} %  {name}')
+
+
 def main():
     words = argparse.ArgumentParser(description=__doc__, formatter_class=argparse.RawDescriptionHelpFormatter)
     words.add_argument('checkout')
@@ -99,7 +115,7 @@ def main():
     asked = words.parse_args()
     subprocess.run([os.path.join(HERE, 'plain_build.py'), asked.checkout, asked.folder], check=True)
     keep_out_of_line(asked.folder)
-    flags = {'RUSTFLAGS': '-C force-frame-pointers=yes', 'PLAIN_THREADS': '1'}
+    flags = {'RUSTFLAGS': '-C force-frame-pointers=yes -C symbol-mangling-version=v0', 'PLAIN_THREADS': '1'}
     subprocess.run(['cargo', 'build', '-q', '--release', '--offline'], cwd=asked.folder, check=True, env=os.environ | flags)
     data = os.path.join(asked.folder, 'perf.data')
     program = os.path.join(asked.folder, 'target', 'release', 'plain_route')
@@ -107,8 +123,10 @@ def main():
     subprocess.run(run, check=True, env=os.environ | flags)
     script = subprocess.run(['perf', 'script', '-i', data, '-F', 'comm,ip,sym,dso'], check=True, capture_output=True, text=True).stdout
     totals = count_samples(script)
-    print(f'{totals[()]} samples')
+    print(f'{totals[()]} samples, by stage:')
     show(totals)
+    print('the functions in which they lie themselves, whoever calls them:')
+    show_leaves(script)
 
 
 if __name__ == '__main__':
