@@ -2,8 +2,9 @@
 use Rattle.std.proofs.Common.{◌≡◌, ℕ, ◌+◌, ◌-◌, ◌≤◌, List, [], ◌∷◌, ◌++◌, length, take, drop, slice_get, slice_range, refl, sym}
 use Rattle.std.proofs.Common.{◌∙◌, ap, arith, zero, suc, ◌==◌, Bool, true, false, cond, replicate}
 use Rattle.std.specs.List.{sum_by, zip}
-use Rattle.std.proofs.Math.Seq.{take-append_seam, drop-append_seam, drop-drop}
-use Rattle.std.proofs.lemmas.List.{take_all, length-append}
+use Rattle.std.proofs.Math.Nat.{sub_self}
+use Rattle.std.proofs.Math.Seq.{take-append_seam, take-append-add, drop-append_seam, drop-drop}
+use Rattle.std.proofs.lemmas.List.{take_all}
 use Rattle.std.proofs.lemmas.List.Sums.{sum_by-cons}
 use Rattle.grid_base.specs.declared.piece.Piece.{Piece}
 use Rattle.grid_base.specs.Lists.{At}
@@ -13,8 +14,9 @@ use Rattle.grid_graph.specs.Grids.{edge_numbers}
 use Rattle.tree_set.specs.Loads.{load, load_on, load_between, net_load, tree_load}
 use Rattle.tree_set.specs.Measures.{wirelength}
 use Rattle.std.proofs.lemmas.List.Folds.{sum_by-replicate}
-use Rattle.sharing_runs.proofs.Between.{load_on-split, load_on-between, load_on-none, load_on-push}
-use Rattle.routing_passes.proofs.Slices.{slice_get-drop, take_one}
+use Rattle.sharing_runs.proofs.Between.{load_on-split, load_on-between, load_on-first, load_on-none, load_on-push}
+use Rattle.routing_passes.proofs.Positions.{one_here}
+use Rattle.routing_passes.proofs.Slices.{slice_get-drop}
 
 -- a sum whose terms are sums
 pub sum_by-both : {X : Type 0} (f g h : X → ℕ) (xs : List X) → ((x : X) → f x ≡ g x + h x)
@@ -38,11 +40,8 @@ load_between-split g nets trees a m b r low high =
 load_on-first_nets : (g : Grid) (nets : List NetSpec) (trees : List (List Piece)) (m r : ℕ)
     → load_on g (take m nets) (take m trees) r ≡ load_on g nets (take m trees) r
 load_on-first_nets g nets trees m r =
-    let split : load_on g nets (take (0 + m) trees) r ≡ load_on g nets [] r + load_on g (take m nets) (take m trees) r =
-    load_on-split g nets trees 0 m r in
-    let same : load_on g nets (take (0 + m) trees) r ≡ load_on g nets (take m trees) r =
-    ap (λ k. load_on g nets (take k trees) r) (omega arith) in
-    omega (arith, split, same, load_on-none g nets r)
+    let all : m - 0 ≡ m = omega arith in
+    sym (rw all at (load_on-first g nets trees m r))
 
 -- the load between two positions is that of the sets there
 pub load_between-here : (g : Grid) (nets : List NetSpec) (all sets : List (List Piece)) (a b r : ℕ) → slice_range all a b ≡ sets
@@ -65,32 +64,30 @@ pub load_on-behind_append : (g : Grid) (nets' : List NetSpec) (a m : ℕ) (s t :
     → load_on g (drop a nets') (s ++ t) r ≡ load_on g (drop a nets') s r + load_on g (drop m nets') t r
 load_on-behind_append g nets' a m s t r low long =
     let nets : List NetSpec = drop a nets' in
-    let behind : drop (length s) nets ≡ drop m nets' =
-    drop-drop (length s) a nets' ∙ ap (λ k. drop k nets') (omega (arith, low, long)) in
-    ap (λ trees. load_on g nets trees r) (sym (take_all (length s + length t) (s ++ t) (omega (arith, length-append s t))))
-    ∙ load_on-split g nets (s ++ t) (length s) (length t) r
-    ∙ ap (λ trees. load_on g nets trees r + load_on g (take (length t) (drop (length s) nets))
-    (take (length t) (drop (length s) (s ++ t))) r) (take-append_seam s t)
-    ∙ ap (λ trees. load_on g nets s r + load_on g (take (length t) (drop (length s) nets)) (take (length t) trees) r)
-    (drop-append_seam s t)
-    ∙ ap (λ load. load_on g nets s r + load) (load_on-first_nets g (drop (length s) nets) t (length t) r)
-    ∙ ap (λ trees. load_on g nets s r + load_on g (drop (length s) nets) trees r) (take_all (length t) t (omega arith))
-    ∙ ap (λ ns. load_on g nets s r + load_on g ns t r) behind
+    let n : ℕ = length s in
+    let end : a + n ≡ m = omega (arith, low, long) in
+    let whole : take (length t) t ≡ t = take_all (length t) t (omega arith) in
+    rw (load_on-first_nets g (drop n nets) t (length t) r, whole, drop-drop n a nets', end)
+    at (rw (take-append-add s t (length t), take-append_seam s t, drop-append_seam s t)
+    at (load_on-split g nets (s ++ t) n (length t) r))
 
 -- a net more
 pub load_between-next : (g : Grid) (nets : List NetSpec) (all : List (List Piece)) (a k : ℕ) (n : NetSpec) (tree : List Piece)
     (r : ℕ) → At nets k n → At all k tree → a ≤ k
     → load_between g nets all a (k + 1) r ≡ load_between g nets all a k r + tree_load g n.width tree r
 load_between-next g nets all a k n tree r at stands low =
-    let next : k + 1 - k ≡ 1 = omega arith in
-    let here : slice_range all k (k + 1) ≡ tree ∷ [] = ap (λ m. take m (drop k all)) next ∙ take_one all k tree stands in
     omega (
       arith,
       load_between-split g nets all a k (k + 1) r low (omega arith),
-      load_between-here g nets all (tree ∷ []) k (k + 1) r here,
+      load_between-here g nets all (tree ∷ []) k (k + 1) r (one_here all k tree stands),
       load_on-behind_push g nets k k [] n tree r at (omega arith) (omega arith),
       load_on-none g (drop k nets) r,
     )
+
+-- no net is between a position and itself
+pub load_between-none : (g : Grid) (nets : List NetSpec) (all : List (List Piece)) (a r : ℕ) → load_between g nets all a a r ≡ 0
+load_between-none g nets all a r =
+    load_between-here g nets all [] a a r (ap (λ n. take n (drop a all)) (sub_self a)) ∙ load_on-none g (drop a nets) r
 
 -- the load of a first net and of the others
 pub load_on-cons : (g : Grid) (n : NetSpec) (nets : List NetSpec) (t : List Piece) (trees : List (List Piece)) (r : ℕ)

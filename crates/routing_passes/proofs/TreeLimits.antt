@@ -1,28 +1,16 @@
 -- How much a set of pieces can put on one entry.
-use Rattle.std.proofs.Common.{◌≡◌, ℕ, ◌+◌, ◌≤◌, ◌<◌, Bool, true, false, cond, ◌==◌, max, length, List, slice_index, slice_set}
-use Rattle.std.proofs.Common.{◌-◌, sym, subst, arith, ⊎_elim}
-use Rattle.std.proofs.lemmas.Bool.{cases_lt}
-use Rattle.std.proofs.Math.Nat.{max-eq_left, max-eq_right}
+use Rattle.std.proofs.Common.{◌≡◌, ℕ, ◌+◌, ◌-◌, ◌≤◌, Bool, true, false, cond, ◌==◌, length, List, slice_index, slice_set, arith}
+use Rattle.std.proofs.Math.Nat.{max-le}
 use Rattle.grid_base.specs.declared.piece.Piece.{Piece}
 use Rattle.grid_base.specs.Numbers.{layer_of, edge_start}
 use Rattle.grid_graph.specs.declared.grid.Grid.{Grid}
-use Rattle.grid_graph.specs.Grids.{demand_on, size_of, IsNetWidth, width_of_layer}
+use Rattle.grid_graph.specs.Grids.{demand_on, edge_numbers, entries, size_of, IsNetWidth}
 use Rattle.grid_graph.specs.Limits.{max_demand}
-use Rattle.grid_graph.specs.Grids.{edge_numbers, entries}
-use Rattle.tree_set.specs.Loads.{tree_load}
-use Rattle.tree_set.specs.Loads.{holds, net_load}
+use Rattle.tree_set.specs.Loads.{holds, max_tree_load, net_load, tree_load}
 use Rattle.tree_set.specs.Order.{IsRising}
 use Rattle.tree_set.specs.Routings.{ArePieces}
-use Rattle.sharing_runs.proofs.Kept.{tree_load-added}
 use Rattle.tree_set.proofs.Counting.{length-pieces}
-use Rattle.tree_set.specs.Loads.{max_tree_load}
-
-max-within : (a b most : ℕ) → a ≤ most → b ≤ most → max a b ≤ most
-max-within a b most first second =
-    ⊎_elim
-    (λ (less : a < b). subst (λ (m : ℕ). m ≤ most) (sym (max-eq_right (omega (arith, less)))) second)
-    (λ (more : b ≤ a). subst (λ (m : ℕ). m ≤ most) (sym (max-eq_left more)) first)
-    (cases_lt a b)
+use Rattle.sharing_runs.proofs.Kept.{tree_load-added}
 
 cond-within : (b : Bool) (x y most : ℕ) → x ≤ most → y ≤ most → cond b x y ≤ most
 cond-within true x y most first second = first
@@ -33,9 +21,7 @@ demand-within : (g : Grid) (width e : ℕ) → IsNetWidth g width → demand_on 
 demand-within g width e fits =
     let layer : ℕ = layer_of (size_of g) (edge_start e) in
     let narrow : width ≤ max_demand = omega (arith, fits 0 (size_of g).within.has_layer) in
-    let most : max width (width_of_layer g layer) ≤ max_demand =
-    max-within width (width_of_layer g layer) max_demand narrow (g.limits.wide.within layer) in
-    omega (arith, most, g.limits.spaced.within layer)
+    omega (arith, max-le narrow (g.limits.wide.within layer), g.limits.spaced.within layer)
 
 -- and no set puts more on it
 pub tree_load-within : (g : Grid) (width : ℕ) (tree : List Piece) (r : ℕ) → IsNetWidth g width → IsRising tree
@@ -54,8 +40,4 @@ pub tree_put : (g : Grid) (width : ℕ) (tree pieces : List Piece) (first loads 
     ≡ slice_index first r + tree_load g width tree r
 tree_put g width tree pieces first loads r same are long edges =
     let last : edge_numbers g ≡ length loads - 1 = omega (arith, long) in
-    subst (λ (k : ℕ). slice_index (slice_set loads k (slice_index loads k + length pieces)) r
-    ≡ slice_index first r + tree_load g width tree r) last
-    (subst (λ (ps : List Piece). slice_index (slice_set loads (edge_numbers g) (slice_index loads (edge_numbers g) + length ps))
-    r ≡ slice_index first r + tree_load g width tree r) (sym same)
-    (tree_load-added g width tree first loads r are long edges))
+    rw (same, ← last) (tree_load-added g width tree first loads r are long edges)

@@ -7,7 +7,6 @@ ghost use Rattle.routing_passes.specs.PassTurns.{HadTurns};
 
 use crate::old_sets::copies;
 use crate::plan::Plan;
-use even_parts::part_start;
 use grid_base::NoMemory;
 use grid_graph::{Design, Ground};
 use load_table::{LoadTable, Share};
@@ -39,9 +38,7 @@ pub(crate) fn route_part<G: Gate>(
 {
     let alloc = *plan.positions.allocator();
     let positions = plan.positions.as_slice();
-    let workers = plan.workers as usize;
-    let from = part_start(workers, positions.len(), worker as usize);
-    let to = part_start(workers, positions.len(), worker as usize + 1);
+    let (from, to) = plan.turns_of(worker, worker + 1);
     let sets = copies(alloc, before, positions, from, to)?;
     let Ok(mut pricing) = Worker::new(alloc, design, share, sets, plan.scale, plan.budget) else {
         return Err(NoMemory);

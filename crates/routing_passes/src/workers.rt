@@ -8,7 +8,6 @@ ghost use Rattle.routing_passes.specs.PassTurns.{HadTurns};
 use crate::loads::loads_of;
 use crate::part::route_part;
 use crate::plan::Plan;
-use even_parts::part_start;
 use grid_base::NoMemory;
 use grid_graph::{Design, Ground};
 use load_table::{LoadTable, Share};
@@ -102,9 +101,7 @@ fn split_for(
         first middle last share.old share.new other) }
 {
     let positions = plan.positions.as_slice();
-    let workers = plan.workers as usize;
-    let from = part_start(workers, positions.len(), middle as usize);
-    let to = part_start(workers, positions.len(), last as usize);
+    let (from, to) = plan.turns_of(middle, last);
     let given = loads_of(
         *plan.positions.allocator(),
         design,
