@@ -1,9 +1,8 @@
-use Rattle.std.proofs.Common.{◌≡◌, ◌≤◌, ◌<◌, ◌∷◌, ◌++◌, [], ℕ, List, length, All, refl, sym, ◌∙◌, ap, subst, arith}
+use Rattle.std.proofs.Common.{◌≡◌, ◌≤◌, ◌<◌, ◌∷◌, [], ℕ, List, length, All, refl, sym, ◌∙◌, ap, subst, arith}
 use Rattle.std.specs.List.{range_with_len}
 use Rattle.std.proofs.lemmas.List.{length-append, length-replicate}
 use Rattle.std.proofs.lemmas.List.Elements.{All-nil, All-replicate}
 use Rattle.std.proofs.lemmas.List.FromFn.{get_or-range_with_len, length-range_with_len}
-use Rattle.grid_base.specs.declared.piece.Piece.{Piece}
 use Rattle.grid_base.specs.Numbers.{IsPiece}
 use Rattle.grid_graph.specs.Grids.{entries, size_of}
 use Rattle.grid_graph.specs.Grounds.{AreGrounds}
@@ -84,31 +83,20 @@ run_here g c =
 
 pub loop-init : goal.loop-init
 loop-init g c =
-    rw c.new-phases.ensures.items (record {
-      run = run_begins c.args.design.now c.args.plan.now.workers c.args.plan.now.budget c.args.table.now c.args.first
-          c.requires.workers.0 c.requires.first;
-      count = refl;
-    })
+    rw c.new-phases.ensures.items (record { run = run_begins c.requires.workers.0 c.requires.first; count = refl })
 
 pub route_parts-requires-clause-pass : goal.route_parts-requires-clause-pass
 route_parts-requires-clause-pass g c κs within = (phase_here g c).pass
 
 pub route_parts-requires-clause-share : goal.route_parts-requires-clause-share
 route_parts-requires-clause-share g c κs within =
-    serves_all (pass_of c.args.design.now c.args.grounds.now c.args.table.now c.as_slice.result.now
-    c.as_slice-in-loop.result.now c.args.plan.now) c.loop.share (phase_here g c) (run_here g c)
+    serves_all (phase_here g c) (run_here g c)
 
 pub loop-preserved : goal.loop-preserved
 loop-preserved g c =
-    let d = c.args.design.now in
-    let plan = c.args.plan.now in
-    let table = c.args.table.now in
-    let sets = c.in_ok-next.sets.items in
+    let here = (goal.at.loop-preserved g c).After-as_slice-in-loop in
+    let more = IsRunSoFar-push (phase_here g here) c.in_ok-next.ensures.turns (run_here g here) in
     rw (c.in_ok-push.ensures.items, c.of.ensures) (record {
-      run = subst (λ (phases : List (List (List Piece))). IsRunSoFar d plan.workers plan.budget table c.in_ok-next.next
-          (phases ++ sets ∷ [])) c.as_slice.ensures.value
-          (IsRunSoFar-push (pass_of d c.args.grounds.now table c.as_slice.result.now c.as_slice-in-loop.result.now plan) sets
-          c.loop.share c.in_ok-next.next (phase_here g (goal.at.loop-preserved g c).After-as_slice-in-loop)
-          (run_here g (goal.at.loop-preserved g c).After-as_slice-in-loop) c.in_ok-next.ensures.turns);
-      count = length-append c.loop.phases.items (sets ∷ []) ∙ omega (arith, c.loop.invariant.count);
+      run = rw c.as_slice.ensures.value at more;
+      count = length-append c.loop.phases.items (c.in_ok-next.sets.items ∷ []) ∙ omega (arith, c.loop.invariant.count);
     })
