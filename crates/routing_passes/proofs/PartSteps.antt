@@ -1,5 +1,5 @@
 -- The net of a turn, by its position.
-use Rattle.std.proofs.Common.{◌≡◌, ℕ, ◌+◌, ◌-◌, ◌<◌, ◌%◌, ◌==◌, true, false, List, length, get_or, slice_index_or, All, sym, ◌∙◌, ap, subst, arith}
+use Rattle.std.proofs.Common.{◌≡◌, ℕ, ◌+◌, ◌-◌, ◌<◌, ◌%◌, ◌==◌, true, false, List, length, get_or, slice_index_or, All, sym, ◌∙◌, ap, arith}
 use Rattle.std.proofs.lemmas.Option.{get_or_from_slice_get, same_Some, slice_get-get_or, slice_get_within}
 use Rattle.std.proofs.lemmas.Slice.Zip.{AllZip-long}
 use Rattle.grid_base.specs.declared.piece.Piece.{Piece}
@@ -61,25 +61,6 @@ pub record IsReady (p : Pass) (worker : ℕ) (first : Holding) (turn from k : �
   pub grounds : length p.grounds ≡ length p.design.nets
   pub ground : (n : NetSpec) → At p.design.nets k n → IsGround p.design.grid n.terminals (slice_index_or p.grounds k Open)
 
--- the net that stands at the position of a turn, and the set that it had
-turn_of : (p : Pass) (worker turn : ℕ) (n : NetSpec) → IsPass p → IsInPart p.workers (length (pass_nets p)) worker turn
-    → turn < length p.positions → At p.design.nets (get_or p.positions turn 0) n
-    → (before : List Piece) × IsTurnOf p worker turn n before
-turn_of p worker turn n pass part short at =
-    let k : ℕ = get_or p.positions turn 0 in
-    let among : At p.positions turn k = slice_get-get_or p.positions turn 0 short in
-    let t = stands p.before k (sets_within p pass turn 0 short) in (
-      t.0,
-      record {
-        part = part;
-        net = at_positions-at p.design.nets p.positions turn k n pass.nets among at;
-        had = at_positions-at p.before p.positions turn k t.0 (sets_within p pass) among t.1;
-        width = (p.design.limits.net k n at).width;
-        pieces = subst (ArePieces (size_of p.design.grid)) (get_or_from_slice_get p.before k t.0 t.0 t.1)
-            (pass.before.pieces k t.0 (slice_get_within p.before k t.0 t.1));
-      },
-    )
-
 pub ready : {p : Pass} {worker turn from to : ℕ} {first : Holding} {found : List ℕ} {old new : Worker} → IsPass p
     → worker < p.workers → ServesTurns p worker (worker + 1) first → found ≡ p.positions
     → from ≡ turns_start p worker → to ≡ turns_start p (worker + 1) → turn < to
@@ -87,20 +68,29 @@ pub ready : {p : Pass} {worker turn from to : ℕ} {first : Holding} {found : Li
     → ((turn - from) % nets_per_reading == 0 ≡ false → IsUnchanged old new) → KeepsWork old new
     → IsWithinPart p worker first turn turn old
     → IsReady p worker first turn from (get_or found turn 0) new
-ready {p = p} {worker = worker} {turn = turn} {from = from} {first = first} {new = new} pass exists serves same start end before read
-    unchanged kept w =
+ready {p = p} {worker = worker} {turn = turn} {from = from} {first = first} {new = new} pass exists serves same start end before
+    read unchanged kept w =
     let nets : ℕ = length (pass_nets p) in
     let part : IsInPart p.workers nets worker turn =
     record { worker_exists = exists; from = w.turns.before; before = omega (arith, before, end) } in
     let within : IsWithinPart p worker first turn (turn + 1) new = read_either kept w (rw start at read) (rw start at unchanged) in
     let short : turn < length p.positions = omega
     (arith, count p pass, in_design p.workers nets worker turn pass.some exists part.before) in
-    let n = stands p.design.nets (get_or p.positions turn 0) (pass.nets turn 0 short) in
-    let t = turn_of p worker turn n.0 pass part short n.1 in
     let k : ℕ = get_or p.positions turn 0 in
+    let among : At p.positions turn k = slice_get-get_or p.positions turn 0 short in
+    let n = stands p.design.nets k (pass.nets turn 0 short) in
+    let t = stands p.before k (sets_within p pass turn 0 short) in
+    let of : IsTurnOf p worker turn n.0 t.0 = record {
+      part = part;
+      net = at_positions-at p.design.nets p.positions turn k n.0 pass.nets among n.1;
+      had = at_positions-at p.before p.positions turn k t.0 (sets_within p pass) among t.1;
+      width = (p.design.limits.net k n.0 n.1).width;
+      pieces = rw (← get_or_from_slice_get p.before k t.0 t.0 t.1)
+          (pass.before.pieces k t.0 (slice_get_within p.before k t.0 t.1));
+    } in
+    let own : At (trees_of new) (turn - from) t.0 = rw start (own_set {before = t.0} serves of within) in
     let grounded : NetSpec → Ground → Type 0 = λ m found. IsGround p.design.grid m.terminals found in
     let grounds : length p.grounds ≡ length p.design.nets = AllZip-long grounded p.design.nets p.grounds pass.grounds in
-    let own : At (trees_of new) (turn - from) t.0 = rw start (own_set serves t.1 within) in
     rw same (record {
       place = ap (λ k. turn - k) start;
       short = short;
@@ -108,14 +98,14 @@ ready {p = p} {worker = worker} {turn = turn} {from = from} {first = first} {new
       net = n.0;
       stands = n.1;
       before = t.0;
-      of = t.1;
+      of = of;
       within = within;
-      may = may_repair serves t.1 within (length p.positions) short pass.few;
+      may = may_repair {before = t.0} serves of within (length p.positions) short pass.few;
       own = own;
       had = λ m tree at there.
           let net : m ≡ n.0 = same_Some m n.0 (sym at ∙ n.1) in
           let set : tree ≡ t.0 = same_Some tree t.0 (sym there ∙ own) in
-          rw (net, set) (still_had serves t.1 within);
+          rw (net, set) (still_had {before = t.0} serves of within);
       grounds = grounds;
       ground = λ m at. AllZip-at grounded p.design.nets p.grounds k m (slice_index_or p.grounds k Open) pass.grounds at
           (slice_get-get_or p.grounds k Open (omega (arith, grounds, pass.nets turn 0 short)));

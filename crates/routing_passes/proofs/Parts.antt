@@ -8,25 +8,16 @@ use Rattle.sharing_runs.specs.Parts.{part_start, stretch_start, IsInPart}
 pub not_earlier : (workers nets k worker position : ℕ) → 0 < workers → part_start workers nets k ≤ position
     → IsInPart workers nets worker position → k ≤ worker
 not_earlier workers nets k worker position some from part =
-    ⊎_elim
-    (λ (early : worker < k). absurd (omega (
-      arith,
-      from,
-      part.before,
-      part_start-le workers nets (worker + 1) k some (omega (arith, early)),
-    )))
-    (λ (late : k ≤ worker). late)
-    (cases_lt worker k)
+    let later : worker < k → part_start workers nets (worker + 1) ≤ part_start workers nets k =
+    λ early. part_start-le workers nets (worker + 1) k some (omega (arith, early)) in
+    grind (arith, from, part.before, later)
 
 -- each position is in one part
 pub one_part : (workers nets a b position : ℕ) → 0 < workers → IsInPart workers nets a position
     → IsInPart workers nets b position → a ≡ b
 one_part workers nets a b position some first second =
-    omega (
-      arith,
-      not_earlier workers nets a b position some first.from second,
-      not_earlier workers nets b a position some second.from first,
-    )
+    let low : a ≤ b = not_earlier workers nets a b position some first.from second in
+    omega (arith, low, not_earlier workers nets b a position some second.from first)
 
 -- a stretch begins in its part
 pub stretch_start-from : (part position : ℕ) → part ≤ position → part ≤ stretch_start part position

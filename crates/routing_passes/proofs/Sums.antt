@@ -29,12 +29,8 @@ sum_by-both f g h (x ∷ xs) both =
 pub load_between-split : (g : Grid) (nets : List NetSpec) (trees : List (List Piece)) (a m b r : ℕ) → a ≤ m → m ≤ b
     → load_between g nets trees a b r ≡ load_between g nets trees a m r + load_between g nets trees m b r
 load_between-split g nets trees a m b r low high =
-    omega (
-      arith,
-      load_on-between g nets trees a b r (omega (arith, low, high)),
-      load_on-between g nets trees a m r low,
-      load_on-between g nets trees m b r high,
-    )
+    let parted = load_on-between g nets trees in
+    omega (arith, parted a b r (omega (arith, low, high)), parted a m r low, parted m b r high)
 
 -- of the nets only those that have a set count
 load_on-first_nets : (g : Grid) (nets : List NetSpec) (trees : List (List Piece)) (m r : ℕ)
@@ -76,13 +72,9 @@ pub load_between-next : (g : Grid) (nets : List NetSpec) (all : List (List Piece
     (r : ℕ) → At nets k n → At all k tree → a ≤ k
     → load_between g nets all a (k + 1) r ≡ load_between g nets all a k r + tree_load g n.width tree r
 load_between-next g nets all a k n tree r at stands low =
-    omega (
-      arith,
-      load_between-split g nets all a k (k + 1) r low (omega arith),
-      load_between-here g nets all (tree ∷ []) k (k + 1) r (one_here all k tree stands),
-      load_on-behind_push g nets k k [] n tree r at (omega arith) (omega arith),
-      load_on-none g (drop k nets) r,
-    )
+    let here = load_between-here g nets all (tree ∷ []) k (k + 1) r (one_here all k tree stands) in
+    let pushed = load_on-behind_push g nets k k [] n tree r at (omega arith) (omega arith) in
+    omega (arith, load_between-split g nets all a k (k + 1) r low (omega arith), here, pushed, load_on-none g (drop k nets) r)
 
 -- no net is between a position and itself
 pub load_between-none : (g : Grid) (nets : List NetSpec) (all : List (List Piece)) (a r : ℕ) → load_between g nets all a a r ≡ 0
@@ -93,24 +85,16 @@ load_between-none g nets all a r =
 pub load_on-cons : (g : Grid) (n : NetSpec) (nets : List NetSpec) (t : List Piece) (trees : List (List Piece)) (r : ℕ)
     → load_on g (n ∷ nets) (t ∷ trees) r ≡ tree_load g n.width t r + load_on g nets trees r
 load_on-cons g n nets t trees r =
-    omega (
-      arith,
-      load_on-behind_append g (n ∷ nets) 0 1 (t ∷ []) trees r (omega arith) refl,
-      load_on-behind_push g (n ∷ nets) 0 0 [] n t r refl (omega arith) refl,
-      load_on-none g (n ∷ nets) r,
-    )
+    let pushed = load_on-behind_push g (n ∷ nets) 0 0 [] n t r refl (omega arith) refl in
+    let parted = load_on-behind_append g (n ∷ nets) 0 1 (t ∷ []) trees r (omega arith) refl in
+    omega (arith, parted, pushed, load_on-none g (n ∷ nets) r)
 
 -- empty sets have no load, whatever the nets
 no_edges : (g : Grid) (nets : List NetSpec) (m r : ℕ)
     → sum_by (λ (x : NetSpec × List Piece). net_load g x.0.width x.1 r) (zip nets (replicate m [])) ≡ 0
 no_edges g [] m r = refl
 no_edges g (n ∷ nets) zero r = refl
-no_edges g (n ∷ nets) (suc m) r =
-    omega (
-      arith,
-      sum_by-cons (λ (x : NetSpec × List Piece). net_load g x.0.width x.1 r) (n, []) (zip nets (replicate m [])),
-      no_edges g nets m r,
-    )
+no_edges g (n ∷ nets) (suc m) r = rw (sum_by-cons, no_edges g nets m r)
 
 either_none : (b : Bool) (x y : ℕ) → x ≡ 0 → y ≡ 0 → cond b x y ≡ 0
 either_none true x y first second = first
