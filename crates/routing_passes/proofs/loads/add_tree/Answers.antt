@@ -10,11 +10,6 @@ returns-clause-loads c r =
 
 pub returns-clause-limit : goal.returns-clause-limit
 returns-clause-limit c r =
-    omega (
-      arith,
-      tree_put c.args.grid.now c.args.width c.args.tree.now c.pieces.result.now c.args.loads.now c.add_edges.new.loads r
-          c.pieces.ensures.listed c.requires.pieces
-          (c.add_edges.ensures.long ∙ c.requires.table) c.add_edges.ensures.loads,
-      tree_load-within c.args.grid.now c.args.width c.args.tree.now r c.requires.width c.pieces.ensures.rising
-          c.requires.pieces,
-    )
+    let most = tree_load-within c.args.grid.now c.args.width c.args.tree.now r c.requires.width c.pieces.ensures.rising
+    c.requires.pieces in
+    omega (arith, returns-clause-loads c r, most)
