@@ -1,5 +1,6 @@
 -- The net of a turn, by its position.
-use Rattle.std.proofs.Common.{◌≡◌, ℕ, ◌+◌, ◌-◌, ◌<◌, ◌%◌, ◌==◌, true, false, List, length, get_or, slice_index_or, All, sym, ◌∙◌, ap, arith}
+use Rattle.std.proofs.Common.{◌≡◌, ℕ, ◌+◌, ◌-◌, ◌<◌, ◌%◌, ◌==◌, true, false, List, length, get_or, All}
+use Rattle.std.proofs.Common.{slice_index_or, sym, ◌∙◌, ap, arith}
 use Rattle.std.proofs.lemmas.Option.{get_or_from_slice_get, same_Some, slice_get-get_or, slice_get_within}
 use Rattle.std.proofs.lemmas.Slice.Zip.{AllZip-long}
 use Rattle.grid_base.specs.declared.piece.Piece.{Piece}
@@ -34,7 +35,7 @@ sets_within p pass k d short = omega (arith, pass.nets k d short, pass.before.lo
 -- where turns begin, by the number of the positions
 pub turns_begin : {p : Pass} (worker : ℕ) {from : ℕ} → IsPass p → from ≡ part_start p.workers (length p.positions) worker
     → from ≡ turns_start p worker
-turns_begin {p = p} worker pass begins = begins ∙ ap (λ n. part_start p.workers n worker) (count p pass)
+turns_begin {p} worker pass begins = begins ∙ ap (λ n. part_start p.workers n worker) (count p pass)
 
 -- the sets of a routing are made of pieces of the grid
 pub routing_pieces : (g : Grid) (nets : List NetSpec) (trees : List (List Piece)) → IsRouting g nets trees
@@ -68,12 +69,13 @@ pub ready : {p : Pass} {worker turn from to : ℕ} {first : Holding} {found : Li
     → ((turn - from) % nets_per_reading == 0 ≡ false → IsUnchanged old new) → KeepsWork old new
     → IsWithinPart p worker first turn turn old
     → IsReady p worker first turn from (get_or found turn 0) new
-ready {p = p} {worker = worker} {turn = turn} {from = from} {first = first} {new = new} pass exists serves same start end before
+ready {p} {worker} {turn} {from} {first} {new} pass exists serves same start end before
     read unchanged kept w =
     let nets : ℕ = length (pass_nets p) in
     let part : IsInPart p.workers nets worker turn =
     record { worker_exists = exists; from = w.turns.before; before = omega (arith, before, end) } in
-    let within : IsWithinPart p worker first turn (turn + 1) new = read_either kept w (rw start at read) (rw start at unchanged) in
+    let within : IsWithinPart p worker first turn (turn + 1) new =
+    read_either kept w (rw start at read) (rw start at unchanged) in
     let short : turn < length p.positions = omega
     (arith, count p pass, in_design p.workers nets worker turn pass.some exists part.before) in
     let k : ℕ = get_or p.positions turn 0 in

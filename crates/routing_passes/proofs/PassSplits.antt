@@ -102,7 +102,7 @@ pub halves_joined : {p : Pass} {first middle last : ℕ} {old kept other left ri
     → AreSplit old kept other → HadTurns p first middle kept left s → HadTurns p middle last other right t
     → 1 ≤ p.workers → first ≤ middle → middle ≤ last
     → HadTurns p first last old (held left.table (joined left.party right.party)) (s ++ t)
-halves_joined {p = p} {first = first} {middle = middle} {last = last} {left = left} {right = right} {s = s} {t = t} split one two
+halves_joined {p} {first} {middle} {last} {left} {right} {s} {t} split one two
     some low high =
     let g = p.design.grid in
     let a : ℕ = turns_start p first in

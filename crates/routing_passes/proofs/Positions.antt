@@ -62,7 +62,8 @@ at_positions-range xs a zero = refl
 at_positions-range xs a (suc n) =
     let one : a + 1 - a ≡ 1 = omega arith in
     let many : suc n ≡ 1 + n = omega arith in
-    rw (one, at_positions-range xs (a + 1) n, ← drop-drop 1 a xs, ← take-add 1 n (drop a xs)) (ap (λ k. take k (drop a xs)) (sym many))
+    rw (one, at_positions-range xs (a + 1) n, ← drop-drop 1 a xs, ← take-add 1 n (drop a xs))
+    (ap (λ k. take k (drop a xs)) (sym many))
 
 -- at those of all elements stand all
 pub at_positions-all : {X : Type 0} (xs : List X) (n : ℕ) → length xs ≡ n → at_positions xs (range_with_len 0 n) ≡ xs

@@ -27,7 +27,7 @@ AreTurns-none p a read loads = record {
 pub AreTurns-reread : {p : Pass} {a b : ℕ} {sets : List (List Piece)} {read seen new : ℕ → List ℕ}
     → ((start : ℕ) → start < b → new start ≡ read start) → ((start : ℕ) → IsLoadList p.design.grid (new start))
     → AreTurns p a b sets read seen → AreTurns p a b sets new seen
-AreTurns-reread {p = p} same loads old = record {
+AreTurns-reread {p} same loads old = record {
   before = old.before;
   long = old.long;
   read_loads = loads;
@@ -50,7 +50,7 @@ pub AreTurns-push : {p : Pass} {worker turn : ℕ} {sets : List (List Piece)} {r
     → IsPassTurn p all worker turn now (read (start_of p worker turn)))
     → AreTurns p (turns_start p worker) turn sets read seen
     → AreTurns p (turns_start p worker) (turn + 1) (sets ++ tree ∷ []) read (until turn seen (λ k. now))
-AreTurns-push {p = p} {worker = worker} {turn = turn} {sets = sets} {seen = seen} tree now some mine next old = record {
+AreTurns-push {p} {worker} {turn} {sets} {seen} tree now some mine next old = record {
   before = omega (arith, old.before);
   long = omega (arith, length-append sets (tree ∷ []), old.long, old.before);
   read_loads = old.read_loads;
@@ -70,7 +70,7 @@ pub AreTurns-append : {p : Pass} {a b : ℕ} {s t : List (List Piece)} {read see
     → AreTurns p a (turns_start p middle) s read seen
     → AreTurns p (turns_start p middle) b t read' seen'
     → AreTurns p a b (s ++ t) (until (turns_start p middle) read read') (until (turns_start p middle) seen seen')
-AreTurns-append {p = p} {a = a} {b = b} {s = s} {t = t} {read = read} {seen = seen} {read' = read'} {seen' = seen'} middle some first second =
+AreTurns-append {p} {a} {b} {s} {t} {read} {seen} {read'} {seen'} middle some first second =
     let m : ℕ = turns_start p middle in
     record {
       before = omega (arith, first.before, second.before);

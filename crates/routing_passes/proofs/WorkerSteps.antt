@@ -36,18 +36,20 @@ use Rattle.price_workers.proofs.Taken.{without_tree-at}
 use Rattle.price_workers.proofs.TurnFacts.{route_pieces}
 use Rattle.routing_passes.specs.Histories.{nets_history}
 use Rattle.routing_passes.specs.Passes.{Pass, HasRead, ServesTurns, all_load, old_load, old_sets, pass_nets, turns_start}
-use Rattle.routing_passes.specs.PassTurns.{AreTurns, HadTurns, IsMidway, IsPassTurn, IsWithinPart, load_in_turns, new_load, start_of}
+use Rattle.routing_passes.specs.PassTurns.{AreTurns, HadTurns, IsMidway, IsPassTurn, IsWithinPart}
+use Rattle.routing_passes.specs.PassTurns.{load_in_turns, new_load, start_of}
 use Rattle.routing_passes.proofs.Parts.{stretch_start-from}
 use Rattle.routing_passes.proofs.Ranges.{until, until-below, until-from, until-all}
 use Rattle.routing_passes.proofs.Readings.{nets_history-begins, nets_history-goes_on, parts_history-one}
 use Rattle.routing_passes.proofs.Slices.{At-seam, slice-cons, slice-first, slice-last, slice-rest}
-use Rattle.routing_passes.proofs.Sums.{load_between-here, load_between-next, load_between-none, load_between-split, load_on-behind_push}
+use Rattle.routing_passes.proofs.Sums.{load_between-here, load_between-next, load_between-none, load_between-split}
+use Rattle.routing_passes.proofs.Sums.{load_on-behind_push}
 use Rattle.routing_passes.proofs.TreeLimits.{tree_load-within}
 use Rattle.routing_passes.proofs.TurnSteps.{AreTurns-none, AreTurns-push, AreTurns-reread, first_turn}
 
 -- what a worker sees are loads of its grid
 seen_are_loads : {g : Grid} {table : TableId} {w : Worker} → WorksOn g table w → IsLoadList g (seen_loads w)
-seen_are_loads {w = w} works = subst (λ (h : Grid). IsLoadList h (seen_loads w)) works.on_grid w.kept.kept.loaded
+seen_are_loads {w} works = subst (λ (h : Grid). IsLoadList h (seen_loads w)) works.on_grid w.kept.kept.loaded
 
 works-kept : {g : Grid} {table : TableId} {old new : Worker} → KeepsWork old new → WorksOn g table old → WorksOn g table new
 works-kept kept works = record { on_grid = kept.grid ∙ works.on_grid; on_table = kept.table ∙ works.on_table }
@@ -59,7 +61,7 @@ zeros_are_loads g = record { long = length-replicate (entries g) 0; within = λ 
 -- the loads without a set are loads
 without_loads : {g : Grid} (width : ℕ) (before : List Piece) (loads : List ℕ) → IsLoadList g loads
     → IsLoadList g (without_tree g width before loads)
-without_loads {g = g} width before loads are = record {
+without_loads {g} width before loads are = record {
   long = length-map-range_with_len (λ r. slice_index loads r - tree_load g width before r) 0 (length loads) ∙ are.long;
   within = λ r. omega (arith, without_tree-at g width before loads r, are.within r);
 }
@@ -248,7 +250,7 @@ module _ {p : Pass} {worker turn : ℕ} {first : Holding} {n : NetSpec} {before 
   -- after the turn
   pub reprice_in_part : {at : ℕ} {new : Worker} → 0 < p.workers → at ≡ turn - turns_start p worker
       → IsRepriced p.design.grid n at before w new → KeepsWork w new → IsWithinPart p worker first (turn + 1) (turn + 1) new
-  reprice_in_part {at = at} {new = new} some place priced kept =
+  reprice_in_part {at} {new} some place priced kept =
       let g : Grid = p.design.grid in
       let a : ℕ = turns_start p worker in
       let low : a ≤ turn = within.turns.before in
@@ -285,7 +287,8 @@ module _ {p : Pass} {worker turn : ℕ} {first : Holding} {n : NetSpec} {before 
             let going : (turn + 1 - a) % nets_per_reading ≢ 0 = λ ends. omega (arith, low, inside, ends) in
             let same : start_of p worker (turn + 1) ≡ s = omega (arith, low, going) in
             let few : s - a ≤ length sets = omega (arith, within.turns.long, from, to) in
-            let long : length (drop (s - a) sets) ≡ turn - s = length-drop (s - a) sets ∙ omega (arith, within.turns.long, from, to) in
+            let long : length (drop (s - a) sets) ≡ turn - s =
+            length-drop (s - a) sets ∙ omega (arith, within.turns.long, from, to) in
             record {
               refreshed = priced.counted.refreshed;
               since = priced.counted.since ∙ omega (arith, mid.since, going, low);
@@ -304,7 +307,8 @@ module _ {p : Pass} {worker turn : ℕ} {first : Holding} {n : NetSpec} {before 
   may_repair most inside few = record {
     refreshed = mid.refreshed;
     few = omega (arith, mid.since);
-    room = λ r. omega (arith, within.shares r, within.few r, serves.few r, serves.allot, within.allot, within.turns.long, inside, few);
+    room = λ r.
+        omega (arith, within.shares r, within.few r, serves.few r, serves.allot, within.allot, within.turns.long, inside, few);
   }
 
 -- before the first turn of its part
@@ -313,7 +317,7 @@ pub begins_turns : {p : Pass} {worker : ℕ} {first : Holding} {w : Worker}
     → trees_of w ≡ slice_range (old_sets p) (turns_start p worker) (turns_start p (worker + 1))
     → worked_grid w ≡ p.design.grid → worked_scale w ≡ p.scale → worked_budget w ≡ p.budget
     → IsWithinPart p worker first (turns_start p worker) (turns_start p worker) w
-begins_turns {p = p} {worker = worker} held on_table olds grid scale budgeted =
+begins_turns {p} {worker} held on_table olds grid scale budgeted =
     let a : ℕ = turns_start p worker in
     let g : Grid = p.design.grid in
     let read : ℕ → List ℕ = λ k. replicate (entries g) 0 in
@@ -339,7 +343,7 @@ begins_turns {p = p} {worker = worker} held on_table olds grid scale budgeted =
 pub ends_turns : {p : Pass} {worker : ℕ} {first : Holding} {w : Worker} → first.table ≡ p.table
     → IsWithinPart p worker first (turns_start p (worker + 1)) (turns_start p (worker + 1)) w
     → HadTurns p worker (worker + 1) first (held_share w) (trees_of w)
-ends_turns {p = p} {worker = worker} {w = w} on_table within =
+ends_turns {p} {worker} {w} on_table within =
     let b : ℕ = turns_start p (worker + 1) in
     let one : worker + 1 - worker ≡ 1 = omega arith in
     let all : trees_of w ≡ within.sets = within.trees ∙ rw (sub_self b, append-nil) in

@@ -122,7 +122,7 @@ module _ {p : Pass} (phase : IsPhase p) where
   phase_turn : {trees : List (List Piece)} {worker position : ℕ} {seen read : List ℕ}
       → IsInPart p.workers (length p.design.nets) worker position → IsPassTurn p trees worker position seen read
       → IsTurn p.design p.workers p.budget p.earlier trees worker position seen read
-  phase_turn {trees = trees} {worker = worker} {position = position} part turn =
+  phase_turn {trees} {worker} {position} part turn =
       let d : Design = p.design in
       let n : ℕ = length d.nets in
       let within : position + 1 ≤ n =
@@ -206,9 +206,10 @@ module _ {p : Pass} {old new : Holding} {sets : List (List Piece)} (phase : IsPh
           turns = λ j position w trees at part. ⊎_elim
               (λ first.
               let early : j < k = slice_get_within phases j trees first in
-              let same : take j (phases ++ sets ∷ []) ≡ take j phases = take-append-le j phases (sets ∷ []) (omega (arith, early)) in
-              rw (same, until-below k before.run.seen (λ i. had.seen) j early, until-below k before.run.read (λ i. had.read) j early)
-              (before.run.turns j position w trees first part))
+              let same : take j (phases ++ sets ∷ []) ≡ take j phases =
+              take-append-le j phases (sets ∷ []) (omega (arith, early)) in
+              rw (same, until-below k before.run.seen (λ i. had.seen) j early)
+              (rw (until-below k before.run.read (λ i. had.read) j early) (before.run.turns j position w trees first part)))
               (λ last.
               let now : k ≤ j = omega (arith, last.0) in
               rw (until-from k before.run.seen (λ i. had.seen) j now, until-from k before.run.read (λ i. had.read) j now)
@@ -241,7 +242,7 @@ module _ {p : Pass} {old new : Holding} {sets : List (List Piece)} (phase : IsPh
 -- before the first phase
 pub run_begins : {d : Design} {workers : ℕ} {budget : Option ℕ} {table : TableId} {share : Holding} → 1 ≤ workers
     → share ≡ held table (first_party table.words) → IsRunSoFar d workers budget table share []
-run_begins {d = d} {table = table} some first = record {
+run_begins {d} {table} some first = record {
   recorded = record {
     run = record {
       some = some;

@@ -63,8 +63,8 @@ loop-i-preserved c =
     let net_stands = at_positions-at d.nets ks i k net c.requires.positions now.1 now.2 in
     let set_stands = at_positions-at c.args.trees.now ks i k tree
     (λ j e short. omega (arith, c.requires.positions j e short, c.requires.sets.long)) now.1 stands in
-    let more = λ (r : ℕ). load_between-next d.grid (at_positions d.nets ks) (at_positions c.args.trees.now ks) c.args.from i net tree
-    r net_stands set_stands c.loop-i.auto.i in
+    let more = λ (r : ℕ). load_between-next d.grid (at_positions d.nets ks) (at_positions c.args.trees.now ks) c.args.from i
+    net tree r net_stands set_stands c.loop-i.auto.i in
     record {
       loads = λ r. omega (arith, c.add_tree.ensures.loads r, c.loop-i.invariant.loads r, more r);
       limit = λ r. omega (arith, c.add_tree.ensures.limit r, c.loop-i.invariant.limit r, c.loop-i.auto.i);

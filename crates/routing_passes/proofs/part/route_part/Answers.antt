@@ -25,7 +25,8 @@ due : (g : _) (c : After-read_if g) → IsReady (pass_of c.args.design.now c.arg
     (get_or c.as_slice-positions.result.now c.loop-turn.turn 0) c.read_if.new.worker
 due g c =
     ready c.requires.pass c.requires.worker c.requires.share c.as_slice-positions.ensures.value
-    (turns_begin c.args.worker c.requires.pass c.turns_of-from.ensures.from) (turns_begin (c.args.worker + 1) c.requires.pass c.turns_of-from.ensures.to)
+    (turns_begin c.args.worker c.requires.pass c.turns_of-from.ensures.from)
+    (turns_begin (c.args.worker + 1) c.requires.pass c.turns_of-from.ensures.to)
     (omega (arith, c.loop-turn-test.true, c.loop-turn.auto.turn-end)) c.read_if.ensures.read c.read_if.ensures.same
     c.read_if.ensures.work c.loop-turn.invariant
 

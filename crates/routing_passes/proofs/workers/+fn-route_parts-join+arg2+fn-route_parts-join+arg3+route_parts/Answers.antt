@@ -6,7 +6,8 @@ pub join-requires : goal.join-requires
 join-requires g t c =
     let left = rw c.in_ok-share.was at c.join-left.ensures.first in
     let right = rw c.in_ok-behind.was at c.join-left.ensures.second in
-    record { table = (left.table ∙ c.in_ok-given.ensures.halves.kept.table, right.table ∙ c.in_ok-given.ensures.halves.given.table) }
+    let halves = c.in_ok-given.ensures.halves in
+    record { table = (left.table ∙ halves.kept.table, right.table ∙ halves.given.table) }
 
 pub returns : goal.returns
 returns g t c =

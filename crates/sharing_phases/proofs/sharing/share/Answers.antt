@@ -26,8 +26,8 @@ returns-clause-whole g c =
       some = omega (arith, c.in_ok-share.ensures.count, c.requires.settings.some_phases);
       few = omega (arith, c.in_ok-share.ensures.count, c.requires.settings.phases);
       routings = run.routings;
-      loads = now.1 ∙ fill_by_all (phases_load d.grid d.nets c.in_ok-share.phases.items) c.write_shares.new.loads (entries d.grid) 0
-          now.0 (λ r within. rw c.write_shares.ensures.shares (run.loads r within));
+      loads = now.1 ∙ fill_by_all (phases_load d.grid d.nets c.in_ok-share.phases.items) c.write_shares.new.loads (entries d.grid)
+          0 now.0 (λ r within. rw c.write_shares.ensures.shares (run.loads r within));
       prices = ap length (written c.in_ok-list.list.len c.prices.new.out c.in_ok-list.list.items
           (omega (arith, c.in_ok-list.ensures.len, c.prices.ensures.list.long, now.0, c.write_shares.ensures.long)))
           ∙ c.prices.ensures.list.long;
