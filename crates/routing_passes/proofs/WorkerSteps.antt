@@ -66,6 +66,10 @@ without_loads {g} width before loads are = record {
   within = λ r. omega (arith, without_tree-at g width before loads r, are.within r);
 }
 
+-- what a worker sees without the set of a net
+abbrev seen_without : Pass → NetSpec → List Piece → Worker → List ℕ
+seen_without p n before w = without_tree p.design.grid n.width before (seen_loads w)
+
 -- a worker before a turn, and when it has read where it has to
 module _ {p : Pass} {worker turn : ℕ} {first : Holding} {old new : Worker} (kept : KeepsWork old new)
     (w : IsWithinPart p worker first turn turn old) where
@@ -190,29 +194,28 @@ module _ {p : Pass} {worker turn : ℕ} {first : Holding} {n : NetSpec} {before 
     pieces = of.pieces;
     had = λ r. ⊎_elim
         (λ (inside : r < entries p.design.grid). omega (arith, within.shares r, serves.loads r inside, old_load-parted r))
-        (λ (beyond : entries p.design.grid ≤ r). omega
-        (arith, tree_load-beyond p.design.grid n.width before r of.pieces beyond))
+        (λ (beyond : entries p.design.grid ≤ r).
+        rw (tree_load-beyond p.design.grid n.width before r of.pieces beyond) (omega arith))
         (cases_lt r (entries p.design.grid));
   }
 
   -- without it less is seen
-  less : (r : ℕ) → slice_index (without_tree p.design.grid n.width before (seen_loads w)) r
-      + tree_load p.design.grid n.width before r ≡ slice_index (seen_loads w) r
+  less : (r : ℕ)
+      → slice_index (seen_without p n before w) r + tree_load p.design.grid n.width before r ≡ slice_index (seen_loads w) r
   less r = omega (arith, without_tree-at p.design.grid n.width before (seen_loads w) r, still_had.had r, close r)
 
   -- the turn, by what is seen then
   seen_turn : (all : List (List Piece)) (tree : List Piece)
-      → IsStep p.design.grid n (without_tree p.design.grid n.width before (seen_loads w)) (worked_scale w) (worked_budget w) tree
+      → IsStep p.design.grid n (seen_without p n before w) (worked_scale w) (worked_budget w) tree
       → slice_range all (turns_start p worker) (turn + 1) ≡ within.sets ++ tree ∷ []
-      → IsPassTurn p all worker turn (without_tree p.design.grid n.width before (seen_loads w))
-      (within.read (start_of p worker turn))
+      → IsPassTurn p all worker turn (seen_without p n before w) (within.read (start_of p worker turn))
   seen_turn all tree step here =
       let g : Grid = p.design.grid in
       let nets : List NetSpec = pass_nets p in
       let a : ℕ = turns_start p worker in
       let start : ℕ = start_of p worker turn in
       let sets : List (List Piece) = within.sets in
-      let now : List ℕ = without_tree g n.width before (seen_loads w) in
+      let now : List ℕ = seen_without p n before w in
       let low : a ≤ turn = within.turns.before in
       let from : a ≤ start = stretch_start-from a turn low in
       let to : start ≤ turn = stretch_start-le a turn low in
@@ -233,16 +236,7 @@ module _ {p : Pass} {worker turn : ℕ} {first : Holding} {n : NetSpec} {before 
         alone = λ one r inside.
             let none : a ≡ 0 = first_turn p.workers (length nets) worker turn one of.part in
             subst (λ k. slice_index now r + old_load p k (turn + 1) r ≡ all_load p r + load_in_turns p all k turn r) none
-            (rw (fronts r) (omega (
-              arith,
-              less r,
-              close r,
-              within.allot,
-              serves.whole one,
-              serves.alone one r inside,
-              within.shares r,
-              old_load-next a r low,
-            )));
+            (rw (fronts r) (omega (arith, less r, close r, serves.alone one r inside, within.shares r, old_load-next a r low)));
         beside = λ more r inside. rw (fronts r)
             (omega (arith, less r, close r, within.shares r, serves.loads r inside, old_load-parted r));
       }
@@ -269,9 +263,9 @@ module _ {p : Pass} {worker turn : ℕ} {first : Holding} {n : NetSpec} {before 
       record {
         sets = sets ++ tree ∷ [];
         read = within.read;
-        seen = until turn within.seen (λ k. without_tree g n.width before (seen_loads w));
-        turns = AreTurns-push tree (without_tree g n.width before (seen_loads w)) some of.part
-            (λ all here. seen_turn all tree priced.step here) within.turns;
+        seen = until turn within.seen (λ k. seen_without p n before w);
+        turns = AreTurns-push tree (seen_without p n before w) some of.part (λ all here. seen_turn all tree priced.step here)
+            within.turns;
         trees = rw (priced.trees, at_own_place, place, ← within.turns.long, set-append_seam, append_assoc);
         history = ap (λ (q : Party). q.history) party ∙ within.history;
         allot = ap (λ (q : Party). q.allot) party ∙ within.allot;
@@ -287,18 +281,13 @@ module _ {p : Pass} {worker turn : ℕ} {first : Holding} {n : NetSpec} {before 
             let going : (turn + 1 - a) % nets_per_reading ≢ 0 = λ ends. omega (arith, low, inside, ends) in
             let same : start_of p worker (turn + 1) ≡ s = omega (arith, low, going) in
             let few : s - a ≤ length sets = omega (arith, within.turns.long, from, to) in
-            let long : length (drop (s - a) sets) ≡ turn - s =
-            length-drop (s - a) sets ∙ omega (arith, within.turns.long, from, to) in
+            let later = λ (r : ℕ). new_load-push s (drop (s - a) sets) tree r to
+            (length-drop (s - a) sets ∙ omega (arith, within.turns.long, from, to)) in
             record {
               refreshed = priced.counted.refreshed;
               since = priced.counted.since ∙ omega (arith, mid.since, going, low);
-              sees = λ r. rw (same, drop-append-le (s - a) sets (tree ∷ []) few) (omega (
-                arith,
-                gained r,
-                mid.sees r,
-                old_load-next s r to,
-                new_load-push s (drop (s - a) sets) tree r to long,
-              ));
+              sees = λ r. rw (same, drop-append-le (s - a) sets (tree ∷ []) few)
+                  (omega (arith, gained r, mid.sees r, old_load-next s r to, later r));
             };
       }
 
