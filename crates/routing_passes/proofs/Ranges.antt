@@ -27,10 +27,6 @@ pub flat_map-more : {A : Type 0} (f : ℕ → List A) (a n : ℕ)
     → flat_map f (range_with_len a (n + 1)) ≡ flat_map f (range_with_len a n) ++ f (a + n)
 flat_map-more f a n = flat_map-split f a n 1 ∙ ap (λ last. flat_map f (range_with_len a n) ++ last) (append-nil (f (a + n)))
 
--- along a range of one
-pub flat_map-one : {A : Type 0} (f : ℕ → List A) (a : ℕ) → flat_map f (range_with_len a 1) ≡ f a
-flat_map-one f a = append-nil (f a)
-
 -- two functions that agree along the range
 pub flat_map-same : {A : Type 0} (f g : ℕ → List A) (a n : ℕ) → ((i : ℕ) → a ≤ i → i < a + n → f i ≡ g i)
     → flat_map f (range_with_len a n) ≡ flat_map g (range_with_len a n)

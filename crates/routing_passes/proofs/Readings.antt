@@ -1,10 +1,12 @@
 -- Histories: a reading more, and those of parts side by side.
 use Rattle.std.proofs.Common.{◌≡◌, ◌≢◌, ℕ, ◌+◌, ◌-◌, ◌*◌, ◌%◌, ◌≤◌, ◌<◌, List, ◌++◌, ap, arith}
+use Rattle.std.proofs.lemmas.List.{append-nil}
+use Rattle.load_core.specs.declared.loaded.Loaded.{Loaded}
 use Rattle.price_workers.specs.Readings.{loads_of_reading}
 use Rattle.sharing_runs.specs.Parts.{part_start, nets_per_reading}
 use Rattle.routing_passes.specs.Histories.{stretches, nets_history, part_history, parts_history}
 use Rattle.even_parts.proofs.PartStarts.{part_start-le}
-use Rattle.routing_passes.proofs.Ranges.{flat_map-more, flat_map-split, flat_map-one, flat_map-same, until, until-below}
+use Rattle.routing_passes.proofs.Ranges.{flat_map-more, flat_map-split, flat_map-same, until, until-below}
 use Rattle.routing_passes.proofs.Ranges.{until-from}
 
 -- the readings of nets are those at the positions of these nets
@@ -41,16 +43,14 @@ pub parts_history-append : (workers nets : ℕ) (f g : ℕ → List ℕ) (first 
 parts_history-append workers nets f g first middle last some low high =
     let m : ℕ = part_start workers nets middle in
     let both : ℕ → List ℕ = until m f g in
-    let start : ℕ → ℕ = part_start workers nets in
-    let later : (v w : ℕ) → v ≤ w → start v ≤ start w = λ v w order. part_start-le workers nets v w some order in
-    let before : (w : ℕ) → first ≤ w → w < first + (middle - first)
-    → part_history workers nets both w ≡ part_history workers nets f w =
-    λ w from end. nets_history-same both f (start w) (start (w + 1) - start w) (λ k here short. until-below m f g k
-    (omega (arith, short, later w (w + 1) (omega arith), later (w + 1) middle (omega (arith, end, low))))) in
-    let behind : (w : ℕ) → middle ≤ w → w < middle + (last - middle)
-    → part_history workers nets both w ≡ part_history workers nets g w =
-    λ w from end. nets_history-same both g (start w) (start (w + 1) - start w) (λ k here short. until-from m f g k
-    (omega (arith, here, later middle w from))) in
+    let part : (ℕ → List ℕ) → ℕ → List Loaded = part_history workers nets in
+    let rises = λ (v w : ℕ) (order : v ≤ w). part_start-le workers nets v w some order in
+    let before : (w : ℕ) → first ≤ w → w < first + (middle - first) → part both w ≡ part f w =
+    λ w from end. nets_history-same both f (part_start workers nets w) _ (λ k here short. until-below m f g k
+    (omega (arith, short, rises w (w + 1) (omega arith), rises (w + 1) middle (omega (arith, end, low))))) in
+    let behind : (w : ℕ) → middle ≤ w → w < middle + (last - middle) → part both w ≡ part g w =
+    λ w from end. nets_history-same both g (part_start workers nets w) _ (λ k here short. until-from m f g k
+    (omega (arith, here, rises middle w from))) in
     let long : last - first ≡ (middle - first) + (last - middle) = omega (arith, low, high) in
     let seam : first + (middle - first) ≡ middle = omega (arith, low) in
     rw (long, flat_map-split, seam, flat_map-same _ _ _ _ before, flat_map-same _ _ _ _ behind)
@@ -58,4 +58,4 @@ parts_history-append workers nets f g first middle last some low high =
 -- the part of one worker
 pub parts_history-one : (workers nets : ℕ) (f : ℕ → List ℕ) (worker : ℕ)
     → parts_history workers nets f worker 1 ≡ part_history workers nets f worker
-parts_history-one workers nets f worker = flat_map-one (part_history workers nets f) worker
+parts_history-one workers nets f worker = append-nil (part_history workers nets f worker)

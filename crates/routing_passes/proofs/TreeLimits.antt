@@ -1,16 +1,15 @@
 -- How much a set of pieces can put on one entry.
-use Rattle.std.proofs.Common.{◌≡◌, ℕ, ◌+◌, ◌-◌, ◌≤◌, Bool, true, false, cond, ◌==◌, length, List, slice_index, slice_set, arith}
+use Rattle.std.proofs.Common.{ℕ, ◌≤◌, Bool, true, false, cond, ◌==◌, length, List, arith}
 use Rattle.std.proofs.Math.Nat.{max-le}
 use Rattle.grid_base.specs.declared.piece.Piece.{Piece}
 use Rattle.grid_base.specs.Numbers.{layer_of, edge_start}
 use Rattle.grid_graph.specs.declared.grid.Grid.{Grid}
-use Rattle.grid_graph.specs.Grids.{demand_on, edge_numbers, entries, size_of, IsNetWidth}
+use Rattle.grid_graph.specs.Grids.{demand_on, edge_numbers, size_of, IsNetWidth}
 use Rattle.grid_graph.specs.Limits.{max_demand}
 use Rattle.tree_set.specs.Loads.{holds, max_tree_load, net_load, tree_load}
 use Rattle.tree_set.specs.Order.{IsRising}
 use Rattle.tree_set.specs.Routings.{ArePieces}
 use Rattle.tree_set.proofs.Counting.{length-pieces}
-use Rattle.sharing_runs.proofs.Kept.{tree_load-added}
 
 cond-within : (b : Bool) (x y most : ℕ) → x ≤ most → y ≤ most → cond b x y ≤ most
 cond-within true x y most first second = first
@@ -31,13 +30,3 @@ tree_load-within g width tree r fits rising pieces =
     cond-within (r == edge_numbers g) (length tree) (net_load g width tree r) max_tree_load
     (omega (arith, length-pieces (size_of g) tree rising pieces, (size_of g).within.vertex_limit))
     (cond-within (holds tree r) (demand_on g width r) 0 max_tree_load (demand-within g width r fits) (omega arith))
-
--- the last entry of a list of loads is the wirelength's
-pub tree_put : (g : Grid) (width : ℕ) (tree pieces : List Piece) (first loads : List ℕ) (r : ℕ) → pieces ≡ tree
-    → ArePieces (size_of g) tree → length loads ≡ entries g
-    → ((e : ℕ) → slice_index loads e ≡ slice_index first e + net_load g width tree e)
-    → slice_index (slice_set loads (length loads - 1) (slice_index loads (length loads - 1) + length pieces)) r
-    ≡ slice_index first r + tree_load g width tree r
-tree_put g width tree pieces first loads r same are long edges =
-    let last : edge_numbers g ≡ length loads - 1 = omega (arith, long) in
-    rw (same, ← last) (tree_load-added g width tree first loads r are long edges)

@@ -1,4 +1,4 @@
-use Rattle.std.proofs.Common.{◌<◌, ℕ, List, [], ◌∷◌, ◌++◌, length, get_or, slice_range, sym, ◌∙◌, ap, arith}
+use Rattle.std.proofs.Common.{◌<◌, ℕ, List, length, get_or, sym, arith}
 use Rattle.std.proofs.lemmas.Option.{slice_get-get_or}
 use Rattle.grid_base.specs.declared.piece.Piece.{Piece}
 use Rattle.grid_base.specs.Lists.{At}
@@ -18,7 +18,5 @@ loop-i-preserved c =
     let stands : At trees k t = At-read trees k t c.index-trees-positions.is (c.requires.positions i 0 short) in
     let here : At (at_positions trees ks) i t =
     at_positions-at trees ks i k t c.requires.positions (slice_get-get_or ks i 0 short) stands in
-    c.in_ok-push.ensures.items
-    ∙ ap (λ l. l ++ c.in_ok-copy.field-0 ∷ []) c.loop-i.invariant
-    ∙ ap (λ x. slice_range (at_positions trees ks) c.args.from i ++ x ∷ []) c.in_ok-copy.ensures.same
-    ∙ sym (slice-push (at_positions trees ks) c.args.from i t here c.loop-i.auto.i)
+    rw (c.in_ok-push.ensures.items, c.loop-i.invariant, c.in_ok-copy.ensures.same)
+    (sym (slice-push (at_positions trees ks) c.args.from i t here c.loop-i.auto.i))

@@ -15,9 +15,9 @@ pub loop-turn-init : goal.loop-turn-init
 loop-turn-init g c =
     let start = turns_begin c.args.worker c.requires.pass c.turns_of-from.ensures.from in
     let end = turns_begin (c.args.worker + 1) c.requires.pass c.turns_of-from.ensures.to in
-    let olds = rw (c.as_slice-positions.ensures.value, start, end) at c.in_ok-sets.ensures.sets in
-    rw start (begins_turns c.in-Ok.ensures.share c.requires.share.table (c.in-Ok.ensures.trees ∙ olds) c.in-Ok.ensures.grid
-    c.in-Ok.ensures.scale c.in-Ok.ensures.budget)
+    let olds = rw (c.as_slice-positions.ensures.value, start, end) at (c.in-Ok.ensures.trees ∙ c.in_ok-sets.ensures.sets) in
+    rw start (begins_turns c.in-Ok.ensures.share c.requires.share.table olds c.in-Ok.ensures.grid c.in-Ok.ensures.scale
+    c.in-Ok.ensures.budget)
 
 -- the worker's next turn is due
 due : (g : _) (c : After-read_if g) → IsReady (pass_of c.args.design.now c.args.grounds.now c.args.table.now c.args.earlier.now
