@@ -69,8 +69,7 @@ pub ready : {p : Pass} {worker turn from to : ℕ} {first : Holding} {found : Li
     → ((turn - from) % nets_per_reading == 0 ≡ false → IsUnchanged old new) → KeepsWork old new
     → IsWithinPart p worker first turn turn old
     → IsReady p worker first turn from (get_or found turn 0) new
-ready {p} {worker} {turn} {from} {first} {new} pass exists serves same start end before
-    read unchanged kept w =
+ready {p} {worker} {turn} {from} {first} {new} pass exists serves same start end before read unchanged kept w =
     let nets : ℕ = length (pass_nets p) in
     let part : IsInPart p.workers nets worker turn =
     record { worker_exists = exists; from = w.turns.before; before = omega (arith, before, end) } in

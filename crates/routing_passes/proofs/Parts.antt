@@ -2,7 +2,7 @@
 use Rattle.std.proofs.Common.{◌≡◌, ℕ, zero, suc, ◌+◌, ◌≤◌, ◌<◌, subst, arith, ⊎_elim}
 use Rattle.std.proofs.lemmas.Bool.{cases_lt}
 use Rattle.even_parts.proofs.PartStarts.{first_start, part_start-le, part_start-within}
-use Rattle.sharing_runs.specs.Parts.{part_start, stretch_start, IsInPart}
+use Rattle.sharing_runs.specs.Parts.{part_start, IsInPart}
 
 -- a position behind the begin of a part is in no earlier part
 pub not_earlier : (workers nets k worker position : ℕ) → 0 < workers → part_start workers nets k ≤ position
@@ -18,10 +18,6 @@ pub one_part : (workers nets a b position : ℕ) → 0 < workers → IsInPart wo
 one_part workers nets a b position some first second =
     let low : a ≤ b = not_earlier workers nets a b position some first.from second in
     omega (arith, low, not_earlier workers nets b a position some second.from first)
-
--- a stretch begins in its part
-pub stretch_start-from : (part position : ℕ) → part ≤ position → part ≤ stretch_start part position
-stretch_start-from part position behind = omega arith
 
 -- a net of a part is one of the design's
 pub in_design : (workers nets worker position : ℕ) → 0 < workers → worker < workers

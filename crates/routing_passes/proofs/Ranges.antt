@@ -1,5 +1,5 @@
 -- Lists that are made along a range of numbers, and functions that change at a number.
-use Rattle.std.proofs.Common.{◌≡◌, ℕ, zero, suc, ◌+◌, ◌≤◌, ◌<◌, List, ◌∷◌, ◌++◌, cond, ltb, refl, sym, ◌∙◌, ap, subst, arith}
+use Rattle.std.proofs.Common.{◌≡◌, ℕ, zero, suc, ◌+◌, ◌≤◌, ◌<◌, List, ◌++◌, cond, ltb, refl, sym, ◌∙◌, ap, subst, arith}
 use Rattle.std.proofs.Common.{⊎_elim}
 use Rattle.std.specs.List.{flat_map, range_with_len}
 use Rattle.std.proofs.lemmas.Bool.{cases_lt, cond_below, cond_above}
@@ -10,11 +10,9 @@ use Rattle.std.proofs.lemmas.List.{append-nil}
 pub range-append : (a n m : ℕ) → range_with_len a n ++ range_with_len (a + n) m ≡ range_with_len a (n + m)
 range-append a zero m = ap (λ b. range_with_len b m) (omega arith) ∙ ap (λ k. range_with_len a k) (omega arith)
 range-append a (suc n) m =
-    let inner : (a + 1) + n ≡ a + suc n = omega arith in
+    let inner : a + suc n ≡ (a + 1) + n = omega arith in
     let long : suc n + m ≡ suc (n + m) = omega arith in
-    ap (λ b. a ∷ (range_with_len (a + 1) n ++ range_with_len b m)) (sym inner)
-    ∙ ap (λ rest. a ∷ rest) (range-append (a + 1) n m)
-    ∙ ap (λ k. range_with_len a k) (sym long)
+    rw (long, inner, range-append (a + 1) n m)
 
 -- what f gives along a range, and along the range behind it
 pub flat_map-split : {A : Type 0} (f : ℕ → List A) (a n m : ℕ)

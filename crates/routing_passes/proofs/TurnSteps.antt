@@ -6,8 +6,7 @@ use Rattle.grid_base.specs.declared.piece.Piece.{Piece}
 use Rattle.edge_prices.specs.Vectors.{IsLoadList}
 use Rattle.sharing_runs.specs.Parts.{part_start, IsInPart}
 use Rattle.even_parts.proofs.PartStarts.{first_start, part_start-le}
-use Rattle.sharing_runs.proofs.Turns.{stretch_start-le}
-use Rattle.routing_passes.proofs.Parts.{not_earlier, one_part, stretch_start-from}
+use Rattle.routing_passes.proofs.Parts.{not_earlier, one_part}
 use Rattle.routing_passes.proofs.Ranges.{until, until-below, until-from, until-all}
 use Rattle.routing_passes.proofs.Slices.{slice-first, slice-second}
 use Rattle.routing_passes.specs.Passes.{Pass, pass_nets, turns_start}
@@ -27,13 +26,13 @@ AreTurns-none p a read loads = record {
 pub AreTurns-reread : {p : Pass} {a b : ℕ} {sets : List (List Piece)} {read seen new : ℕ → List ℕ}
     → ((start : ℕ) → start < b → new start ≡ read start) → ((start : ℕ) → IsLoadList p.design.grid (new start))
     → AreTurns p a b sets read seen → AreTurns p a b sets new seen
-AreTurns-reread {p} same loads old = record {
+AreTurns-reread {p} {b = b} same loads old = record {
   before = old.before;
   long = old.long;
   read_loads = loads;
   turns = λ all turn worker here low high part.
-      let within : start_of p worker turn ≤ turn = stretch_start-le (turns_start p worker) turn part.from in
-      rw (same (start_of p worker turn) (omega (arith, within, high))) (old.turns all turn worker here low high part);
+      let within : start_of p worker turn < b = omega (arith, part.from, high) in
+      rw (same (start_of p worker turn) within) (old.turns all turn worker here low high part);
 }
 
 -- the first worker alone has all turns
@@ -78,13 +77,13 @@ AreTurns-append {p} {a} {b} {s} {t} {read} {seen} {read'} {seen'} middle some fi
       read_loads = until-all (λ (l : List ℕ). IsLoadList p.design.grid l) m read read' first.read_loads second.read_loads;
       turns = λ all k w here low high part. ⊎_elim
           (λ (early : k < m).
-          let within : start_of p w k < m = omega (arith, early, stretch_start-le (turns_start p w) k part.from) in
+          let within : start_of p w k < m = omega (arith, early, part.from) in
           rw (until-below m seen seen' k early, until-below m read read' (start_of p w k) within)
           (first.turns all k w (slice-first all s t a m b here first.long second.before) low early part))
           (λ (late : m ≤ k).
           let mine : m ≤ turns_start p w = part_start-le p.workers (length (pass_nets p)) middle w some
           (not_earlier p.workers (length (pass_nets p)) middle w k some late part) in
-          let behind : m ≤ start_of p w k = omega (arith, mine, stretch_start-from (turns_start p w) k part.from) in
+          let behind : m ≤ start_of p w k = omega (arith, mine) in
           rw (until-from m seen seen' k late, until-from m read read' (start_of p w k) behind)
           (second.turns all k w (slice-second all s t a m b here first.long first.before second.before) late high part))
           (cases_lt k m);

@@ -25,7 +25,6 @@ use Rattle.tree_set.specs.Routings.{ArePieces}
 use Rattle.sharing_runs.specs.NetSteps.{IsStep}
 use Rattle.sharing_runs.specs.Parts.{nets_per_reading, IsInPart}
 use Rattle.sharing_runs.proofs.Between.{load_on-none}
-use Rattle.sharing_runs.proofs.Turns.{stretch_start-le}
 use Rattle.price_workers.specs.declared.worker.Worker.{Worker}
 use Rattle.price_workers.specs.Readings.{after_reading, AreCloseTo}
 use Rattle.price_workers.specs.TreeLoads.{without_tree, HoldsTree}
@@ -38,7 +37,6 @@ use Rattle.routing_passes.specs.Histories.{nets_history}
 use Rattle.routing_passes.specs.Passes.{Pass, HasRead, ServesTurns, all_load, old_load, old_sets, pass_nets, turns_start}
 use Rattle.routing_passes.specs.PassTurns.{AreTurns, HadTurns, IsMidway, IsPassTurn, IsWithinPart}
 use Rattle.routing_passes.specs.PassTurns.{load_in_turns, new_load, start_of}
-use Rattle.routing_passes.proofs.Parts.{stretch_start-from}
 use Rattle.routing_passes.proofs.Ranges.{until, until-below, until-from, until-all}
 use Rattle.routing_passes.proofs.Readings.{nets_history-begins, nets_history-goes_on, parts_history-one}
 use Rattle.routing_passes.proofs.Slices.{At-seam, slice-cons, slice-first, slice-last, slice-rest}
@@ -217,8 +215,8 @@ module _ {p : Pass} {worker turn : ℕ} {first : Holding} {n : NetSpec} {before 
       let sets : List (List Piece) = within.sets in
       let now : List ℕ = seen_without p n before w in
       let low : a ≤ turn = within.turns.before in
-      let from : a ≤ start = stretch_start-from a turn low in
-      let to : start ≤ turn = stretch_start-le a turn low in
+      let from : a ≤ start = omega (arith, low) in
+      let to : start ≤ turn = omega (arith, low) in
       let front : slice_range all a turn ≡ sets =
       slice-first all sets (tree ∷ []) a turn (turn + 1) here within.turns.long (omega arith) in
       let rest : slice_range all start turn ≡ drop (start - a) sets =
@@ -276,8 +274,8 @@ module _ {p : Pass} {worker turn : ℕ} {first : Holding} {n : NetSpec} {before 
         budgeted = kept.budget ∙ within.budgeted;
         midway = λ inside.
             let s : ℕ = start_of p worker turn in
-            let from : a ≤ s = stretch_start-from a turn low in
-            let to : s ≤ turn = stretch_start-le a turn low in
+            let from : a ≤ s = omega (arith, low) in
+            let to : s ≤ turn = omega (arith, low) in
             let going : (turn + 1 - a) % nets_per_reading ≢ 0 = λ ends. omega (arith, low, inside, ends) in
             let same : start_of p worker (turn + 1) ≡ s = omega (arith, low, going) in
             let few : s - a ≤ length sets = omega (arith, within.turns.long, from, to) in
