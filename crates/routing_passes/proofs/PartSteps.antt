@@ -48,7 +48,6 @@ routing_pieces g nets trees routing k e short =
 -- a worker's next turn is due: the net and its old set, and that the worker has that set and has read
 pub record IsReady (p : Pass) (worker : ℕ) (first : Holding) (turn from k : ℕ) (w : Worker) : Type 0 where
   pub place : turn - from ≡ turn - turns_start p worker
-  pub short : turn < length p.positions
   pub inside : k < length p.design.nets
   pub net : NetSpec
   pub stands : At p.design.nets k net
@@ -94,7 +93,6 @@ ready {p} {worker} {turn} {from} {first} {new} pass exists serves same start end
     let grounds : length p.grounds ≡ length p.design.nets = AllZip-long grounded p.design.nets p.grounds pass.grounds in
     rw same (record {
       place = ap (λ k. turn - k) start;
-      short = short;
       inside = pass.nets turn 0 short;
       net = n.0;
       stands = n.1;

@@ -6,8 +6,7 @@ use Rattle.price_workers.specs.Readings.{loads_of_reading}
 use Rattle.sharing_runs.specs.Parts.{part_start, nets_per_reading}
 use Rattle.routing_passes.specs.Histories.{stretches, nets_history, part_history, parts_history}
 use Rattle.even_parts.proofs.PartStarts.{part_start-le}
-use Rattle.routing_passes.proofs.Ranges.{flat_map-more, flat_map-split, flat_map-same, until, until-below}
-use Rattle.routing_passes.proofs.Ranges.{until-from}
+use Rattle.routing_passes.proofs.Ranges.{flat_map-more, flat_map-split, flat_map-same, until, until-below, until-from}
 
 -- the readings of nets are those at the positions of these nets
 nets_history-same : (f g : ℕ → List ℕ) (start nets : ℕ) → ((k : ℕ) → start ≤ k → k < start + nets → f k ≡ g k)

@@ -1,15 +1,10 @@
-use Rattle.std.proofs.Common.{◌≡◌, ◌+◌, ◌-◌, length, get_or, ◌∙◌, ap, arith}
+use Rattle.std.proofs.Common.{◌≡◌, ◌+◌, ◌-◌, get_or, ◌∙◌, arith}
 use Rattle.std.proofs.lemmas.Option.{slice_get_within}
 use Rattle.routing_passes.specs.Passes.{pass_of, turns_start}
-use Rattle.routing_passes.proofs.PartSteps.{IsReady, ready, sets_within, turns_begin}
+use Rattle.routing_passes.proofs.PartSteps.{IsReady, ready, turns_begin}
 use Rattle.routing_passes.proofs.WorkerSteps.{begins_turns, ends_turns, reprice_in_part}
 use Rattle.routing_passes.proofs.part.route_part.Goals as goal
 use Rattle.routing_passes.proofs.part.route_part.Goals.{After-read_if}
-
-pub copies-requires-clause-positions : goal.copies-requires-clause-positions
-copies-requires-clause-positions g c =
-    let p = pass_of c.args.design.now c.args.grounds.now c.args.table.now c.args.earlier.now c.args.before.now c.args.plan.now in
-    rw c.as_slice-positions.ensures.value (sets_within p c.requires.pass)
 
 pub loop-turn-init : goal.loop-turn-init
 loop-turn-init g c =
@@ -29,14 +24,6 @@ due g c =
     (turns_begin (c.args.worker + 1) c.requires.pass c.turns_of-from.ensures.to)
     (omega (arith, c.loop-turn-test.true, c.loop-turn.auto.turn-end)) c.read_if.ensures.read c.read_if.ensures.same
     c.read_if.ensures.work c.loop-turn.invariant
-
-pub offset_bounds-positions-turn : goal.offset_bounds-positions-turn
-offset_bounds-positions-turn g c =
-    omega (arith, (due g (goal.at.offset_bounds-positions-turn g c).After-read_if).short, c.requires.pass.few)
-
-pub bounds-positions-turn : goal.bounds-positions-turn
-bounds-positions-turn g c =
-    omega (arith, (due g (goal.at.bounds-positions-turn g c).After-read_if).short, ap length c.as_slice-positions.ensures.value)
 
 pub bounds-grounds-net : goal.bounds-grounds-net
 bounds-grounds-net g c =

@@ -1,14 +1,7 @@
-use Rattle.std.proofs.Common.{◌∙◌, arith}
+use Rattle.std.proofs.Common.{arith}
 use Rattle.routing_passes.specs.Passes.{pass_of}
 use Rattle.routing_passes.proofs.PassSplits.{halves_joined}
 use Rattle.routing_passes.proofs.workers.+fn-route_parts-join+arg2+fn-route_parts-join+arg3+route_parts.Goals as goal
-
-pub join-requires : goal.join-requires
-join-requires g t c =
-    let left = rw c.in_ok-share.was at c.join-left.ensures.first in
-    let right = rw c.in_ok-behind.was at c.join-left.ensures.second in
-    let halves = c.in_ok-given.ensures.halves in
-    record { table = (left.table ∙ halves.kept.table, right.table ∙ halves.given.table) }
 
 pub returns : goal.returns
 returns g t c =
