@@ -74,8 +74,7 @@ ready {p} {worker} {turn} {from} {first} {new} pass exists serves same start end
     record { worker_exists = exists; from = w.turns.before; before = omega (arith, before, end) } in
     let within : IsWithinPart p worker first turn (turn + 1) new =
     read_either kept w (rw start at read) (rw start at unchanged) in
-    let short : turn < length p.positions = omega
-    (arith, count p pass, in_design p.workers nets worker turn pass.some exists part.before) in
+    let short : turn < length p.positions = omega (arith, count p pass, in_design pass.some part) in
     let k : ℕ = get_or p.positions turn 0 in
     let among : At p.positions turn k = slice_get-get_or p.positions turn 0 short in
     let n = stands p.design.nets k (pass.nets turn 0 short) in

@@ -1,29 +1,27 @@
--- The parts of the workers, and the stretches of a part.
+-- The parts of the workers.
 use Rattle.std.proofs.Common.{◌≡◌, ℕ, zero, suc, ◌+◌, ◌≤◌, ◌<◌, subst, arith, ⊎_elim}
 use Rattle.std.proofs.lemmas.Bool.{cases_lt}
 use Rattle.even_parts.proofs.PartStarts.{first_start, part_start-le, part_start-within}
 use Rattle.sharing_runs.specs.Parts.{part_start, IsInPart}
 
 -- a position behind the begin of a part is in no earlier part
-pub not_earlier : (workers nets k worker position : ℕ) → 0 < workers → part_start workers nets k ≤ position
+pub not_earlier : {workers nets worker position : ℕ} (k : ℕ) → 0 < workers → part_start workers nets k ≤ position
     → IsInPart workers nets worker position → k ≤ worker
-not_earlier workers nets k worker position some from part =
+not_earlier {workers} {nets} {worker} k some from part =
     let later : worker < k → part_start workers nets (worker + 1) ≤ part_start workers nets k =
     λ early. part_start-le workers nets (worker + 1) k some (omega (arith, early)) in
     grind (arith, from, part.before, later)
 
 -- each position is in one part
-pub one_part : (workers nets a b position : ℕ) → 0 < workers → IsInPart workers nets a position
+pub one_part : {workers nets a b position : ℕ} → 0 < workers → IsInPart workers nets a position
     → IsInPart workers nets b position → a ≡ b
-one_part workers nets a b position some first second =
-    let low : a ≤ b = not_earlier workers nets a b position some first.from second in
-    omega (arith, low, not_earlier workers nets b a position some second.from first)
+one_part {a} {b} some first second =
+    omega (arith, not_earlier a some first.from second, not_earlier b some second.from first)
 
 -- a net of a part is one of the design's
-pub in_design : (workers nets worker position : ℕ) → 0 < workers → worker < workers
-    → position < part_start workers nets (worker + 1) → position < nets
-in_design workers nets worker position some exists before =
-    omega (arith, before, part_start-within workers nets (worker + 1) some (omega (arith, exists)))
+pub in_design : {workers nets worker position : ℕ} → 0 < workers → IsInPart workers nets worker position → position < nets
+in_design {workers} {nets} {worker} some part =
+    omega (arith, part.before, part_start-within workers nets (worker + 1) some (omega (arith, part.worker_exists)))
 
 -- each net is in a part
 pub find_part : (workers nets position some : ℕ) → some ≤ workers → position < part_start workers nets some

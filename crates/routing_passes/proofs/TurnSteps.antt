@@ -36,9 +36,9 @@ AreTurns-reread {p} {b = b} same loads old = record {
 }
 
 -- the first worker alone has all turns
-pub first_turn : (workers nets worker turn : ℕ) → workers ≡ 1 → IsInPart workers nets worker turn
+pub first_turn : {workers nets worker turn : ℕ} → workers ≡ 1 → IsInPart workers nets worker turn
     → part_start workers nets worker ≡ 0
-first_turn workers nets worker turn one part =
+first_turn {workers} {nets} {worker} one part =
     let first : worker ≡ 0 = omega (arith, one, part.worker_exists) in
     rw first (first_start workers nets)
 
@@ -58,7 +58,7 @@ AreTurns-push {p} {worker} {turn} {sets} {seen} tree now some mine next old = re
       (slice-first all sets (tree ∷ []) (turns_start p worker) turn (turn + 1) here old.long (omega arith)) low early part))
       (λ (last : turn ≤ k).
       let same : k ≡ turn = omega (arith, last, high) in
-      let own : w ≡ worker = one_part p.workers (length (pass_nets p)) w worker turn some (rw same at part) mine in
+      let own : w ≡ worker = one_part some (rw same at part) mine in
       rw (until-from turn seen (λ j. now) k last, same, own) (next all here))
       (cases_lt k turn);
 }
@@ -81,8 +81,8 @@ AreTurns-append {p} {a} {b} {s} {t} {read} {seen} {read'} {seen'} middle some fi
           rw (until-below m seen seen' k early, until-below m read read' (start_of p w k) within)
           (first.turns all k w (slice-first all s t a m b here first.long second.before) low early part))
           (λ (late : m ≤ k).
-          let mine : m ≤ turns_start p w = part_start-le p.workers (length (pass_nets p)) middle w some
-          (not_earlier p.workers (length (pass_nets p)) middle w k some late part) in
+          let mine : m ≤ turns_start p w =
+          part_start-le p.workers (length (pass_nets p)) middle w some (not_earlier middle some late part) in
           let behind : m ≤ start_of p w k = omega (arith, mine) in
           rw (until-from m seen seen' k late, until-from m read read' (start_of p w k) behind)
           (second.turns all k w (slice-second all s t a m b here first.long first.before second.before) late high part))

@@ -232,7 +232,7 @@ module _ {p : Pass} {worker turn : ℕ} {first : Holding} {n : NetSpec} {before 
         since = λ r inside. rw (load_between-here g nets all (drop (start - a) sets) start turn r rest)
             (omega (arith, less r, mid.sees r, old_load-next start r to));
         alone = λ one r inside.
-            let none : a ≡ 0 = first_turn p.workers (length nets) worker turn one of.part in
+            let none : a ≡ 0 = first_turn one of.part in
             subst (λ k. slice_index now r + old_load p k (turn + 1) r ≡ all_load p r + load_in_turns p all k turn r) none
             (rw (fronts r) (omega (arith, less r, close r, serves.alone one r inside, within.shares r, old_load-next a r low)));
         beside = λ more r inside. rw (fronts r)

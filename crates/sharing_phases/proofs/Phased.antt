@@ -125,15 +125,14 @@ module _ {p : Pass} (phase : IsPhase p) where
   phase_turn {trees} {worker} {position} part turn =
       let d : Design = p.design in
       let n : ℕ = length d.nets in
-      let within : position + 1 ≤ n =
-      omega (arith, in_design p.workers n worker position phase.pass.some part.worker_exists part.before) in
+      let within : position + 1 ≤ n = omega (arith, in_design phase.pass.some part) in
       record {
         step = λ m tree stands has. rw phase.scale at (turn.step m tree (rw phase_nets stands) has);
         loads = turn.loads;
         since = λ r inside. rw (← phase_nets)
             (omega (arith, turn.since r inside, no_old_load (start_of p worker position) (position + 1) r within));
         alone = λ one r inside.
-            let first : part_start p.workers n worker ≡ 0 = first_turn p.workers n worker position one part in
+            let first : part_start p.workers n worker ≡ 0 = first_turn one part in
             let only : worker + 1 ≡ p.workers = omega (arith, one, part.worker_exists) in
             let load : load_in_turns p trees 0 position r ≡ load_between d.grid d.nets trees 0 position r = rw phase_nets in
             rw (first, only, last_start p.workers n phase.pass.some, earlier_load-whole r)
@@ -170,8 +169,7 @@ module _ {p : Pass} {old new : Holding} {sets : List (List Piece)} (phase : IsPh
       → IsTurn p.design p.workers p.budget p.earlier sets worker position (had.seen position)
       (had.read (stretch_start (part_start p.workers (length p.design.nets) worker) position))
   turns position worker part =
-      let within : position < length p.design.nets =
-      in_design p.workers (length p.design.nets) worker position phase.pass.some part.worker_exists part.before in
+      let within : position < length p.design.nets = in_design phase.pass.some part in
       let whole : slice_range sets (turns_start p 0) (turns_start p p.workers) ≡ sets =
       all_parts p.workers (length (pass_nets p)) sets phase.pass.some (long ∙ sym (ap length (phase_nets phase))) in
       rw (phase_nets phase) at (phase_turn phase part (had.turns.turns sets position worker whole
