@@ -10,10 +10,10 @@ use crate::terminal_box::TerminalBox;
 use grid_base::{Size, Vertex};
 
 /// So many masks have up to five terminals.
-pub(crate) const MASKS: usize = 32;
+pub const MASKS: usize = 32;
 
 /// The box of each mask.
-pub(crate) fn boxes_of(size: Size, terminals: &[Vertex]) -> [TerminalBox; MASKS]
+pub fn boxes_of(size: Size, terminals: &[Vertex]) -> [TerminalBox; MASKS]
     requires terminals { All (λ v. IsVertex size v.0) terminals.now }
     requires few { length terminals.now ≤ few_terminals }
     ensures { AreBoxes size terminals.now result }

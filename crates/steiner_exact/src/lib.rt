@@ -39,10 +39,12 @@ mod tree_labels;
 mod trees;
 
 pub use box_family::BoxFamily;
+pub use boxes::{MASKS, boxes_of};
 pub use extent::Extent;
 pub use flat_size::flat_of;
 pub use flat_weights::FlatWeights;
 pub use guess::tree_guess;
+pub use masks::has_terminal;
 pub use root_search::least_at_root;
 pub use row_family::RowFamily;
 pub use terminal_box::TerminalBox;

@@ -15,7 +15,7 @@ pub(crate) fn bit_of(mask: u32, place: u32) -> u32
 }
 
 /// Whether the mask has the terminal at this place.
-pub(crate) fn has_terminal(mask: u32, place: u32) -> bool
+pub fn has_terminal(mask: u32, place: u32) -> bool
     requires { place < 32 }
     ensures { result ≡ (bit mask place == 1) }
 {

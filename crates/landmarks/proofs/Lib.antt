@@ -1,0 +1,4 @@
+pub mod Families
+pub mod Lowered
+pub mod Rising
+pub mod SpanSteps

@@ -1,0 +1,45 @@
+-- Spans of terminals, landmark by landmark.
+use Rattle.std.proofs.Common.{ℕ, ◌≡◌, ◌+◌, ◌*◌, ◌/◌, ◌%◌, ◌^◌, ◌<◌, List, length, max, get_or, ap, ◌∙◌, arith, add-one, refl}
+use Rattle.std.proofs.lemmas.Option.{get_or_from_slice_get}
+use Rattle.grid_base.specs.declared.vertex.Vertex.{Vertex}
+use Rattle.steiner_tables.specs.Masks.{few_terminals}
+use Rattle.steiner_exact.specs.declared.extent.Extent.{Extent}
+use Rattle.steiner_exact.specs.Boxes.{width_with}
+use Rattle.landmarks.specs.Numbers.{landmark_count, number_by}
+use Rattle.landmarks.specs.Spans.{span_of, widest_span, AreSpans}
+
+pub widest-none : (numbers : List (List ℕ)) (terminals : List Vertex) (mask v : ℕ) → 0 ≡ widest_span numbers terminals mask v 0
+unfolding widest_span
+widest-none numbers terminals mask v = refl
+
+widest-more : (numbers : List (List ℕ)) (terminals : List Vertex) (mask v k : ℕ) → widest_span numbers terminals mask v (k + 1)
+    ≡ max (widest_span numbers terminals mask v k)
+    (width_with (span_of numbers terminals mask (length terminals) k) (number_by numbers k v))
+unfolding widest_span
+widest-more numbers terminals mask v k = ap (widest_span numbers terminals mask v) (add-one k)
+
+-- the span of a mask by a landmark stands at its place
+span_at : (numbers : List (List ℕ)) (terminals : List Vertex) (spans : List Extent) (mask k : ℕ) (other : Extent)
+    → AreSpans numbers terminals spans → mask < 2 ^ few_terminals → k < landmark_count
+    → get_or spans (mask * 4 + k) other ≡ span_of numbers terminals mask (length terminals) k
+span_at numbers terminals spans mask k other are few low =
+    let place : ℕ = mask * 4 + k in
+    let row : place / 4 ≡ mask = omega (arith, low) in
+    let column : place % 4 ≡ k = omega (arith, low) in
+    get_or_from_slice_get spans place (span_of numbers terminals (place / 4) (length terminals) (place % 4)) other
+    (are place (omega (arith, few, low)))
+    ∙ ap (λ m. span_of numbers terminals m (length terminals) (place % 4)) row
+    ∙ ap (λ j. span_of numbers terminals mask (length terminals) j) column
+
+-- one landmark more
+pub widest_step : (numbers : List (List ℕ)) (terminals : List Vertex) (spans : List Extent) (mask v k widest number width next : ℕ)
+    (other : Extent) → AreSpans numbers terminals spans → mask < 2 ^ few_terminals → k < landmark_count
+    → widest ≡ widest_span numbers terminals mask v k → number ≡ number_by numbers k v
+    → width ≡ width_with (get_or spans (mask * 4 + k) other) number → next ≡ max widest width
+    → next ≡ widest_span numbers terminals mask v (k + 1)
+widest_step numbers terminals spans mask v k widest number width next other are few low before its reach is =
+    let span = span_at numbers terminals spans mask k other are few low in
+    let wide : width ≡ width_with (span_of numbers terminals mask (length terminals) k) (number_by numbers k v) =
+    reach ∙ ap (λ (e : Extent). width_with e number) span
+    ∙ ap (λ n. width_with (span_of numbers terminals mask (length terminals) k) n) its in
+    omega (arith, is, before, wide, widest-more numbers terminals mask v k)
