@@ -15,7 +15,7 @@ use Rattle.grid_graph.specs.Weighed.{IsAllowed, WeighsOnlyPieces}
 use Rattle.label_search.specs.Sets.{IsSetOf, RisesSlowly, weight}
 use Rattle.label_search.proofs.Law.{rises_by_weight}
 use Rattle.lower_bound.specs.Moats.{AreMoats}
-use Rattle.lower_bound.proofs.Mapped.{from_map, into_map}
+use Rattle.landmarks.proofs.Lowered.{from_map, into_map}
 use Rattle.lower_bound.proofs.Reach.{within, within-refl, within-sym, within-triangle, within-piece, within_is_set}
 use Rattle.lower_bound.proofs.Shares.{depth, share, share_one, share_two, share_three, total, total-add, total-at_most, total-none, total-sum, two_positive}
 

@@ -1,24 +1,18 @@
 -- What is still to go to a goal, by a search of the flat grid, rises slowly on the grid.
-use Rattle.std.proofs.Common.{ℕ, ◌≡◌, ◌+◌, ◌-◌, ◌*◌, ◌^◌, ◌<◌, ◌≤◌, List, min, refl, sym, ap, ⊎_elim, arith}
-use Rattle.std.proofs.lemmas.Bool.{cases_lt, lt-ltb, le-ltb}
+use Rattle.std.proofs.Common.{ℕ, ◌≡◌, ◌+◌, ◌-◌, ◌*◌, ◌^◌, ◌≤◌, List, min, refl, sym, ap, ⊎_elim, arith}
 use Rattle.std.proofs.lemmas.Nat.{mul-le}
 use Rattle.grid_base.specs.declared.piece.Piece.{Piece}
 use Rattle.grid_base.specs.declared.piece.Piece.TheVariants.{Edge, Via}
 use Rattle.grid_base.specs.declared.size.Size.{Size}
-use Rattle.grid_base.specs.declared.vertex.Vertex.{Vertex}
 use Rattle.grid_base.specs.Numbers.{layer_of, IsPiece}
 use Rattle.grid_graph.specs.declared.floors.Floors.{Floors}
 use Rattle.grid_graph.specs.Flat.{tile_of, tile_edge_of, IsFlatOf, AreLeastOver}
 use Rattle.grid_graph.specs.Floors.{AreFloors}
 use Rattle.grid_graph.proofs.TileSteps.{edge_connects, via_goes, flat_tiles}
 use Rattle.label_search.specs.Sets.{RisesSlowly}
-use Rattle.label_search.specs.Stamped.{most, far}
-use Rattle.shortest_paths.specs.declared.labels.Labels.{Labels}
-use Rattle.shortest_paths.specs.LabelWords.{label_of}
-use Rattle.steiner_tables.specs.Tables.{IsPrunedTable}
 use Rattle.steiner_exact.specs.FlatPieces.{edges_with}
 use Rattle.steiner_exact.proofs.EdgeLists.{edges_with-lists}
-use Rattle.lower_bound.specs.GoalRests.{across_at, rest_to}
+use Rattle.lower_bound.specs.GoalRests.{rest_to}
 
 -- a step that stays on its layer
 stays : (a b w v via k over : ℕ) → b ≤ a + over → over ≤ k → w ≡ v → min (b + w * via) (2 ^ 61) ≤ min (a + v * via) (2 ^ 61) + k
@@ -51,33 +45,3 @@ goal_slow flat s pieces floors over across layer is least floored slow (Via v) k
     (layer_of s a - layer + (layer - layer_of s a)) floors.via k (ap across (sym found.0)) (omega (arith, found.1))
     (floored (Via v) k weighs))
     connects
-
--- ---- numbers of a search that was pruned at a limit
-
-across_kept : (labels : Labels) (limit tile : ℕ) → label_of labels 1 tile < far → across_at labels limit tile ≡ label_of labels 1 tile
-across_kept labels limit tile kept = rw (lt-ltb (label_of labels 1 tile) far kept) refl
-
-across_none : (labels : Labels) (limit tile : ℕ) → far ≤ label_of labels 1 tile → across_at labels limit tile ≡ limit + 1
-across_none labels limit tile none = rw (le-ltb (label_of labels 1 tile) far none) refl
-
-across_most : (flat : Size) (pieces : List (Piece × ℕ)) (tiles : List Vertex) (labels : Labels) (limit tile : ℕ)
-    → IsPrunedTable flat pieces tiles 1 (λ _ _. 0) limit far (label_of labels) → across_at labels limit tile ≤ limit + 1
-across_most flat pieces tiles labels limit tile table = ⊎_elim
-    (λ kept. omega (arith, across_kept labels limit tile kept, table.within 1 tile (omega arith) (omega arith) kept))
-    (λ none. omega (arith, across_none labels limit tile none))
-    (cases_lt (label_of labels 1 tile) far)
-
-pub across_slow : (flat : Size) (pieces : List (Piece × ℕ)) (tiles : List Vertex) (labels : Labels) (limit : ℕ) → limit ≤ most
-    → IsPrunedTable flat pieces tiles 1 (λ _ _. 0) limit far (label_of labels) → RisesSlowly flat pieces (across_at labels limit)
-across_slow flat pieces tiles labels limit small table p k a b weighs connects =
-    let top = across_most flat pieces tiles labels limit b table in
-    ⊎_elim
-    (λ kept. ⊎_elim
-    (λ less. ⊎_elim
-    (λ then. omega (arith, less, across_kept labels limit a kept, across_kept labels limit b then))
-    (λ none. omega (arith, less, across_kept labels limit a kept, top, small, none))
-    (cases_lt (label_of labels 1 b) far))
-    (λ past. omega (arith, past, across_kept labels limit a kept, top))
-    (table.steps 1 p k a b (omega arith) (omega arith) weighs connects kept))
-    (λ none. omega (arith, across_none labels limit a none, top))
-    (cases_lt (label_of labels 1 a) far)

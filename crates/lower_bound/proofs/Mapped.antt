@@ -1,6 +1,5 @@
 -- Pieces with other weights.
-use Rattle.std.proofs.Common.{◌≡◌, ℕ, suc, ◌+◌, ◌≤◌, List, [], ◌∷◌, map, refl, sym, ap, subst, ⊎_elim, arith}
-use Rattle.std.specs.List.{Contains}
+use Rattle.std.proofs.Common.{◌≡◌, ℕ, ◌+◌, ◌≤◌, List, [], ◌∷◌, map, refl, sym, ap, subst, arith}
 use Rattle.grid_base.specs.declared.axis.Axis.{Axis}
 use Rattle.grid_base.specs.declared.axis.Axis.TheVariants.{X, Y}
 use Rattle.grid_base.specs.declared.piece.Piece.{Piece}
@@ -8,34 +7,14 @@ use Rattle.grid_base.specs.declared.piece.Piece.TheVariants.{Edge, Via}
 use Rattle.grid_base.specs.declared.size.Size.{Size}
 use Rattle.grid_base.specs.Lists.{HasNoRepeats}
 use Rattle.grid_base.specs.Numbers.{edge_axis}
-use Rattle.grid_base.proofs.Lists.{head_or_rest}
 use Rattle.grid_graph.specs.Flat.{AreLeastOver}
 use Rattle.grid_graph.specs.Floors.{floor_along, floor_of, AreFloors}
 use Rattle.grid_graph.specs.Limits.{max_weight}
 use Rattle.grid_graph.specs.Weighed.{Weighs, NoPieceTwice, WeighsOnlyPieces}
+use Rattle.landmarks.proofs.Lowered.{from_map, into_map}
 use Rattle.edge_prices.specs.Limits.{max_price}
 use Rattle.edge_prices.specs.PieceLists.{IsWeightList}
 use Rattle.lower_bound.specs.Raised.{raised, MayBeRaised}
-
--- what was mapped
-pub record IsFrom (f : Piece × ℕ → Piece × ℕ) (xs : List (Piece × ℕ)) (y : Piece × ℕ) : Type 0 where
-  pub from : Piece × ℕ
-  pub listed : Contains xs from
-  pub is : f from ≡ y
-
-pub from_map : (f : Piece × ℕ → Piece × ℕ) (xs : List (Piece × ℕ)) (y : Piece × ℕ) → Contains (map f xs) y → IsFrom f xs y
-from_map f [] y at = absurd (omega (arith, at.1))
-from_map f (x ∷ xs) y at = ⊎_elim
-    (λ here. record { from = x; listed = (0, omega arith, refl); is = sym here })
-    (λ rest. let old = from_map f xs y rest in record { from = old.from; listed = (suc old.listed.0, omega (arith, old.listed.1), old.listed.2); is = old.is })
-    (head_or_rest (f x) (map f xs) y at)
-
-pub into_map : (f : Piece × ℕ → Piece × ℕ) (xs : List (Piece × ℕ)) (x : Piece × ℕ) → Contains xs x → Contains (map f xs) (f x)
-into_map f [] x at = absurd (omega (arith, at.1))
-into_map f (y ∷ xs) x at = ⊎_elim
-    (λ here. (0, omega arith, ap f (sym here)))
-    (λ rest. let old = into_map f xs x rest in (suc old.0, omega (arith, old.1), old.2))
-    (head_or_rest y xs x at)
 
 -- a raised piece is one of the pieces
 pub record IsRaised (pieces : List (Piece × ℕ)) (extra : ℕ) (p : Piece) (k : ℕ) : Type 0 where

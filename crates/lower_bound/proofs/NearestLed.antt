@@ -22,7 +22,8 @@ use Rattle.shortest_paths.specs.Nearest.{IsGoal, NoneIsNearer, IsLeastToGoal, Is
 use Rattle.shortest_paths.specs.Sources.{IsFromAny}
 use Rattle.shortest_paths.proofs.Backwards.{path_set}
 use Rattle.shortest_paths.proofs.NearestGoals.{nearer_of, none_joined}
-use Rattle.lower_bound.specs.GoalRests.{across_at, rest_to, IsNearestWithin}
+use Rattle.landmarks.specs.Numbers.{across_at}
+use Rattle.lower_bound.specs.GoalRests.{rest_to, IsNearestWithin}
 
 -- ---- goals as they are found
 

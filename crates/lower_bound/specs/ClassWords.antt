@@ -9,6 +9,7 @@ use Rattle.grid_graph.specs.Grids.{size_of, demand_on, edge_numbers, IsNetWidth}
 use Rattle.grid_graph.specs.TilePieces.{AreLeastBetweenTiles}
 use Rattle.edge_prices.specs.PieceLists.{IsWeightList}
 use Rattle.edge_prices.specs.Weights.{AreEdgePrices}
+use Rattle.landmarks.specs.Numbers.{AreLandmarks}
 use Rattle.lower_bound.specs.declared.class_costs.ClassCosts.{ClassCosts}
 use Rattle.lower_bound.specs.Costs.{costed}
 use Rattle.lower_bound.specs.KeptCosts.{AreKeptCosts}
@@ -28,12 +29,13 @@ pub record AreClassCosts (g : Grid) (width : ℕ) (over : Ground) (prices : List
 abbrev pub tiles_size : ClassCosts → Size
 tiles_size c = c.costs.size
 
--- the costs, what stands for the tiles and the costs that are kept are those of the width and the ground that they are told
--- to be of
+-- the costs, what stands for the tiles, the costs that are kept and the landmarks are those of the width and the ground that
+-- they are told to be of
 pub record IsCurrentClass (c : ClassCosts) : Type 0 where
   pub costs : AreClassCosts c.grid.now c.width c.ground c.prices.now (tiles_size c) (costs_between c.costs.costs.items)
   pub representatives : AreRepresentatives (tiles_size c) (costs_between c.costs.costs.items) c.representatives.of.parents.items
   pub kept : AreKeptCosts (tiles_size c) (costs_between c.costs.costs.items) c.kept.entries.items
+  pub landmarks : AreLandmarks (tiles_size c) (costs_between c.costs.costs.items) c.landmarks
 
 -- nets of two widths use as much of each edge
 abbrev pub UseAsMuch : Grid → ℕ → ℕ → Type 0

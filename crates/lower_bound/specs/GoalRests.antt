@@ -1,20 +1,14 @@
 -- What is still to go to a goal, by a search of the flat grid from the goal's tile.
-use Rattle.std.specs.Prelude.{ℕ, ◌+◌, ◌-◌, ◌*◌, List, Option, Some, None, cond, ltb, min}
+use Rattle.std.specs.Prelude.{ℕ, ◌+◌, ◌-◌, ◌*◌, List, Option, Some, None, min}
 use Rattle.grid_base.specs.declared.piece.Piece.{Piece}
 use Rattle.grid_base.specs.declared.size.Size.{Size}
 use Rattle.grid_base.specs.declared.vertex.Vertex.{Vertex}
 use Rattle.grid_base.specs.Numbers.{layer_of}
 use Rattle.grid_graph.specs.Flat.{tile_of}
 use Rattle.label_search.specs.Stamped.{far}
-use Rattle.shortest_paths.specs.declared.labels.Labels.{Labels}
-use Rattle.shortest_paths.specs.LabelWords.{label_of}
 use Rattle.shortest_paths.specs.Nearest.{IsGoal, NoneIsNearer, IsLeastToGoal}
 
--- the number that a tile has by the search of a goal's tile under a limit; one above the limit where it has none
-abbrev pub across_at : Labels → ℕ → ℕ → ℕ
-across_at flat limit tile = cond (ltb (label_of flat 1 tile) far) (label_of flat 1 tile) (limit + 1)
-
--- the same for a vertex, with each layer to go to the goal's at so much for a via
+-- what is still to go across tiles, for a vertex with each layer to go to the goal's at so much for a via
 abbrev pub rest_to : Size → ℕ → ℕ → (ℕ → ℕ) → ℕ → ℕ
 rest_to s layer via across v = min (across (tile_of s v) + (layer_of s v - layer + (layer - layer_of s v)) * via) far
 

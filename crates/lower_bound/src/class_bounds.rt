@@ -14,6 +14,9 @@ use shortest_paths::Labels;
 use std::alloc::Global;
 use steiner_tables::FEW_TERMINALS;
 
+/// For so many tiles a search is made before landmarks are taken.
+const TILES_PER_SEARCH: u32 = 32;
+
 impl ClassCosts<'_> {
     ghost use Rattle.std.specs.Prelude.{◌≡◌, ◌<◌, ◌≤◌, All, IfOk, length};
     ghost use Rattle.grid_base.specs.Numbers.{IsVertex};
@@ -53,6 +56,22 @@ impl ClassCosts<'_> {
             return self.bound_of_many(alloc, terminals, labels);
         }
         self.least_cost(alloc, terminals, labels)
+    }
+
+    /// Takes the landmarks of the class once so many searches were made for its nets that they pay.
+    fn lead(&mut self, labels: &mut Labels)
+        requires current { IsCurrentClass self.old }
+        requires labels { labels_size labels.old ≡ tiles_size self.old }
+        requires room { rooted_masks ≤ masks_of labels.old }
+        ensures class { KeepsClass self.old self.new }
+        ensures current { IsCurrentClass self.new }
+        ensures size { labels_size labels.new ≡ labels_size labels.old }
+        ensures masks { masks_of labels.new ≡ masks_of labels.old }
+    {
+        if !self.is_led && self.kept.puts() >= self.costs.size().vertices() / TILES_PER_SEARCH {
+            self.landmarks.renew(&self.costs, labels);
+            self.is_led = true;
+        }
     }
 
     /// The same of more than five terminals.
@@ -101,7 +120,15 @@ impl ClassCosts<'_> {
         ensures masks { masks_of labels.new ≡ masks_of labels.old }
     {
         let tiles = distinct(self.represented(alloc, terminals)?);
-        Ok(kept_least(&self.costs, &mut self.kept, tiles.as_slice(), labels))
+        let cost = kept_least(
+            &self.costs,
+            &self.landmarks,
+            &mut self.kept,
+            tiles.as_slice(),
+            labels,
+        );
+        self.lead(labels);
+        Ok(cost)
     }
 
     /// The sum of halves of what it costs to join each terminal to another one. Where many of them are joined at no cost, few
@@ -129,7 +156,14 @@ impl ClassCosts<'_> {
         let different = distinct(Vec::from_slice(alloc, tiles.as_slice())?);
         let costs = &self.costs;
         if are_mostly_joined(different.len(), tiles.len()) {
-            return Ok(sum_of_kept_halves(costs, &mut self.kept, tiles.as_slice(), labels));
+            let landmarks = &self.landmarks;
+            return Ok(sum_of_kept_halves(
+                costs,
+                landmarks,
+                &mut self.kept,
+                tiles.as_slice(),
+                labels,
+            ));
         }
         Ok(sum_of_halves(costs, tiles.as_slice(), labels))
     }

@@ -10,6 +10,7 @@ use crate::tile_costs::TileCosts;
 use edge_prices::Costing;
 use grid_base::{Axis, Edge, NoMemory, Size, Vertex};
 use grid_graph::{Grid, Ground};
+use landmarks::Landmarks;
 use std::alloc::Global;
 
 /// What the nets of one width and one ground pay between tiles, at a price for each edge.
@@ -25,6 +26,8 @@ pub struct ClassCosts<'a> {
     pub(crate) costs: TileCosts,
     pub(crate) representatives: Representatives,
     pub(crate) kept: KeptCosts,
+    pub(crate) landmarks: Landmarks,
+    pub(crate) is_led: bool,
 }
 
 impl<'a> ClassCosts<'a> {
@@ -52,10 +55,12 @@ impl<'a> ClassCosts<'a> {
         let mut costs = TileCosts::new(alloc, grid.size())?;
         let mut representatives = Representatives::new(alloc, costs.size())?;
         let mut kept = KeptCosts::new(alloc)?;
+        let mut landmarks = Landmarks::new(alloc, costs.size())?;
         let costing = Costing::new(grid, width, ground, prices);
         costs.renew(&costing, grid.size());
         representatives.renew(&costs, costs.size());
         kept.forget();
+        landmarks.reset(&costs);
         Ok(ClassCosts {
             grid,
             prices,
@@ -64,6 +69,8 @@ impl<'a> ClassCosts<'a> {
             costs,
             representatives,
             kept,
+            landmarks,
+            is_led: false,
         })
     }
 
@@ -94,6 +101,8 @@ impl<'a> ClassCosts<'a> {
         self.costs.renew(&costing, self.grid.size());
         self.representatives.renew(&self.costs, self.costs.size());
         self.kept.forget();
+        self.landmarks.reset(&self.costs);
+        self.is_led = false;
         self.width = width;
         self.ground = ground;
     }

@@ -6,7 +6,8 @@ ghost use Rattle.grid_graph.specs.Limits.{max_weight};
 ghost use Rattle.shortest_paths.specs.LabelWords.{labels_size, masks_of};
 ghost use Rattle.label_search.specs.Sets.{RisesSlowly};
 ghost use Rattle.label_search.specs.Stamped.{most};
-ghost use Rattle.lower_bound.specs.GoalRests.{across_at, rest_to};
+ghost use Rattle.landmarks.specs.Numbers.{across_at};
+ghost use Rattle.lower_bound.specs.GoalRests.{rest_to};
 
 use grid_base::{Place, Size, Vertex};
 use grid_graph::FlooredWeights;
@@ -39,7 +40,7 @@ impl<'a, W: FlooredWeights> GoalBound<'a, W> {
     ghost use Rattle.label_search.specs.Stamped.{most, far};
     ghost use Rattle.shortest_paths.specs.LabelWords.{labels_size, masks_of};
     ghost use Rattle.steiner_exact.specs.FlatPieces.{edges_with};
-    ghost use Rattle.lower_bound.specs.GoalRests.{across_at};
+    ghost use Rattle.landmarks.specs.Numbers.{across_at};
 
     /// The bound by these labels, which are those of the goal's tile by a search under this limit.
     pub(crate) fn new(
@@ -83,7 +84,8 @@ impl<'a, W: FlooredWeights> GoalBound<'a, W> {
 }
 
 impl<W: FlooredWeights> Bound for GoalBound<'_, W> {
-    ghost use Rattle.lower_bound.specs.GoalRests.{across_at, rest_to};
+    ghost use Rattle.landmarks.specs.Numbers.{across_at};
+    ghost use Rattle.lower_bound.specs.GoalRests.{rest_to};
 
     ghost size = { λ x. x.size };
 

@@ -26,6 +26,7 @@ impl KeptCost {
 #[derive(Drop)]
 pub(crate) struct KeptCosts {
     entries: Vec<KeptCost>,
+    puts: u32,
     ghost some: { 0 < length entries.items },
 }
 
@@ -40,7 +41,7 @@ impl KeptCosts {
     /// Nothing is kept yet.
     pub(crate) fn new(alloc: Global) -> Result<KeptCosts, NoMemory> {
         let mut entries = vec![in alloc; KeptCost::NONE; ENTRIES]?;
-        Ok(KeptCosts { entries })
+        Ok(KeptCosts { entries, puts: 0 })
     }
 
     /// Keeps nothing any more.
@@ -50,6 +51,7 @@ impl KeptCosts {
         for place in 0..self.entries.len() {
             self.entries[place] = KeptCost::NONE;
         }
+        self.puts = 0;
     }
 
     /// The least cost of these tiles, if it is kept.
@@ -75,6 +77,12 @@ impl KeptCosts {
             tiles,
             cost: Some(cost),
         };
+        self.puts = self.puts.saturating_add(1);
+    }
+
+    /// How many costs were put since nothing was kept.
+    pub(crate) fn puts(&self) -> u32 {
+        self.puts
     }
 
     /// The place of these tiles.

@@ -8,6 +8,7 @@ ghost use Rattle.shortest_paths.specs.LabelWords.{labels_size, masks_of};
 ghost use Rattle.steiner_tables.specs.Masks.{rooted_masks};
 ghost use Rattle.label_search.specs.Sets.{IsLeastWeight, IsEither};
 ghost use Rattle.lower_bound.specs.HalfWords.{IsHalf, IsSumOfHalves};
+ghost use Rattle.landmarks.specs.Numbers.{AreLandmarks};
 ghost use Rattle.lower_bound.specs.KeptCosts.{AreKeptCosts};
 
 use crate::halves::has_twin;
@@ -15,11 +16,13 @@ use crate::kept_costs::KeptCosts;
 use crate::kept_least::kept_least;
 use grid_base::Vertex;
 use grid_graph::FlooredWeights;
+use landmarks::Landmarks;
 use shortest_paths::Labels;
 
 /// The least weight that joins two tiles.
 fn between<W: FlooredWeights>(
     weights: &W,
+    landmarks: &Landmarks,
     kept: &mut KeptCosts,
     one: Vertex,
     other: Vertex,
@@ -27,6 +30,7 @@ fn between<W: FlooredWeights>(
 ) -> u64
     requires labels { labels_size labels.old ≡ W.size weights.now }
     requires room { rooted_masks ≤ masks_of labels.old }
+    requires landmarks { AreLandmarks (W.size weights.now) (W.pieces weights.now) landmarks.now }
     requires one { IsVertex (W.size weights.now) one.0 }
     requires other { IsVertex (W.size weights.now) other.0 }
     requires joined { Joins (W.size weights.now) (IsAllowed (W.pieces weights.now)) (IsEither one.0 other.0) }
@@ -37,9 +41,9 @@ fn between<W: FlooredWeights>(
     ensures masks { masks_of labels.new ≡ masks_of labels.old }
 {
     if other.0 < one.0 {
-        return kept_least(weights, kept, &[other, one], labels);
+        return kept_least(weights, landmarks, kept, &[other, one], labels);
     }
-    kept_least(weights, kept, &[one, other], labels)
+    kept_least(weights, landmarks, kept, &[one, other], labels)
 }
 
 /// The place of another one of two or more.
@@ -53,6 +57,7 @@ fn another(place: usize) -> usize
 /// Half of the least weight of joining the tile at a place to one other, rounded down.
 fn kept_half<W: FlooredWeights>(
     weights: &W,
+    landmarks: &Landmarks,
     kept: &mut KeptCosts,
     tiles: &[Vertex],
     place: usize,
@@ -60,6 +65,7 @@ fn kept_half<W: FlooredWeights>(
 ) -> u64
     requires labels { labels_size labels.old ≡ W.size weights.now }
     requires room { rooted_masks ≤ masks_of labels.old }
+    requires landmarks { AreLandmarks (W.size weights.now) (W.pieces weights.now) landmarks.now }
     requires two { 2 ≤ length tiles.now }
     requires place { place < length tiles.now }
     requires vertices { All (λ v. IsVertex (W.size weights.now) v.0) tiles.now }
@@ -75,10 +81,10 @@ fn kept_half<W: FlooredWeights>(
     }
     let first = another(place);
     let here = tiles[place];
-    let mut least = between(weights, kept, here, tiles[first], labels);
+    let mut least = between(weights, landmarks, kept, here, tiles[first], labels);
     for other in 0..tiles.len() {
         if other != place {
-            least = least.min(between(weights, kept, here, tiles[other], labels));
+            least = least.min(between(weights, landmarks, kept, here, tiles[other], labels));
         }
     }
     least / 2
@@ -87,12 +93,14 @@ fn kept_half<W: FlooredWeights>(
 /// The sum of these halves over all tiles.
 pub(crate) fn sum_of_kept_halves<W: FlooredWeights>(
     weights: &W,
+    landmarks: &Landmarks,
     kept: &mut KeptCosts,
     tiles: &[Vertex],
     labels: &mut Labels,
 ) -> u64
     requires labels { labels_size labels.old ≡ W.size weights.now }
     requires room { rooted_masks ≤ masks_of labels.old }
+    requires landmarks { AreLandmarks (W.size weights.now) (W.pieces weights.now) landmarks.now }
     requires two { 2 ≤ length tiles.now }
     requires vertices { All (λ v. IsVertex (W.size weights.now) v.0) tiles.now }
     requires joined { Joins (W.size weights.now) (IsAllowed (W.pieces weights.now)) (InVertices tiles.now) }
@@ -104,7 +112,7 @@ pub(crate) fn sum_of_kept_halves<W: FlooredWeights>(
 {
     let mut sum: u64 = 0;
     for place in 0..tiles.len() {
-        sum = sum.saturating_add(kept_half(weights, kept, tiles, place, labels));
+        sum = sum.saturating_add(kept_half(weights, landmarks, kept, tiles, place, labels));
     }
     sum
 }

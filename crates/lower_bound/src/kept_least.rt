@@ -7,23 +7,27 @@ ghost use Rattle.grid_graph.specs.Weighed.{IsAllowed};
 ghost use Rattle.shortest_paths.specs.LabelWords.{labels_size, masks_of};
 ghost use Rattle.steiner_tables.specs.Masks.{rooted_masks, few_terminals};
 ghost use Rattle.label_search.specs.Sets.{IsLeastWeight};
+ghost use Rattle.landmarks.specs.Numbers.{AreLandmarks};
 ghost use Rattle.lower_bound.specs.KeptCosts.{AreKeptCosts};
 
 use crate::kept_costs::KeptCosts;
-use crate::least::least_weight;
+use crate::least::{least_by_landmarks, least_weight};
 use grid_base::Vertex;
 use grid_graph::FlooredWeights;
+use landmarks::Landmarks;
 use shortest_paths::Labels;
 
-/// The least weight of a set of allowed pieces that joins at most five tiles, as it is kept or by a search.
+/// The least weight of a set of allowed pieces that joins at most five tiles, as it is kept or by a search that landmarks lead.
 pub(crate) fn kept_least<W: FlooredWeights>(
     weights: &W,
+    landmarks: &Landmarks,
     kept: &mut KeptCosts,
     tiles: &[Vertex],
     labels: &mut Labels,
 ) -> u64
     requires labels { labels_size labels.old ≡ W.size weights.now }
     requires room { rooted_masks ≤ masks_of labels.old }
+    requires landmarks { AreLandmarks (W.size weights.now) (W.pieces weights.now) landmarks.now }
     requires few { length tiles.now ≤ few_terminals }
     requires vertices { All (λ v. IsVertex (W.size weights.now) v.0) tiles.now }
     requires joined { Joins (W.size weights.now) (IsAllowed (W.pieces weights.now)) (InVertices tiles.now) }
@@ -40,7 +44,7 @@ pub(crate) fn kept_least<W: FlooredWeights>(
     match kept.get(&key) {
         Some(cost) => cost,
         None => {
-            let cost = least_weight(weights, tiles, labels);
+            let cost = least_by_landmarks(weights, landmarks, tiles, labels);
             kept.put(key, cost);
             cost
         }

@@ -12,7 +12,8 @@ ghost use Rattle.shortest_paths.specs.Nearest.{IsGoal, IsNearestDistance};
 ghost use Rattle.steiner_tables.specs.Tables.{IsPrunedTable};
 ghost use Rattle.steiner_exact.specs.FlatPieces.{edges_with};
 ghost use Rattle.steiner_exact.specs.TreeLabelWords.{AreTreeLabels};
-ghost use Rattle.lower_bound.specs.GoalRests.{across_at, IsNearestWithin};
+ghost use Rattle.landmarks.specs.Numbers.{across_at};
+ghost use Rattle.lower_bound.specs.GoalRests.{IsNearestWithin};
 
 use crate::goal_bound::GoalBound;
 use grid_base::{NoMemory, Size, Vertex};

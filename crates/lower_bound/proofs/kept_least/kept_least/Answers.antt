@@ -14,4 +14,4 @@ returns-in-None-clause-kept g c =
     let s = g.W.Weights.size c.args.weights.now in
     let pieces = g.W.Weights.pieces c.args.weights.now in
     c.put.ensures s pieces c.requires.kept
-    (least_alike s pieces (InVertices c.five_of-key.result) (InVertices c.args.tiles.now) c.least_weight-cost.result c.five_of-key.ensures c.least_weight-cost.ensures.least)
+    (least_alike s pieces (InVertices c.five_of-key.result) (InVertices c.args.tiles.now) c.least_by_landmarks-cost.result c.five_of-key.ensures c.least_by_landmarks-cost.ensures.least)

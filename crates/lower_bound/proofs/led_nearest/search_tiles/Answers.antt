@@ -2,8 +2,8 @@ use Rattle.std.proofs.Common.{ℕ, [], ◌∷◌, refl, sym, ◌∙◌, ap, subs
 use Rattle.grid_base.specs.declared.size.Size.{Size}
 use Rattle.label_search.specs.Sets.{RisesSlowly}
 use Rattle.steiner_exact.specs.FlatPieces.{edges_with}
-use Rattle.lower_bound.specs.GoalRests.{across_at}
-use Rattle.lower_bound.proofs.GoalRests.{across_slow}
+use Rattle.landmarks.specs.Numbers.{across_at}
+use Rattle.landmarks.proofs.Rising.{across_slow}
 use Rattle.lower_bound.proofs.led_nearest.search_tiles.Goals as goal
 
 pub returns-clause-own : goal.returns-clause-own

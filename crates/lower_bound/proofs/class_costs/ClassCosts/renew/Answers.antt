@@ -19,6 +19,7 @@ returns-then-use_as_much-clause-current c =
           c.requires.width (c.use_as_much.ensures c.if-use_as_much.true) c.requires.current.costs;
       representatives = c.requires.current.representatives;
       kept = c.requires.current.kept;
+      landmarks = c.requires.current.landmarks;
     }
 
 pub returns-clause-current : goal.returns-clause-current
@@ -34,4 +35,5 @@ returns-clause-current c =
           c.new-costing.ensures.size c.new-costing.ensures.list costing.listed c.renew.ensures.between;
       representatives = subst (λ (x : Size). AreRepresentatives x across c.renew-2.new.self.of.parents.items) c.size-2.ensures c.renew-2.ensures.leads;
       kept = c.forget.ensures new.size across;
+      landmarks = c.reset.ensures;
     }

@@ -1,7 +1,7 @@
 use Rattle.std.proofs.Common.{sym, subst, arith}
 use Rattle.grid_base.specs.declared.size.Size.{Size}
 use Rattle.grid_graph.specs.Flat.{AreLeastOver}
-use Rattle.lower_bound.specs.GoalRests.{across_at}
+use Rattle.landmarks.specs.Numbers.{across_at}
 use Rattle.shortest_paths.specs.LabelWords.{labels_size}
 use Rattle.lower_bound.proofs.GoalRests.{goal_slow}
 use Rattle.lower_bound.proofs.goal_bound.GoalBound.new.Goals as goal

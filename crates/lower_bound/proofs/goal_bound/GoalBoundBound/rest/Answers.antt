@@ -3,7 +3,7 @@ use Rattle.grid_base.specs.declared.place.Place.{Place}
 use Rattle.grid_base.specs.Numbers.{layer_of}
 use Rattle.grid_graph.specs.Flat.{tile_of}
 use Rattle.grid_graph.proofs.TileSteps.{ground_tile}
-use Rattle.lower_bound.specs.GoalRests.{across_at}
+use Rattle.landmarks.specs.Numbers.{across_at}
 use Rattle.lower_bound.proofs.goal_bound.GoalBoundBound.rest.Goals as goal
 
 pub returns-clause-value : goal.returns-clause-value
