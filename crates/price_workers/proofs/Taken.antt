@@ -18,6 +18,11 @@ net_load-held g width ps i d x within is =
     ap (λ (b : Bool). cond b (demand_on g width x.0) 0)
     (list_any_at (is_edge_of x.0) ps i d within (ap (λ (q : Piece). is_edge_of x.0 q) is ∙ eq-eqb x.0 x.0 refl))
 
+-- the load of the wirelength
+pub tree_load-last : (g : Grid) (width : ℕ) (ps : List Piece) → tree_load g width ps (edge_numbers g) ≡ length ps
+tree_load-last g width ps =
+    ap (λ (b : Bool). cond b (length ps) (net_load g width ps (edge_numbers g))) (eq-eqb (edge_numbers g) (edge_numbers g) refl)
+
 -- the load of an edge
 pub tree_load-edge : (g : Grid) (width : ℕ) (ps : List Piece) (r : ℕ) → (edge_numbers g ≡ r → ⊥)
     → tree_load g width ps r ≡ net_load g width ps r
