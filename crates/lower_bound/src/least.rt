@@ -58,6 +58,6 @@ pub(crate) fn least_by_landmarks<W: FlooredWeights>(
     ensures masks { masks_of labels.new ≡ masks_of labels.old }
 {
     let guess = tree_guess(labels.allocator(), weights, terminals, labels).unwrap_or(0);
-    let family = LandmarkFamily::new(weights, labels.size(), terminals, landmarks);
-    least_at_root(weights, &family, terminals, guess, labels)
+    let led = LandmarkFamily::new(weights, labels.size(), terminals, landmarks);
+    least_at_root(weights, &led, terminals, guess, labels)
 }

@@ -6,13 +6,13 @@ use Rattle.landmarks.specs.Numbers.{AreLandmarks}
 use Rattle.steiner_exact.proofs.Attempts.{few_masks}
 use Rattle.lower_bound.proofs.least.least_by_landmarks.Goals as goal
 
-pub new-family-requires-clause-vertices : goal.new-family-requires-clause-vertices
-new-family-requires-clause-vertices g c =
+pub new-led-requires-clause-vertices : goal.new-led-requires-clause-vertices
+new-led-requires-clause-vertices g c =
     subst (λ (x : Size). All (λ (v : Vertex). IsVertex x v.0) c.args.terminals.now)
     (sym (c.size.ensures ∙ c.tree_guess.ensures.size ∙ c.requires.labels)) c.requires.vertices
 
-pub new-family-requires-clause-landmarks : goal.new-family-requires-clause-landmarks
-new-family-requires-clause-landmarks g c =
+pub new-led-requires-clause-landmarks : goal.new-led-requires-clause-landmarks
+new-led-requires-clause-landmarks g c =
     subst (λ (x : Size). AreLandmarks x (g.W.Weights.pieces c.args.weights.now) c.args.landmarks.now)
     (sym (c.size.ensures ∙ c.tree_guess.ensures.size ∙ c.requires.labels)) c.requires.landmarks
 
