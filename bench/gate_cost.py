@@ -1,0 +1,87 @@
+#!/usr/bin/env python3
+"""Tells what the gate costs in processor seconds, by crate.
+
+    bench/gate_cost.py [WORD ..]
+
+Runs `rt ci WORD ..` at the top of this checkout, or of a clone of it from which it is called, and samples the processes below it
+once a second. With the word --anew all is proved from nothing. Behind the gate's own lines it prints a table: for each crate what
+proving it took, its tests and its edits, and in the end what all processes took by the system's own count. What ran for less than
+a second between two samples is in that count alone.
+"""
+import collections
+import os
+import re
+import resource
+import subprocess
+import sys
+import time
+
+TICK = os.sysconf('SC_CLK_TCK')
+NAME = re.compile(r'--crate-name\0([^\0]+)')
+KINDS = ('proving', 'tests', 'edits')
+
+
+def read(path):
+    """What a file of /proc says, or nothing where its process is gone."""
+    try:
+        with open(path, encoding='utf-8', errors='replace') as file:
+            return file.read()
+    except OSError:
+        return ''
+
+
+def processes():
+    """Of each process its number, its parent's, when it started and the processor seconds that it took so far."""
+    for number in filter(str.isdigit, os.listdir('/proc')):
+        fields = read(f'/proc/{number}/stat').rpartition(')')[2].split()
+        if fields:
+            yield int(number), int(fields[1]), fields[19], (int(fields[11]) + int(fields[12])) / TICK
+
+
+def purpose(number):
+    """Which crate a process proves, and what for, if it does."""
+    words = read(f'/proc/{number}/cmdline')
+    name = NAME.search(words)
+    if not name:
+        return None
+    parts = words.split('\0')
+    kind = 'tests' if '--test' in parts else 'edits' if 'check' in parts[1:2] else 'proving'
+    return name[1], kind
+
+
+def sampled(gate, taken):
+    """Adds to `taken` what the processes below the gate took since the last sample."""
+    seen, purposes = {}, {}
+    while gate.poll() is None:
+        parents = {number: (parent, start, seconds) for number, parent, start, seconds in processes()}
+        below = {gate.pid}
+        for number in sorted(parents):
+            if parents[number][0] in below:
+                below.add(number)
+        for number in below & parents.keys():
+            parent, start, seconds = parents[number]
+            key = number, start
+            if key not in purposes:
+                purposes[key] = purpose(number) or purposes.get((parent, parents.get(parent, (0, ''))[1]))
+            if purposes[key]:
+                taken[purposes[key]] += seconds - seen.get(key, 0)
+            seen[key] = seconds
+        time.sleep(1)
+
+
+def main():
+    taken = collections.Counter()
+    begin = time.time()
+    gate = subprocess.Popen(['rt', 'ci', *sys.argv[1:]])
+    sampled(gate, taken)
+    used = resource.getrusage(resource.RUSAGE_CHILDREN)
+    print('| Crate | Proving it | Its tests | Its edits |\n|---|---|---|---|')
+    for crate in sorted({crate for crate, _ in taken}):
+        print(f'| `{crate}` | ' + ' | '.join(f'{taken[crate, kind]:.0f}' for kind in KINDS) + ' |')
+    print('| sampled | ' + ' | '.join(f'{sum(taken[it] for it in taken if it[1] == kind):.0f}' for kind in KINDS) + ' |')
+    print(f'{used.ru_utime + used.ru_stime:.0f} processor seconds, {(time.time() - begin) / 60:.0f} minutes on the clock')
+    sys.exit(gate.returncode)
+
+
+if __name__ == '__main__':
+    main()
