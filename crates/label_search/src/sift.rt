@@ -81,8 +81,8 @@ fn least_of(keys: &[u64], first: usize, end: usize) -> usize
     least
 }
 
-/// The place of a least key of the four from `first` on. The winner of two pairs is found without a jump that depends on
-/// keys, which a processor can't foretell.
+/// The place of a least key of the four from `first` on: the lesser one of those of two pairs. Which one that is decides
+/// no jump, so a processor has nothing to guess wrong.
 fn least_of_four(keys: &[u64], first: usize) -> usize
     requires within { first + 4 ≤ length keys.now }
     ensures from { first ≤ result }
