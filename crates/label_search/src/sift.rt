@@ -1,6 +1,6 @@
 //! Moving a gap of a heap to where an entry belongs.
 
-ghost use Rattle.std.specs.Prelude.{◌≡◌, ◌<◌, ◌≤◌, ◌≢◌, ◌+◌, ℕ, length, slice_index, slice_set};
+ghost use Rattle.std.specs.Prelude.{◌≡◌, ◌<◌, ◌≤◌, ◌≢◌, ◌+◌, ◌⊎◌, ℕ, length, slice_index, slice_set};
 ghost use Rattle.label_search.specs.Heaps.{IsIndexed, HasGap, Holds, HoldsBeside, FillsGap, AreOrdered, MayRise, MaySink};
 
 /// An entry has up to so many others below it.
@@ -69,6 +69,9 @@ fn least_of(keys: &[u64], first: usize, end: usize) -> usize
     ensures before { result < end }
     ensures least { (j : ℕ) → first ≤ j → j < end → slice_index keys.now result ≤ slice_index keys.now j }
 {
+    if end - first == CHILDREN {
+        return least_of_four(keys, first);
+    }
     let mut least = first;
     for j in first + 1..end {
         if keys[j] < keys[least] {
@@ -76,6 +79,30 @@ fn least_of(keys: &[u64], first: usize, end: usize) -> usize
         }
     }
     least
+}
+
+/// The place of a least key of the four from `first` on: the lesser one of those of two pairs. Which one that is decides
+/// no jump, so a processor has nothing to guess wrong.
+fn least_of_four(keys: &[u64], first: usize) -> usize
+    requires within { first + 4 ≤ length keys.now }
+    ensures from { first ≤ result }
+    ensures before { result < first + 4 }
+    ensures least { (j : ℕ) → first ≤ j → j < first + 4 → slice_index keys.now result ≤ slice_index keys.now j }
+{
+    let low = lesser(keys, first, first + 1);
+    let high = lesser(keys, first + 2, first + 3);
+    lesser(keys, low, high)
+}
+
+/// The one of two places that has the lesser key, or the first.
+fn lesser(keys: &[u64], one: usize, other: usize) -> usize
+    requires one { one < length keys.now }
+    requires other { other < length keys.now }
+    ensures place { (result ≡ one) ⊎ (result ≡ other) }
+    ensures one { slice_index keys.now result ≤ slice_index keys.now one }
+    ensures other { slice_index keys.now result ≤ slice_index keys.now other }
+{
+    if keys[other] < keys[one] { other } else { one }
 }
 
 /// Moves the entry at another place into the gap, which is then at that place.
