@@ -1,6 +1,6 @@
 -- Rounds of repair, one after another.
 use Rattle.std.proofs.Common.{◌≡◌, ◌≢◌, ℕ, zero, suc, ◌+◌, ◌-◌, ◌≤◌, ◌<◌, List, [], ◌∷◌, ◌++◌, length, min, replicate}
-use Rattle.std.proofs.Common.{slice_index, slice_index_or, Option, refl, sym, ◌∙◌, ap, subst, arith, ⊎_elim}
+use Rattle.std.proofs.Common.{Vec, Global, slice_index, slice_index_or, Option, refl, sym, ◌∙◌, ap, subst, arith, ⊎_elim}
 use Rattle.ripup_repair.proofs.Common.{fill_by_all, flat_map, range_with_len, cases_lt, append_assoc, append-nil, All-nil}
 use Rattle.ripup_repair.proofs.Common.{All-cons, get_or_from_slice_get, same_Some, slice_get_within, TableId, Piece, At, Design}
 use Rattle.ripup_repair.proofs.Common.{entries, Holding, IsShare, load_list, load_on, IsRouting, load_list-at, load_list-long}
@@ -14,6 +14,7 @@ use Rattle.routing_stages.specs.Whole.{IsWholeChosen, IsWholeShare}
 use Rattle.routing_passes.proofs.WorkerSteps.{zeros_are_loads}
 use Rattle.ripup_repair.specs.declared.left.Left.{Left}
 use Rattle.ripup_repair.specs.declared.repaired.Repaired.{Repaired}
+use Rattle.ripup_repair.specs.declared.routing.Routing.{Routing}
 use Rattle.ripup_repair.specs.RepairHistories.{IsRepaired, repair_history, round_history}
 
 -- what is so of the first number and of all behind it
@@ -28,26 +29,27 @@ among P x xs first behind zero y at = subst (P 0) (same_Some x y at) first
 among P x xs first behind (suc k) y at = behind k y at
 
 -- there was no overflow, or no round was left
-pub none_done : {d : Design} {left : Left} {table : TableId} {share : Holding} {trees : List (List Piece)} {loads : List ℕ}
-    → 1 ≤ left.workers → (0 < left.rounds → routing_overflow d trees ≡ 0) → HasLoadOf d table trees share
-    → AreRoundsDone d left table share trees trees loads loads (record { share = share; rounds = 0; least = left.least })
-none_done {d = d} {left = left} {table = table} {share = share} {trees = trees} some over has = record {
+pub none_done : {d : Design} {left : Left} {old : Routing} → 1 ≤ left.workers
+    → (0 < left.rounds → routing_overflow d old.trees.items ≡ 0) → HasLoadOf d old.table old.trees.items old.share
+    → AreRoundsDone d left old (record { routing = old; rounds = 0; least = left.least })
+none_done {d} {left} {old} some over has = record {
   later = [];
   run = record {
     some = some;
     read = λ round start. replicate (entries d.grid) 0;
     read_loads = λ round start. zeros_are_loads d.grid;
     seen = λ round turn. replicate (entries d.grid) 0;
-    each = λ round before after at next. absurd (omega (arith, slice_get_within (trees ∷ []) (round + 1) after next));
+    each = λ round before after at next. absurd (omega (arith, slice_get_within (old.trees.items ∷ []) (round + 1) after next));
     most = omega arith;
     goes_on = λ round t at more. absurd (omega (arith, more));
-    ends = among (λ round t. round + 1 ≡ 1 → round < left.rounds → routing_overflow d t ≡ 0) trees [] (λ last. over)
+    ends = among (λ round t. round + 1 ≡ 1 → round < left.rounds → routing_overflow d t ≡ 0) old.trees.items [] (λ last. over)
         (λ k t at. absurd (omega (arith, slice_get_within [] k t at)));
   };
   count = refl;
   routings = All-nil (IsRouting d.grid d.nets);
-  share = λ t at. subst (λ (x : List (List Piece)). HasLoadOf d table x share) (same_Some trees t at) has;
-  history = sym (append-nil share.party.history);
+  table = refl;
+  share = λ t at. subst (λ (x : List (List Piece)). HasLoadOf d old.table x old.share) (same_Some old.trees.items t at) has;
+  history = sym (append-nil old.share.party.history);
   within = omega arith;
   better = λ less. absurd (omega (arith, less));
   none = λ equal. (refl, refl, λ k t at. absurd (omega (arith, slice_get_within [] k t at)));
@@ -124,17 +126,19 @@ result_first d after later trees same none = rw same (record {
 })
 
 -- what some rounds made of a routing, from the first of them on
-pub more_done : {d : Design} {left : Left} {table : TableId} {old mid : Holding} {before after kept final : List (List Piece)}
-    {loads0 loads1 loads2 : List ℕ} {over : ℕ} {r : Repaired}
-    → 0 < left.rounds → 0 < routing_overflow d before → over ≡ routing_overflow d after
-    → IsRoundDone d left.workers left.budget table old mid before after
-    → AreRoundsDone d (record left { rounds = left.rounds - 1; overflow = over; least = min left.least over }) table mid after
-    kept loads1 loads2 r
-    → (over < left.least → loads1 ≡ load_list d.grid d.nets after) → (left.least ≤ over → loads1 ≡ loads0)
-    → (r.least ≡ left.least → final ≡ before) → (r.least ≢ left.least → final ≡ kept)
-    → AreRoundsDone d left table old before final loads0 loads2 (record r { rounds = r.rounds + 1 })
-more_done {d = d} {left = left} {old = old} {before = before} {after = after} {kept = kept} {final = final} {over = over} {r = r}
-    some positive is round done better none back stay =
+pub more_done : {d : Design} {left : Left} {old mid : Routing} {over : ℕ} {r : Repaired} (final : Vec (List Piece) Global)
+    → 0 < left.rounds → 0 < routing_overflow d old.trees.items → over ≡ routing_overflow d mid.trees.items
+    → IsRoundDone d left.workers left.budget old.table old.share mid.share old.trees.items mid.trees.items
+    → mid.table ≡ old.table
+    → AreRoundsDone d (record left { rounds = left.rounds - 1; overflow = over; least = min left.least over }) mid r
+    → (over < left.least → mid.loads.items ≡ load_list d.grid d.nets mid.trees.items)
+    → (left.least ≤ over → mid.loads.items ≡ old.loads.items)
+    → (r.least ≡ left.least → final.items ≡ old.trees.items) → (r.least ≢ left.least → final.items ≡ r.routing.trees.items)
+    → AreRoundsDone d left old
+    (record { routing = record r.routing { trees = final }; rounds = r.rounds + 1; least = r.least })
+more_done {d} {left} {old} {mid} {over} {r} final some positive is round table done better none back stay =
+    let before : List (List Piece) = old.trees.items in
+    let after : List (List Piece) = mid.trees.items in
     let next : r.rounds + 1 ≡ suc r.rounds = omega arith in
     let routings : List (List (List Piece)) = after ∷ done.later in
     let reads : ℕ → ℕ → List ℕ = from_first (λ _. ℕ → List ℕ) round.read done.run.read in
@@ -144,25 +148,26 @@ more_done {d = d} {left = left} {old = old} {before = before} {after = after} {k
           round.round round.read_loads done.run;
       count = omega (arith, done.count);
       routings = All-cons (IsRouting d.grid d.nets) after done.later round.routing done.routings;
-      share = λ t at. done.share t (subst (λ (k : ℕ). At (before ∷ routings) k t) next at);
+      table = done.table ∙ table;
+      share = λ t at. rw table at (done.share t (subst (λ (k : ℕ). At (before ∷ routings) k t) next at));
       history = done.history
           ∙ ap (λ h. h ++ repair_history d left.workers routings done.run.read r.rounds) round.history
-          ∙ append_assoc old.party.history (round_history d left.workers before round.read)
+          ∙ append_assoc old.share.party.history (round_history d left.workers before round.read)
           (repair_history d left.workers routings done.run.read r.rounds)
-          ∙ ap (λ h. old.party.history ++ h)
+          ∙ ap (λ h. old.share.party.history ++ h)
           (sym (history-first d left.workers before routings round.read done.run.read r.rounds))
-          ∙ ap (λ k. old.party.history ++ repair_history d left.workers (before ∷ routings) reads k) (sym next);
+          ∙ ap (λ k. old.share.party.history ++ repair_history d left.workers (before ∷ routings) reads k) (sym next);
       within = omega (arith, done.within);
       better = λ less.
-          let its : final ≡ kept = stay (λ equal. omega (arith, equal, less)) in
+          let its : final.items ≡ r.routing.trees.items = stay (λ equal. omega (arith, equal, less)) in
           rw its (⊎_elim
           (λ (lower : r.least < min left.least over).
           let best = done.better lower in
-          (result_behind d after done.later kept (omega (arith, best.1, lower, is)) best.0, best.1, best.2))
+          (result_behind d after done.later _ (omega (arith, best.1, lower, is)) best.0, best.1, best.2))
           (λ (equal : min left.least over ≤ r.least).
           let last = done.none (omega (arith, equal, done.within)) in
           let under : over < left.least = omega (arith, less, equal) in (
-            result_first d after done.later kept last.0 (λ k t at. omega (arith, last.2 k t at, under, is)),
+            result_first d after done.later _ last.0 (λ k t at. omega (arith, last.2 k t at, under, is)),
             ap (routing_overflow d) last.0 ∙ omega (arith, is, equal, under, done.within),
             last.1 ∙ better under ∙ ap (load_list d.grid d.nets) (sym last.0),
           ))
@@ -205,25 +210,22 @@ whole_load {d = d} {chosen = chosen} whole = record {
       ∙ load_list-at d.grid d.nets chosen.trees r inside;
 }
 
--- rounds from the chosen sets on
-abbrev pub from_chosen : ℕ → Settings → ℕ → Left
-from_chosen workers settings over =
-    record { workers = workers; budget = settings.budget; rounds = settings.rounds; overflow = over; least = over }
-
 -- the result of rounds from the chosen sets on, which is a routing, with its loads
-pub is_result : {d : Design} {left : Left} {table : TableId} {old : Holding} {before after : List (List Piece)}
-    {loads0 loads1 : List ℕ} {r : Repaired} → (done : AreRoundsDone d left table old before after loads0 loads1 r)
-    → left.least ≡ routing_overflow d before → loads0 ≡ load_list d.grid d.nets before → IsRouting d.grid d.nets before
-    → IsRepairResult d (before ∷ done.later) after × (loads1 ≡ load_list d.grid d.nets after) × IsRouting d.grid d.nets after
-is_result {d = d} {left = left} {before = before} {after = after} {loads1 = loads1} {r = r} done is loads first =
-    let routings : List (List (List Piece)) = before ∷ done.later in
-    let found : IsRepairResult d routings after × (loads1 ≡ load_list d.grid d.nets after) = ⊎_elim
+pub is_result : {d : Design} {left : Left} {old : Routing} {r : Repaired} → (done : AreRoundsDone d left old r)
+    → left.least ≡ routing_overflow d old.trees.items → old.loads.items ≡ load_list d.grid d.nets old.trees.items
+    → IsRouting d.grid d.nets old.trees.items
+    → IsRepairResult d (old.trees.items ∷ done.later) r.routing.trees.items
+    × (r.routing.loads.items ≡ load_list d.grid d.nets r.routing.trees.items) × IsRouting d.grid d.nets r.routing.trees.items
+is_result {d} {left} {old} {r} done is loads first =
+    let after : List (List Piece) = r.routing.trees.items in
+    let routings : List (List (List Piece)) = old.trees.items ∷ done.later in
+    let found : IsRepairResult d routings after × (r.routing.loads.items ≡ load_list d.grid d.nets after) = ⊎_elim
     (λ (less : r.least < left.least).
     let best = done.better less in
-    (result_behind d before done.later after (omega (arith, best.1, less, is)) best.0, best.2))
+    (result_behind d _ done.later after (omega (arith, best.1, less, is)) best.0, best.2))
     (λ (more : left.least ≤ r.least).
     let none = done.none (omega (arith, more, done.within)) in (
-      result_first d before done.later after none.0 (λ k t at. omega (arith, none.2 k t at, is)),
+      result_first d _ done.later after none.0 (λ k t at. omega (arith, none.2 k t at, is)),
       none.1 ∙ loads ∙ ap (load_list d.grid d.nets) (sym none.0),
     ))
     (cases_lt r.least left.least) in (
@@ -231,28 +233,27 @@ is_result {d = d} {left = left} {before = before} {after = after} {loads1 = load
       found.1,
       subst (λ (ts : List (List Piece)). IsRouting d.grid d.nets ts)
           (get_or_from_slice_get routings found.0.round after after found.0.stands)
-          (All-cons (IsRouting d.grid d.nets) before done.later first done.routings found.0.round after
+          (All-cons (IsRouting d.grid d.nets) _ done.later first done.routings found.0.round after
           (slice_get_within routings found.0.round after found.0.stands)),
     )
 
 -- so what is handed on is the result of a repair run
-pub is_repaired : {d : Design} {workers : ℕ} {settings : Settings} {chosen : Chosen} {after : List (List Piece)}
-    {loads0 loads1 : List ℕ} {over : ℕ} {x : Repaired} (r : Routed)
-    → (done : AreRoundsDone d (from_chosen workers settings over) chosen.table chosen.share chosen.trees after loads0 loads1 x)
-    → IsRepairResult d (chosen.trees ∷ done.later) after
-    → IsShare x.share → chosen.table.words ≡ entries d.grid
-    → r.table ≡ chosen.table → r.share ≡ x.share → r.rounds ≡ x.rounds → r.trees ≡ after
-    → IsRepaired d workers settings chosen r
-is_repaired {d = d} {workers = workers} {chosen = chosen} {x = x} r done result valid words table share rounds trees = record {
-  routings = chosen.trees ∷ done.later;
+pub is_repaired : {d : Design} {workers : ℕ} {settings : Settings} {chosen : Chosen} {list : Vec (List Piece) Global} {over : ℕ}
+    {x : Repaired} (r : Routed) → (done : AreRoundsDone d
+    (record { workers = workers; budget = settings.budget; rounds = settings.rounds; overflow = over; least = over })
+    (record { table = chosen.table; share = chosen.share; trees = list; loads = chosen.loads }) x) → list.items ≡ chosen.trees
+    → IsRepairResult d (list.items ∷ done.later) x.routing.trees.items → IsShare x.routing.share
+    → chosen.table.words ≡ entries d.grid → r.table ≡ x.routing.table → r.share ≡ x.routing.share → r.rounds ≡ x.rounds
+    → r.trees ≡ x.routing.trees.items → IsRepaired d workers settings chosen r
+is_repaired {d} {chosen} {list} {x} r done begins result valid words table share rounds trees = record {
+  routings = list.items ∷ done.later;
   run = done.run;
-  begins = refl;
+  begins = rw begins refl;
   result = rw trees result;
   rounds = omega (arith, done.count, rounds);
   last = λ ts at.
-      let has = done.share ts (subst (λ (k : ℕ). At (chosen.trees ∷ done.later) k ts) rounds at) in
-      rw (table, share) (whole_share d chosen.table ts x.share has valid (ap (λ (t : TableId). t.words) has.of_table ∙ words));
-  history = ap (λ (h : Holding). h.party.history) share
-      ∙ done.history
-      ∙ ap (λ k. chosen.share.party.history ++ repair_history d workers (chosen.trees ∷ done.later) done.run.read k) (sym rounds);
+      let has = done.share ts (subst (λ (k : ℕ). At (list.items ∷ done.later) k ts) rounds at) in
+      rw (table ∙ done.table, share) (whole_share d chosen.table ts x.routing.share has valid
+      (ap (λ (t : TableId). t.words) has.of_table ∙ words));
+  history = rw (share, rounds) done.history;
 }

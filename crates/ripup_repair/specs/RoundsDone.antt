@@ -13,6 +13,7 @@ use Rattle.tree_set.specs.Routings.{IsRouting}
 use Rattle.sharing_runs.specs.RepairRuns.{IsRepairResult, IsRepairRound, IsRepairRun, routing_overflow}
 use Rattle.ripup_repair.specs.declared.left.Left.{Left}
 use Rattle.ripup_repair.specs.declared.repaired.Repaired.{Repaired}
+use Rattle.ripup_repair.specs.declared.routing.Routing.{Routing}
 use Rattle.ripup_repair.specs.RepairHistories.{repair_history, round_history}
 
 -- the one share of the table, with the load of these sets
@@ -34,17 +35,19 @@ pub record IsRoundDone (d : Design) (workers : ℕ) (budget : Option ℕ) (table
 
 -- rounds have been, at most as many as were left, until there was no overflow: where one of them has less than the least before,
 -- the first of least overflow is what is left, with its loads, and else the sets and the loads before
-pub record AreRoundsDone (d : Design) (left : Left) (table : TableId) (old : Holding) (before after : List (List Piece))
-    (old_loads new_loads : List ℕ) (r : Repaired) : Type 0 where
+pub record AreRoundsDone (d : Design) (left : Left) (old : Routing) (r : Repaired) : Type 0 where
   pub later : List (List (List Piece))
-  pub run : IsRepairRun d left.workers left.budget left.rounds (before ∷ later)
+  pub run : IsRepairRun d left.workers left.budget left.rounds (old.trees.items ∷ later)
   pub count : length later ≡ r.rounds
   pub routings : All (IsRouting d.grid d.nets) later
-  pub share : (trees : List (List Piece)) → At (before ∷ later) r.rounds trees → HasLoadOf d table trees r.share
-  pub history : r.share.party.history
-      ≡ old.party.history ++ repair_history d left.workers (before ∷ later) run.read r.rounds
+  pub table : r.routing.table ≡ old.table
+  pub share : (trees : List (List Piece)) → At (old.trees.items ∷ later) r.rounds trees
+      → HasLoadOf d old.table trees r.routing.share
+  pub history : r.routing.share.party.history
+      ≡ old.share.party.history ++ repair_history d left.workers (old.trees.items ∷ later) run.read r.rounds
   pub within : r.least ≤ left.least
-  pub better : r.least < left.least → IsRepairResult d later after × (routing_overflow d after ≡ r.least)
-      × (new_loads ≡ load_list d.grid d.nets after)
-  pub none : r.least ≡ left.least → (after ≡ before) × (new_loads ≡ old_loads)
+  pub better : r.least < left.least → IsRepairResult d later r.routing.trees.items
+      × (routing_overflow d r.routing.trees.items ≡ r.least)
+      × (r.routing.loads.items ≡ load_list d.grid d.nets r.routing.trees.items)
+  pub none : r.least ≡ left.least → (r.routing.trees.items ≡ old.trees.items) × (r.routing.loads.items ≡ old.loads.items)
       × ((k : ℕ) (trees : List (List Piece)) → At later k trees → left.least ≤ routing_overflow d trees)

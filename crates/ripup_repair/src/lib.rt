@@ -21,5 +21,6 @@ mod repaired;
 mod repairing;
 mod replaced;
 mod rounds;
+mod routing;
 
 pub use repairing::repair;

@@ -1,11 +1,12 @@
 //! What some rounds came to.
 
-use load_table::Share;
+use crate::routing::Routing;
 
-/// What some rounds came to: the share after the last of them, how many there were, and the least overflow so far.
+/// What some rounds came to: the routing that is left, whose share is as the last of them left it, how many rounds there were,
+/// and the least overflow so far.
 #[derive(Drop)]
 pub(crate) struct Repaired {
-    pub share: Share,
+    pub routing: Routing,
     pub rounds: u32,
     pub least: u64,
 }

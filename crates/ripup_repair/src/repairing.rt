@@ -13,7 +13,9 @@ ghost use Rattle.ripup_repair.specs.RepairHistories.{IsRepaired};
 
 use crate::left::Left;
 use crate::overflow::overflow_of;
+use crate::repaired::Repaired;
 use crate::rounds::repair_rounds;
+use crate::routing::Routing;
 use grid_base::NoMemory;
 use grid_graph::{Design, Ground};
 use load_core::WHOLE_ALLOTMENT;
@@ -52,13 +54,12 @@ pub fn repair<R: Threads + Sync, G: Gate>(
         table,
         share,
         trees,
-        mut loads,
+        loads,
         prices,
     } = chosen;
     // By this call, here and below, the proof knows that a share has an entry for each word.
     prove!(share.allotment() <= WHOLE_ALLOTMENT);
     let workers = settings.workers_in_use(design.grid.size());
-    let mut list = trees.into_list();
     let rounded = overflow_of(design, &loads);
     let left = Left {
         workers,
@@ -67,18 +68,26 @@ pub fn repair<R: Threads + Sync, G: Gate>(
         overflow: rounded,
         least: rounded,
     };
-    let done = repair_rounds(
-        rt, alloc, design, grounds, &table, gate, share, &mut list, &mut loads, left,
-    )?;
-    let share = done.share;
-    prove!(share.allotment() <= WHOLE_ALLOTMENT);
-    Ok(Routed {
+    let routing = Routing {
         table,
         share,
-        trees: Trees::of(list),
+        trees: trees.into_list(),
         loads,
+    };
+    let done = repair_rounds(rt, alloc, design, grounds, gate, routing, left)?;
+    let Repaired {
+        routing,
+        rounds,
+        ..
+    } = done;
+    prove!(routing.share.allotment() <= WHOLE_ALLOTMENT);
+    Ok(Routed {
+        table: routing.table,
+        share: routing.share,
+        trees: Trees::of(routing.trees),
+        loads: routing.loads,
         prices,
         rounded,
-        rounds: done.rounds,
+        rounds,
     })
 }

@@ -4,6 +4,7 @@ ghost use Rattle.std.specs.Prelude.{◌≡◌, ◌<◌, false, true, length, All
 ghost use Rattle.ripup_repair.specs.Exchanged.{with_elements};
 
 use crate::exchange::exchange;
+use crate::routing::Routing;
 use tree_set::Tree;
 
 /// The positions of the nets that a round replaced the sets of, in rising order, and the sets that they had.
@@ -15,15 +16,30 @@ pub(crate) struct Replaced {
 
 impl Replaced {
     /// The nets get back the sets that they had, unless a later routing is better.
-    pub(crate) fn put_back_unless(mut self, is_better: bool, trees: &mut [Tree])
-        requires positions { All (λ position. position < length trees.old) self.positions.items }
+    pub(crate) fn put_back_unless(mut self, is_better: bool, routing: Routing) -> Routing
+        requires positions { All (λ position. position < length routing.trees.items) self.positions.items }
         requires rising { AllPairs (λ position later. position < later) self.positions.items }
         requires long { length self.sets.items ≡ length self.positions.items }
-        ensures back { is_better ≡ false → trees.new ≡ with_elements trees.old self.positions.items self.sets.items }
-        ensures better { is_better ≡ true → trees.new ≡ trees.old }
+        ensures back { is_better ≡ false → result.trees.items ≡ with_elements routing.trees.items self.positions.items self.sets.items }
+        ensures better { is_better ≡ true → result.trees.items ≡ routing.trees.items }
+        ensures long { length result.trees.items ≡ length routing.trees.items }
+        ensures others { result ≡ record routing { trees = result.trees } }
     {
-        if !is_better {
-            exchange(trees, &self.positions, &mut self.sets);
+        if is_better {
+            return routing;
+        }
+        let Routing {
+            table,
+            share,
+            mut trees,
+            loads,
+        } = routing;
+        exchange(&mut trees, &self.positions, &mut self.sets);
+        Routing {
+            table,
+            share,
+            trees,
+            loads,
         }
     }
 }

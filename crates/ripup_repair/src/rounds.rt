@@ -19,54 +19,55 @@ use crate::overflow::overflow_of;
 use crate::overfull::nets_to_repair;
 use crate::repaired::Repaired;
 use crate::replaced::Replaced;
+use crate::routing::Routing;
 use grid_base::NoMemory;
 use grid_graph::{Design, Ground};
 use load_core::WHOLE_ALLOTMENT;
-use load_table::{LoadTable, Share};
+use load_table::Share;
 use routing_passes::{Plan, route_parts};
 use routing_stages::{Gate, Trees, write_shares};
 use std::alloc::Global;
 use std::thread::Threads;
-use tree_set::Tree;
 
 /// The scale of the prices in repair.
 const REPAIR_SCALE: u32 = 16;
 
 /// At most so many rounds, while there is overflow. Where one of them has less than the least so far, the first of least
-/// overflow is what `trees` and `loads` are left with; else both are left as they were.
+/// overflow is what sets and loads are left as; else both are left as they were.
 pub(crate) fn repair_rounds<R: Threads + Sync, G: Gate>(
     rt: &R,
     alloc: Global,
     design: &Design,
     grounds: &[Ground],
-    table: &LoadTable,
     gate: &G,
-    share: Share,
-    trees: &mut [Tree],
-    loads: &mut Vec<u64>,
+    routing: Routing,
     left: Left,
 ) -> Result<Repaired, NoMemory>
     requires grounds { AreGrounds design.now.grid design.now.nets grounds.now }
-    requires words { table.now.words ≡ entries design.now.grid }
+    requires words { routing.table.words ≡ entries design.now.grid }
     requires workers { (1 ≤ left.workers) × (left.workers ≤ max_workers) }
     requires budget { IsBudget left.budget }
-    requires routing { IsRouting design.now.grid design.now.nets trees.old }
-    requires share { HasLoadOf design.now table.now trees.old share }
-    requires overflow { left.overflow ≡ routing_overflow design.now trees.old }
-    ensures done { IfOk result (λ r. AreRoundsDone design.now left table.now share trees.old trees.new loads.old.items
-        loads.new.items r) }
+    requires routing { IsRouting design.now.grid design.now.nets routing.trees.items }
+    requires share { HasLoadOf design.now routing.table routing.trees.items routing.share }
+    requires overflow { left.overflow ≡ routing_overflow design.now routing.trees.items }
+    ensures done { IfOk result (λ r. AreRoundsDone design.now left routing r) }
+    ensures long { IfOk result (λ r. length r.routing.trees.items ≡ length routing.trees.items) }
 {
     if left.overflow == 0 || left.rounds == 0 {
         return Ok(Repaired {
-            share,
+            routing,
             rounds: 0,
             least: left.least,
         });
     }
-    let (share, replaced) = repair_round(
-        rt, alloc, design, grounds, table, gate, share, trees, left,
+    let (mut routing, replaced) = repair_round(rt, alloc, design, grounds, gate, routing, left)?;
+    let overflow = keep_if_less(
+        alloc,
+        design,
+        &routing.share,
+        left.least,
+        &mut routing.loads,
     )?;
-    let overflow = keep_if_less(alloc, design, &share, left.least, loads)?;
     let next = Left {
         workers: left.workers,
         budget: left.budget,
@@ -74,14 +75,17 @@ pub(crate) fn repair_rounds<R: Threads + Sync, G: Gate>(
         overflow,
         least: left.least.min(overflow),
     };
-    let later = repair_rounds(
-        rt, alloc, design, grounds, table, gate, share, trees, loads, next,
-    )?;
-    replaced.put_back_unless(later.least < left.least, trees);
+    let later = repair_rounds(rt, alloc, design, grounds, gate, routing, next)?;
+    let Repaired {
+        routing,
+        rounds,
+        least,
+    } = later;
+    let routing = replaced.put_back_unless(least < left.least, routing);
     Ok(Repaired {
-        share: later.share,
-        rounds: later.rounds + 1,
-        least: later.least,
+        routing,
+        rounds: rounds + 1,
+        least,
     })
 }
 
@@ -116,25 +120,32 @@ fn repair_round<R: Threads + Sync, G: Gate>(
     alloc: Global,
     design: &Design,
     grounds: &[Ground],
-    table: &LoadTable,
     gate: &G,
-    share: Share,
-    trees: &mut [Tree],
+    routing: Routing,
     left: Left,
-) -> Result<(Share, Replaced), NoMemory>
+) -> Result<(Routing, Replaced), NoMemory>
     requires grounds { AreGrounds design.now.grid design.now.nets grounds.now }
-    requires words { table.now.words ≡ entries design.now.grid }
+    requires words { routing.table.words ≡ entries design.now.grid }
     requires workers { (1 ≤ left.workers) × (left.workers ≤ max_workers) }
     requires budget { IsBudget left.budget }
-    requires routing { IsRouting design.now.grid design.now.nets trees.old }
-    requires share { HasLoadOf design.now table.now trees.old share }
-    ensures done { IfOk result (λ r. IsRoundDone design.now left.workers left.budget table.now share r.0 trees.old trees.new) }
-    ensures positions { IfOk result (λ r. (All (λ position. position < length trees.old) r.1.positions.items)
+    requires routing { IsRouting design.now.grid design.now.nets routing.trees.items }
+    requires share { HasLoadOf design.now routing.table routing.trees.items routing.share }
+    ensures done { IfOk result (λ r. IsRoundDone design.now left.workers left.budget routing.table routing.share r.0.share
+        routing.trees.items r.0.trees.items) }
+    ensures kept { IfOk result (λ r. (r.0.table ≡ routing.table) × (r.0.loads ≡ routing.loads)) }
+    ensures positions { IfOk result (λ r. (All (λ position. position < length r.0.trees.items) r.1.positions.items)
         × (AllPairs (λ position later. position < later) r.1.positions.items)) }
     ensures sets { IfOk result (λ r. length r.1.sets.items ≡ length r.1.positions.items) }
-    ensures back { IfOk result (λ r. with_elements trees.new r.1.positions.items r.1.sets.items ≡ trees.old) }
+    ensures back { IfOk result (λ r. with_elements r.0.trees.items r.1.positions.items r.1.sets.items ≡ routing.trees.items) }
 {
-    let positions = nets_to_repair(alloc, design, &share, trees)?;
+    let Routing {
+        table,
+        share,
+        mut trees,
+        loads,
+    } = routing;
+    let before = trees.as_slice();
+    let positions = nets_to_repair(alloc, design, &share, before)?;
     // It is the one share of the table; by this call the proof knows that it has an entry for each word.
     prove_eq!(share.allotment(), WHOLE_ALLOTMENT);
     let plan = Plan {
@@ -148,21 +159,22 @@ fn repair_round<R: Threads + Sync, G: Gate>(
         rt,
         design,
         grounds,
-        table,
+        &table,
         others.as_slice(),
-        trees,
+        before,
         &plan,
         gate,
         share,
         0,
         left.workers,
     )?;
-    exchange(trees, &plan.positions, &mut sets);
-    Ok((
+    exchange(&mut trees, &plan.positions, &mut sets);
+    let routing = Routing {
+        table,
         share,
-        Replaced {
-            positions: plan.positions,
-            sets,
-        },
-    ))
+        trees,
+        loads,
+    };
+    let positions = plan.positions;
+    Ok((routing, Replaced { positions, sets }))
 }

@@ -238,9 +238,9 @@ module _ {p : Pass} {old new : Holding} {sets : List (List Piece)} (phase : IsPh
       }
 
 -- before the first phase
-pub run_begins : {d : Design} {workers : ℕ} {budget : Option ℕ} {table : TableId} {share : Holding} → 1 ≤ workers
-    → share ≡ held table (first_party table.words) → IsRunSoFar d workers budget table share []
-run_begins {d} {table} some first = record {
+pub run_begins : {d : Design} {workers : ℕ} {budget : Option ℕ} {table : TableId} {share : Holding} (words : ℕ) → 1 ≤ workers
+    → share ≡ held table (first_party words) → IsRunSoFar d workers budget table share []
+run_begins {d} words some first = record {
   recorded = record {
     run = record {
       some = some;
@@ -255,6 +255,6 @@ run_begins {d} {table} some first = record {
   routings = All-nil (IsRouting d.grid d.nets);
   of_table = ap (λ (h : Holding). h.table) first;
   allot = ap (λ (h : Holding). h.party.allot) first;
-  loads = λ r within. ap (λ (h : Holding). share_at r h.party) first ∙ zeros table.words r;
-  few = λ r. omega (arith, ap (λ (h : Holding). share_at r h.party) first, zeros table.words r);
+  loads = λ r within. ap (λ (h : Holding). share_at r h.party) first ∙ zeros words r;
+  few = λ r. omega (arith, ap (λ (h : Holding). share_at r h.party) first, zeros words r);
 }

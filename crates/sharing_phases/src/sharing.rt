@@ -8,8 +8,6 @@ ghost use Rattle.grid_graph.specs.Limits.{max_nets};
 ghost use Rattle.grid_graph.specs.Grounds.{AreGrounds};
 ghost use Rattle.edge_prices.specs.Limits.{IsBudget};
 ghost use Rattle.edge_prices.specs.Vectors.{price_vector};
-ghost use Rattle.load_core.specs.Parties.{first_party};
-ghost use Rattle.load_table.specs.Holdings.{held};
 ghost use Rattle.routing_stages.specs.Limits.{max_workers, max_phases};
 ghost use Rattle.routing_stages.specs.Settings.{AreSettings, workers_in_use};
 ghost use Rattle.routing_stages.specs.Whole.{IsWholeShared};
@@ -50,23 +48,20 @@ pub fn share<R: Threads + Sync, G: Gate>(
     ensures whole { IfOk result (λ s. IsWholeShared design.now s) }
 {
     let words = 2 * design.grid.size().vertices() + 1;
-    let (table, first) = LoadTable::open(alloc, words)?;
     let plan = Plan {
         positions: all_positions(alloc, design.nets.list().len())?,
         scale: 1,
         workers: settings.workers_in_use(design.grid.size()),
         budget: settings.budget,
     };
-    let (share, phases) = route_phases(
+    let (table, share, phases) = route_phases(
         rt,
         alloc,
         design,
         grounds,
-        &table,
-        first,
+        gate,
         &plan,
         settings.phases,
-        gate,
     )?;
     let mut loads = vec![in alloc; 0u64; words as usize]?;
     write_shares(&share, words, &mut loads);
@@ -81,29 +76,28 @@ pub fn share<R: Threads + Sync, G: Gate>(
     })
 }
 
-/// So many phases, one after another. Each is a pass over all nets, whose old sets are empty.
+/// So many phases, one after another, with a table of their loads and its one share. Each is a pass over all nets, whose old
+/// sets are empty.
 fn route_phases<R: Threads + Sync, G: Gate>(
     rt: &R,
     alloc: Global,
     design: &Design,
     grounds: &[Ground],
-    table: &LoadTable,
-    first: Share,
+    gate: &G,
     plan: &Plan,
     count: u32,
-    gate: &G,
-) -> Result<(Share, Vec<Trees>), NoMemory>
+) -> Result<(LoadTable, Share, Vec<Trees>), NoMemory>
     requires grounds { AreGrounds design.now.grid design.now.nets grounds.now }
-    requires words { table.now.words ≡ entries design.now.grid }
-    requires first { first ≡ held table.now (first_party table.now.words) }
     requires plan { IsPhasePlan (length design.now.nets) plan.now }
     requires workers { (1 ≤ plan.now.workers) × (plan.now.workers ≤ max_workers) }
     requires count { count ≤ max_phases }
     requires budget { IsBudget plan.now.budget }
-    ensures run { IfOk result (λ r. IsRunSoFar design.now plan.now.workers plan.now.budget table.now r.0 r.1.items) }
-    ensures count { IfOk result (λ r. length r.1.items ≡ count) }
+    ensures words { IfOk result (λ r. r.0.words ≡ entries design.now.grid) }
+    ensures run { IfOk result (λ r. IsRunSoFar design.now plan.now.workers plan.now.budget r.0 r.1 r.2.items) }
+    ensures count { IfOk result (λ r. length r.2.items ≡ count) }
 {
-    let mut share = first;
+    let (opened, mut share) = LoadTable::open(alloc, 2 * design.grid.size().vertices() + 1)?;
+    let table = &opened;
     let mut phases = Vec::new(alloc);
     let none = no_sets(alloc, design.nets.list().len())?;
     for _ in 0..count {
@@ -123,7 +117,7 @@ fn route_phases<R: Threads + Sync, G: Gate>(
         share = next;
         phases.push(Trees::of(sets))?;
     }
-    Ok((share, phases))
+    Ok((opened, share, phases))
 }
 
 /// The positions of so many nets, in rising order.

@@ -1,9 +1,9 @@
-use Rattle.std.proofs.Common.{◌≡◌, ◌<◌, ◌∷◌, [], ℕ, List, length, refl, ◌∙◌, ap, arith}
+use Rattle.std.proofs.Common.{◌≡◌, ◌<◌, ◌+◌, ◌*◌, ◌∷◌, [], ℕ, List, length, refl, ◌∙◌, ap, arith}
 use Rattle.std.proofs.lemmas.List.{length-append, length-replicate}
 use Rattle.std.proofs.lemmas.List.Elements.{All-nil, All-replicate}
 use Rattle.std.proofs.lemmas.List.FromFn.{get_or-range_with_len, length-range_with_len}
 use Rattle.grid_base.specs.declared.piece.Piece.{Piece}
-use Rattle.grid_base.specs.Numbers.{IsPiece}
+use Rattle.grid_base.specs.Numbers.{IsPiece, vertices}
 use Rattle.grid_graph.specs.Grids.{size_of}
 use Rattle.tree_set.specs.Routings.{ArePieces}
 use Rattle.routing_passes.specs.Passes.{pass_of}
@@ -14,7 +14,7 @@ use Rattle.sharing_phases.proofs.sharing.route_phases.Goals.{After-as_slice-in-l
 
 -- in each round of the loop the pass is a phase
 phase_here : (g : _) (c : After-as_slice-in-loop g) → IsPhase (pass_of c.args.design.now c.args.grounds.now
-    c.args.table.now c.as_slice.result.now c.as_slice-in-loop.result.now c.args.plan.now)
+    c.in_ok-opened.opened c.as_slice.result.now c.as_slice-in-loop.result.now c.args.plan.now)
 phase_here g c =
     let d = c.args.design.now in
     let n : ℕ = length d.nets in
@@ -26,7 +26,7 @@ phase_here g c =
     record {
       pass = record {
         grounds = c.requires.grounds;
-        words = c.requires.words;
+        words = c.in_ok-opened.ensures.words ∙ omega (arith, c.vertices.ensures, ap (λ s. vertices s) c.size.ensures);
         some = c.requires.workers.0;
         workers = c.requires.workers.1;
         scale = (omega (arith, c.requires.plan.scale), omega (arith, c.requires.plan.scale));
@@ -49,13 +49,13 @@ phase_here g c =
 
 -- behind the run of the phases so far
 run_here : (g : _) (c : After-as_slice-in-loop g) → IsRunSoFar c.args.design.now c.args.plan.now.workers
-    c.args.plan.now.budget c.args.table.now c.loop.share c.as_slice.result.now
-run_here g c =
-    rw c.as_slice.ensures.value c.loop.invariant.run
+    c.args.plan.now.budget c.in_ok-opened.opened c.loop.share c.as_slice.result.now
+run_here g c = rw c.as_slice.ensures.value c.loop.invariant.run
 
 pub loop-init : goal.loop-init
 loop-init g c =
-    rw c.new-phases.ensures.items (record { run = run_begins c.requires.workers.0 c.requires.first; count = refl })
+    let begins = run_begins (2 * c.vertices.result + 1) c.requires.workers.0 c.in_ok-opened.ensures.share in
+    rw c.new-phases.ensures.items (record { run = begins; count = refl })
 
 pub route_parts-requires-clause-pass : goal.route_parts-requires-clause-pass
 route_parts-requires-clause-pass g c κs within = (phase_here g c).pass

@@ -20,13 +20,13 @@ loads_now g c = (
 pub returns-clause-whole : goal.returns-clause-whole
 returns-clause-whole g c =
     let d = c.args.design.now in
-    let run = c.in_ok-share.ensures.run in
+    let run = c.in_ok-table.ensures.run in
     let now = loads_now g (goal.at.returns-clause-whole g c).After-write_shares in
     rw c.of.ensures (record {
-      some = omega (arith, c.in_ok-share.ensures.count, c.requires.settings.some_phases);
-      few = omega (arith, c.in_ok-share.ensures.count, c.requires.settings.phases);
+      some = omega (arith, c.in_ok-table.ensures.count, c.requires.settings.some_phases);
+      few = omega (arith, c.in_ok-table.ensures.count, c.requires.settings.phases);
       routings = run.routings;
-      loads = now.1 ∙ fill_by_all (phases_load d.grid d.nets c.in_ok-share.phases.items) c.write_shares.new.loads (entries d.grid)
+      loads = now.1 ∙ fill_by_all (phases_load d.grid d.nets c.in_ok-table.phases.items) c.write_shares.new.loads (entries d.grid)
           0 now.0 (λ r within. rw c.write_shares.ensures.shares (run.loads r within));
       prices = ap length (written c.in_ok-list.list.len c.prices.new.out c.in_ok-list.list.items
           (omega (arith, c.in_ok-list.ensures.len, c.prices.ensures.list.long, now.0, c.write_shares.ensures.long)))
@@ -37,9 +37,9 @@ returns-clause-whole g c =
 pub prices-requires-clause-loads : goal.prices-requires-clause-loads
 prices-requires-clause-loads g c =
     let now = loads_now g (goal.at.prices-requires-clause-loads g c).After-write_shares in
-    let few = λ (r : ℕ). c.in_ok-share.ensures.run.few r in
+    let few = λ (r : ℕ). c.in_ok-table.ensures.run.few r in
     rw (c.deref.ensures.value, now.1) (record {
       long = now.0;
       within = λ r. rw c.write_shares.ensures.shares
-          (omega (arith, few r, c.in_ok-share.ensures.count, c.requires.settings.phases));
+          (omega (arith, few r, c.in_ok-table.ensures.count, c.requires.settings.phases));
     })
