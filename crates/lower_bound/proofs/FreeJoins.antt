@@ -81,16 +81,6 @@ joined_freely s pieces T U are joins a b at_a at_b =
     WalkBetween-trans s G a v.0 b (WalkBetween-sym s G v.0 a (free v.0 a v.2))
     (WalkBetween-trans s G v.0 w.0 b (joins v.0 w.0 v.1 w.1) (free w.0 b w.2))
 
--- the same vertices
-pub least_alike : (s : Size) (pieces : List (Piece × ℕ)) (T U : ℕ → Type 0) (n : ℕ) → ((v : ℕ) → T v ↔ U v) → IsLeastWeight s pieces U n → IsLeastWeight s pieces T n
-least_alike s pieces T U n alike is = record {
-  set = is.set;
-  is_set = is.is_set;
-  joins = λ a b at_a at_b. is.joins a b ((alike a).0 at_a) ((alike b).0 at_b);
-  weighs = is.weighs;
-  lightest = λ other other_is joined. is.lightest other other_is (λ a b at_a at_b. joined a b ((alike a).1 at_a) ((alike b).1 at_b));
-}
-
 -- ---- those that stand for others
 
 pub represented_freely : (s : Size) (pieces : List (Piece × ℕ)) (of : List ℕ) (tiles : List Vertex) → AreRepresentatives s pieces of → All (λ (v : Vertex). IsVertex s v.0) tiles → AreJoinedFreely s pieces (InVertices tiles) (InVertices (represented of tiles))
