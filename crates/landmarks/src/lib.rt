@@ -9,7 +9,7 @@
 //! let mut landmarks = Landmarks::new(alloc, size)?;
 //! landmarks.renew(&weights, &mut labels);
 //! let family = LandmarkFamily::new(&weights, size, &terminals, &landmarks);
-//! let least = least_at_root(&weights, &family, &terminals, guess, &mut labels);
+//! let least = least_at_root(&weights, &family, &terminals, guess, FIRST_SLACK, &mut labels);
 //! ```
 //!
 //! It stands on `shortest_paths` for the distances, on `steiner_exact` for extents of terminals and on `steiner_tables` for what

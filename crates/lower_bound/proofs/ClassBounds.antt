@@ -22,6 +22,7 @@ use Rattle.edge_prices.specs.Weights.{AreEdgePrices, cost}
 use Rattle.edge_prices.proofs.GroundPieces.{pieces_with-Weighs}
 use Rattle.label_search.specs.Sets.{IsLeastWeight}
 use Rattle.shortest_paths.proofs.TileSets.{tiles_joined, tiles_of_vertices}
+use Rattle.least_weights.proofs.FewVertices.{least_alike}
 use Rattle.lower_bound.specs.declared.class_costs.ClassCosts.{ClassCosts}
 use Rattle.lower_bound.specs.ClassWords.{AreClassCosts, IsCurrentClass, KeepsClass, class_pieces}
 use Rattle.lower_bound.specs.Costs.{costed}
@@ -31,7 +32,7 @@ use Rattle.lower_bound.specs.Representatives.{represented, AreJoinedFreely}
 use Rattle.lower_bound.specs.TileCosts.{costs_between}
 use Rattle.lower_bound.proofs.CostLists.{same_tiles}
 use Rattle.lower_bound.proofs.Costed.{raised_costs}
-use Rattle.lower_bound.proofs.FreeJoins.{least_freely, least_alike, joined_freely, represented_freely, represented_vertices, sum_freely}
+use Rattle.lower_bound.proofs.FreeJoins.{least_freely, joined_freely, represented_freely, represented_vertices, sum_freely}
 use Rattle.lower_bound.proofs.TileBounds.{least_of_tiles, sum_by_tiles}
 
 -- ---- what a class pays

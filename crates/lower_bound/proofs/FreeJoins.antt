@@ -1,5 +1,5 @@
 -- Vertices that pieces without weight join: least weights are those of vertices that stand for them.
-use Rattle.std.proofs.Common.{◌≡◌, ℕ, ◌==◌, ◌<◌, ◌≤◌, ◌↔◌, Bool, true, List, All, length, get_or, option_map, slice_index, refl, sym, ap, subst, ◌∙◌, inl, inr, ⊎_elim, arith, eqb-true}
+use Rattle.std.proofs.Common.{◌≡◌, ℕ, ◌==◌, ◌<◌, ◌≤◌, Bool, true, List, All, length, get_or, option_map, slice_index, refl, sym, ap, subst, ◌∙◌, inl, inr, ⊎_elim, arith, eqb-true}
 use Rattle.std.specs.List.{Contains, filter}
 use Rattle.std.proofs.lemmas.List.{length-map}
 use Rattle.std.proofs.Math.Nat.{mul-zero}
@@ -80,16 +80,6 @@ joined_freely s pieces T U are joins a b at_a at_b =
     let w = are.back b at_b in
     WalkBetween-trans s G a v.0 b (WalkBetween-sym s G v.0 a (free v.0 a v.2))
     (WalkBetween-trans s G v.0 w.0 b (joins v.0 w.0 v.1 w.1) (free w.0 b w.2))
-
--- the same vertices
-pub least_alike : (s : Size) (pieces : List (Piece × ℕ)) (T U : ℕ → Type 0) (n : ℕ) → ((v : ℕ) → T v ↔ U v) → IsLeastWeight s pieces U n → IsLeastWeight s pieces T n
-least_alike s pieces T U n alike is = record {
-  set = is.set;
-  is_set = is.is_set;
-  joins = λ a b at_a at_b. is.joins a b ((alike a).0 at_a) ((alike b).0 at_b);
-  weighs = is.weighs;
-  lightest = λ other other_is joined. is.lightest other other_is (λ a b at_a at_b. joined a b ((alike a).1 at_a) ((alike b).1 at_b));
-}
 
 -- ---- those that stand for others
 

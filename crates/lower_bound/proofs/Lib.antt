@@ -3,9 +3,6 @@ mod Shares
 pub mod Crossing
 mod ManyBounds
 pub mod Costed
-mod AtRoot
-mod GoalRests
-mod NearestLed
 mod AlikeWidths
 mod HalvesOf
 mod Mapped

@@ -10,9 +10,9 @@ use Rattle.grid_graph.specs.TilePieces.{AreLeastBetweenTiles}
 use Rattle.edge_prices.specs.PieceLists.{IsWeightList}
 use Rattle.edge_prices.specs.Weights.{AreEdgePrices}
 use Rattle.landmarks.specs.Numbers.{AreLandmarks}
+use Rattle.least_weights.specs.KeptCosts.{AreKeptCosts}
 use Rattle.lower_bound.specs.declared.class_costs.ClassCosts.{ClassCosts}
 use Rattle.lower_bound.specs.Costs.{costed}
-use Rattle.lower_bound.specs.KeptCosts.{AreKeptCosts}
 use Rattle.lower_bound.specs.Representatives.{AreRepresentatives}
 use Rattle.lower_bound.specs.TileCosts.{costs_between}
 

@@ -1,8 +1,6 @@
 pub mod ClassWords
 pub mod Costs
-pub mod GoalRests
 pub mod HalfWords
-pub mod KeptCosts
 pub mod LedWeights
 pub mod Moats
 pub mod NetBounds

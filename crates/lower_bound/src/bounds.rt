@@ -18,11 +18,11 @@ ghost use Rattle.lower_bound.specs.NetBounds.{IsBoundOfMany, IsNetBound};
 
 use crate::extra::Extra;
 use crate::halves::sum_of_halves;
-use crate::least::least_weight;
 use crate::spread::choose;
 use edge_prices::Costing;
 use grid_base::Vertex;
 use grid_graph::{FlooredWeights, Grid, Ground, NetSpec};
+use least_weights::least_weight;
 use shortest_paths::Labels;
 use steiner_tables::FEW_TERMINALS;
 

@@ -4,13 +4,13 @@ ghost use Rattle.std.specs.Prelude.{IsTrue};
 ghost use Rattle.grid_graph.specs.Grids.{IsNetWidth};
 ghost use Rattle.lower_bound.specs.ClassWords.{UseAsMuch};
 
-use crate::kept_costs::KeptCosts;
 use crate::representatives::Representatives;
 use crate::tile_costs::TileCosts;
 use edge_prices::Costing;
 use grid_base::{Axis, Edge, NoMemory, Size, Vertex};
 use grid_graph::{Grid, Ground};
 use landmarks::Landmarks;
+use least_weights::KeptCosts;
 use std::alloc::Global;
 
 /// What the nets of one width and one ground pay between tiles, at a price for each edge.

@@ -7,16 +7,15 @@ ghost use Rattle.grid_graph.specs.Weighed.{IsAllowed};
 ghost use Rattle.shortest_paths.specs.LabelWords.{labels_size, masks_of};
 ghost use Rattle.steiner_tables.specs.Masks.{rooted_masks};
 ghost use Rattle.label_search.specs.Sets.{IsLeastWeight, IsEither};
-ghost use Rattle.lower_bound.specs.HalfWords.{IsHalf, IsSumOfHalves};
 ghost use Rattle.landmarks.specs.Numbers.{AreLandmarks};
-ghost use Rattle.lower_bound.specs.KeptCosts.{AreKeptCosts};
+ghost use Rattle.least_weights.specs.KeptCosts.{AreKeptCosts};
+ghost use Rattle.lower_bound.specs.HalfWords.{IsHalf, IsSumOfHalves};
 
 use crate::halves::has_twin;
-use crate::kept_costs::KeptCosts;
-use crate::kept_least::kept_least;
 use grid_base::Vertex;
 use grid_graph::FlooredWeights;
 use landmarks::Landmarks;
+use least_weights::{KeptCosts, kept_least};
 use shortest_paths::Labels;
 
 /// The least weight that joins two tiles.

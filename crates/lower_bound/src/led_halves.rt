@@ -9,9 +9,9 @@ ghost use Rattle.steiner_exact.specs.TreeLabelWords.{AreTreeLabels};
 ghost use Rattle.lower_bound.specs.HalfWords.{IsHalf, IsSumOfHalves};
 
 use crate::halves::{has_twin, sum_of_halves};
-use crate::led_nearest::led_nearest;
 use grid_base::{NoMemory, Vertex};
 use grid_graph::FlooredWeights;
+use least_weights::led_nearest;
 use std::alloc::Global;
 use steiner_exact::{TreeLabels, tiles_of};
 

@@ -18,8 +18,9 @@
 //! Tiles that edges without cost join have one of them to stand for all, and least costs of a few tiles are kept: so a price
 //! list that is 0 nearly everywhere took no longer than another where it was measured. Of time no clause speaks.
 //!
-//! It stands on `shortest_paths` for searches, on `steiner_exact` for tables under bounds, on `edge_prices` for costs, and on
-//! `groups`, `grid_graph` and `grid_base`. Tables and moats that others bring are tested by `brought_bounds`.
+//! It stands on `least_weights` for least weights and nearest terminals, on `landmarks`, which lead the searches of a class, on
+//! `shortest_paths` and `steiner_exact` for labels, on `edge_prices` for costs, and on `groups`, `grid_graph` and `grid_base`.
+//! Tables and moats that others bring are tested by `brought_bounds`.
 //!
 //! Promised: the net bound is exactly that of its definition, which ranges over all subsets of the net's ground, and no subset
 //! that joins the terminals costs less. Want of memory alone is a free answer.
@@ -29,18 +30,11 @@ mod bounds;
 mod class_bounds;
 mod class_costs;
 mod extra;
-mod goal_bound;
 mod halves;
-mod kept_costs;
 mod kept_halves;
-mod kept_least;
 mod laws;
-mod least;
 mod led;
 mod led_halves;
-mod led_least;
-mod led_nearest;
-mod raised_search;
 mod representatives;
 mod spread;
 mod tile_costs;

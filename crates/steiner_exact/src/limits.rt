@@ -3,8 +3,8 @@
 /// The greatest limit of a search: no least weight is above it.
 pub(crate) const MOST: u64 = (1 << 61) - 1;
 
-/// By how much a limit is raised at first.
-pub(crate) const FIRST_SLACK: u64 = 32;
+/// By how much a limit is raised at first, where pieces have the weights of edges.
+pub const FIRST_SLACK: u64 = 32;
 
 /// By how much the limit of a table of tiles is above the weight of a tree. The numbers left out of it are weak bounds, so
 /// it must stay above the limits of the searches that it bounds.

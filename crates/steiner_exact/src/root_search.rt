@@ -9,7 +9,7 @@ ghost use Rattle.label_search.specs.Stamped.{most};
 ghost use Rattle.steiner_tables.specs.Masks.{few_terminals, all_but_root};
 ghost use Rattle.steiner_exact.specs.Roots.{IsLeastAtRoot, IsAttempt};
 
-use crate::limits::{FIRST_SLACK, MOST};
+use crate::limits::MOST;
 use crate::masks::all_but_root_of;
 use crate::root_label::root_label;
 use grid_base::Vertex;
@@ -17,12 +17,13 @@ use grid_graph::Weights;
 use shortest_paths::{Family, Labels};
 
 /// The least weight of a set that joins the terminals, with the table that tells it. The search begins under this limit,
-/// which is raised until there is a set within it.
+/// which is raised by the slack, and each time by twice as much, until there is a set within it.
 pub fn least_at_root<W: Weights, F: Family>(
     weights: &W,
     family: &F,
     terminals: &[Vertex],
     limit: u64,
+    slack: u64,
     labels: &mut Labels,
 ) -> u64
     requires size { labels_size labels.old ≡ W.size weights.now }
@@ -39,11 +40,11 @@ pub fn least_at_root<W: Weights, F: Family>(
     ensures masks { masks_of labels.new ≡ masks_of labels.old }
 {
     let mut within = limit.min(MOST);
-    let mut slack = FIRST_SLACK;
+    let mut more = slack.max(1).min(MOST);
     let mut found = attempt(weights, family, terminals, within, labels);
     while found.is_none() {
-        within = (within + slack).min(MOST);
-        slack = (2 * slack).min(MOST);
+        within = (within + more).min(MOST);
+        more = (2 * more).min(MOST);
         found = attempt(weights, family, terminals, within, labels);
     }
     found.unwrap()

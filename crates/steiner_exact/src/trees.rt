@@ -73,19 +73,22 @@ fn least_of_several<W: FlooredWeights>(
     ensures tree { IfOk result (λ found. IsLeastTree (W.size weights.now) (W.pieces weights.now) terminals.now found.0 found.1) }
     ensures labels { AreTreeLabels (W.size weights.now) labels.new }
 {
-    let weight = least_weight(alloc, weights, terminals, labels)?;
+    let weight = least_by_tiles(alloc, weights, terminals, FIRST_SLACK, TABLE_SLACK, labels)?;
     let mask = all_but_root_of(terminals.len());
     let root = terminals[terminals.len() - 1];
     let tree = read_tree(alloc, weights, &labels.grid, terminals, mask, root)?;
     Ok((tree, weight))
 }
 
-/// The least weight of a set that joins the terminals, with the table that tells it. Where there are several layers, a table
-/// of the terminals' tiles bounds it.
-fn least_weight<W: FlooredWeights>(
+/// The least weight of a set that joins two to five terminals, with the table that tells it. Where there are several layers,
+/// a table of the terminals' tiles bounds it. The limit of that table is above the weight of a tree by one slack, and that of
+/// the search above what the table tells by the other, by which it is then raised.
+pub fn least_by_tiles<W: FlooredWeights>(
     alloc: Global,
     weights: &W,
     terminals: &[Vertex],
+    slack: u64,
+    table_slack: u64,
     labels: &mut TreeLabels,
 ) -> Result<u64, NoMemory>
     requires labels { AreTreeLabels (W.size weights.now) labels.old }
@@ -104,13 +107,14 @@ fn least_weight<W: FlooredWeights>(
     let ground = FlatWeights::new(weights, labels.flat.size(), labels.flat_edges.as_slice());
     let bounds = BoxFamily::new(&ground, labels.flat.size(), tiles);
     let guess = tree_guess(alloc, &ground, tiles, &mut labels.flat)?;
-    let limit = (guess + TABLE_SLACK).min(MOST);
+    let limit = guess.saturating_add(table_slack).min(MOST);
     let last = all_of(tiles.len()) - 1;
     labels.flat.pruned(&ground, &bounds, tiles, last, limit);
-    let across = root_label(&labels.flat, tiles).unwrap_or(guess) + FIRST_SLACK;
+    let across = root_label(&labels.flat, tiles).unwrap_or(guess);
+    let within = across.saturating_add(slack);
     let size = labels.grid.size();
     let family = RowFamily::new(weights, size, terminals, &bounds, &labels.flat, limit);
-    Ok(least_at_root(weights, &family, terminals, across, &mut labels.grid))
+    Ok(least_at_root(weights, &family, terminals, within, slack, &mut labels.grid))
 }
 
 /// The same by a search under boxes.
@@ -132,5 +136,5 @@ fn least_by_boxes<W: FlooredWeights>(
 {
     let guess = tree_guess(alloc, weights, terminals, labels)?;
     let family = BoxFamily::new(weights, labels.size(), terminals);
-    Ok(least_at_root(weights, &family, terminals, guess, labels))
+    Ok(least_at_root(weights, &family, terminals, guess, FIRST_SLACK, labels))
 }

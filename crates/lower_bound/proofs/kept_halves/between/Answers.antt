@@ -1,7 +1,7 @@
 use Rattle.std.proofs.Common.{[], ◌∷◌}
 use Rattle.grid_base.specs.Walks.{InVertices}
 use Rattle.label_search.specs.Sets.{IsEither}
-use Rattle.lower_bound.proofs.FreeJoins.{least_alike}
+use Rattle.least_weights.proofs.FewVertices.{least_alike}
 use Rattle.lower_bound.proofs.NearestPairs.{pair_vertices, either_turned}
 use Rattle.lower_bound.proofs.kept_halves.between.Goals as goal
 

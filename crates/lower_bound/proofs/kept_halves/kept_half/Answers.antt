@@ -5,9 +5,9 @@ use Rattle.grid_base.specs.Numbers.{IsVertex}
 use Rattle.grid_graph.specs.Weighed.{IsAllowed}
 use Rattle.shortest_paths.specs.declared.labels.Labels.{Labels}
 use Rattle.shortest_paths.specs.LabelWords.{labels_size, masks_of}
-use Rattle.lower_bound.specs.declared.kept_costs.KeptCosts.{KeptCosts}
+use Rattle.least_weights.specs.declared.kept_costs.KeptCosts.{KeptCosts}
 use Rattle.lower_bound.specs.HalfWords.{HasTwin}
-use Rattle.lower_bound.specs.KeptCosts.{AreKeptCosts}
+use Rattle.least_weights.specs.KeptCosts.{AreKeptCosts}
 use Rattle.lower_bound.proofs.HalvesOf.{twin_least}
 use Rattle.lower_bound.proofs.NearestPairs.{IsNearestSoFar, nearest_none, nearest_past, nearest_more, nearest_all, two_joined}
 use Rattle.lower_bound.proofs.kept_halves.kept_half.Goals as goal

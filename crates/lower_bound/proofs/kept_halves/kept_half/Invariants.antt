@@ -1,6 +1,6 @@
 use Rattle.std.proofs.Common.{◌≡◌}
 use Rattle.shortest_paths.specs.LabelWords.{labels_size, masks_of}
-use Rattle.lower_bound.specs.KeptCosts.{AreKeptCosts}
+use Rattle.least_weights.specs.KeptCosts.{AreKeptCosts}
 use Rattle.lower_bound.proofs.NearestPairs.{IsNearestSoFar}
 use Rattle.lower_bound.proofs.kept_halves.kept_half.Given as goal
 

@@ -1,7 +1,7 @@
 use Rattle.std.proofs.Common.{◌≡◌}
 use Rattle.shortest_paths.specs.LabelWords.{labels_size, masks_of}
 use Rattle.lower_bound.specs.HalfWords.{IsSumOfHalves}
-use Rattle.lower_bound.specs.KeptCosts.{AreKeptCosts}
+use Rattle.least_weights.specs.KeptCosts.{AreKeptCosts}
 use Rattle.lower_bound.proofs.kept_halves.sum_of_kept_halves.Given as goal
 
 abbrev pub invariant-loop-place : goal.invariant-loop-place

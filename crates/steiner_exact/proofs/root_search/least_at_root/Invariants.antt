@@ -9,8 +9,8 @@ abbrev pub invariant-loop-found : goal.invariant-loop-found
 invariant-loop-found g l = record {
   found : IsAttempt (g.W.Weights.size l.weights) (g.W.Weights.pieces l.weights) l.terminals l.within (label_of l.labels) l.found;
   within : l.within ≤ most;
-  some : 0 < l.slack;
-  slack : l.slack ≤ most;
+  some : 0 < l.more;
+  more : l.more ≤ most;
   size : labels_size l.labels ≡ labels_size l.fn.labels;
   masks : masks_of l.labels ≡ masks_of l.fn.labels;
 }

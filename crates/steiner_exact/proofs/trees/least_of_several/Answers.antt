@@ -13,11 +13,11 @@ pub read_tree-requires-clause-mask : goal.read_tree-requires-clause-mask
 read_tree-requires-clause-mask g c = omega (arith, few_masks c.args.terminals.now c.requires.few, c.all_but_root_of-mask.ensures)
 
 pub read_tree-requires-clause-room : goal.read_tree-requires-clause-room
-read_tree-requires-clause-room g c = omega (arith, few_masks c.args.terminals.now c.requires.few, c.all_but_root_of-mask.ensures, c.least_weight.ensures.labels.grid_room)
+read_tree-requires-clause-room g c = omega (arith, few_masks c.args.terminals.now c.requires.few, c.all_but_root_of-mask.ensures, c.least_by_tiles.ensures.labels.grid_room)
 
 pub read_tree-requires-clause-reached : goal.read_tree-requires-clause-reached
 read_tree-requires-clause-reached g c =
-    subst (λ m. AreReached (g.W.Weights.size c.args.weights.now) (g.W.Weights.pieces c.args.weights.now) c.args.terminals.now m (label_of c.least_weight.new.labels.grid))
+    subst (λ m. AreReached (g.W.Weights.size c.args.weights.now) (g.W.Weights.pieces c.args.weights.now) c.args.terminals.now m (label_of c.least_by_tiles.new.labels.grid))
     (sym c.all_but_root_of-mask.ensures) c.in_ok-weight.ensures.least.reached
 
 pub returns-clause-tree : goal.returns-clause-tree
@@ -25,6 +25,6 @@ returns-clause-tree g c =
     let s = g.W.Weights.size c.args.weights.now in
     let pieces = g.W.Weights.pieces c.args.weights.now in
     let terminals = c.args.terminals.now in
-    let number = label_of c.least_weight.new.labels.grid in
+    let number = label_of c.least_by_tiles.new.labels.grid in
     tree_is_found s pieces terminals number c.in_ok-weight.weight c.in_ok-tree.tree c.requires.two c.in_ok-weight.ensures.least c.in_ok-tree.ensures.rising
     (subst (λ m. IsTreeWithin s pieces terminals m (root_of terminals).0 (number m (root_of terminals).0) c.in_ok-tree.tree) c.all_but_root_of-mask.ensures c.in_ok-tree.ensures.tree)

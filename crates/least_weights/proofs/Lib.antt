@@ -1,0 +1,3 @@
+pub mod FewVertices
+mod GoalRests
+mod NearestLed

@@ -1,0 +1,23 @@
+use Rattle.std.proofs.Common.{ℕ, ◌≡◌, ◌+◌, ◌-◌, ◌*◌, ◌^◌, min, ap, ◌∙◌, arith}
+use Rattle.grid_base.specs.declared.place.Place.{Place}
+use Rattle.grid_base.specs.Numbers.{layer_of}
+use Rattle.grid_graph.specs.Flat.{tile_of}
+use Rattle.grid_graph.proofs.TileSteps.{ground_tile}
+use Rattle.landmarks.specs.Numbers.{across_at}
+use Rattle.least_weights.proofs.goal_bound.GoalBoundBound.rest.Goals as goal
+
+pub returns-clause-value : goal.returns-clause-value
+returns-clause-value g c =
+    let x = c.args.self.now in
+    let v = c.args._v.0 in
+    let across = across_at x.flat.now x.limit in
+    let tile = ground_tile x.size v c.cols.result c.args.place c.requires.vertex c.requires.place c.cols.ensures in
+    let ground : c.across.result ≡ across (tile_of x.size v) = c.across.ensures.value ∙ ap across tile in
+    let layer : c.args.place.layer ≡ layer_of x.size v = ap (λ (p : Place). p.layer) c.requires.place in
+    let width : c.from-layers.result ≡ layer_of x.size v - x.layer + (x.layer - layer_of x.size v) =
+    omega (arith, c.from-layers.ensures, c.abs_diff.ensures, layer) in
+    let by_tile : ℕ = min (c.across.result + c.from-layers.result * x.via) (2 ^ 61) in
+    let by_number : ℕ = min (across (tile_of x.size v) + c.from-layers.result * x.via) (2 ^ 61) in
+    ◌∙◌ {b = by_tile} c.min.ensures
+    (◌∙◌ {b = by_number} (ap (λ n. min (n + c.from-layers.result * x.via) (2 ^ 61)) ground)
+    (ap (λ n. min (across (tile_of x.size v) + n * x.via) (2 ^ 61)) width))

@@ -1,0 +1,2 @@
+pub mod GoalRests
+pub mod KeptCosts

@@ -1,5 +1,0 @@
-use Rattle.lower_bound.proofs.NearestLed.{FoundSoFar}
-use Rattle.lower_bound.proofs.led_nearest.found_goals.Given as goal
-
-abbrev pub invariant-loop-terminal : goal.invariant-loop-terminal
-invariant-loop-terminal l = FoundSoFar l.size l.flat l.terminals l.here.0 l.terminal-index l.found.items
