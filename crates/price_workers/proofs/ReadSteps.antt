@@ -4,20 +4,9 @@ use Rattle.std.proofs.Common.{subst, ⊎_elim, arith, below_more}
 use Rattle.price_workers.proofs.Common.{range_with_len, cases_lt, get_or-set_same, get_or-set_other, get_or_past, ext_get_or}
 use Rattle.price_workers.proofs.Common.{append-nil, append_assoc, fill_by_all, get_or-map-range_with_len}
 use Rattle.price_workers.proofs.Common.{length-map-range_with_len, map-range_with_len_more, Party, entry, loaded, share_at}
-use Rattle.price_workers.proofs.Common.{after_reading, AreCloseTo}
+use Rattle.price_workers.proofs.Common.{after_reading, AreCloseTo, IsReadUpTo, first_loads}
 use Rattle.load_core.specs.declared.loaded.Loaded.{Loaded}
 use Rattle.load_core.specs.Soundness.{IsCloseTo}
-
--- the loads of the first k words, where these values were found
-abbrev pub first_loads : List ℕ → ℕ → List Loaded
-first_loads values k = map (λ word. entry word (slice_index values word)) (range_with_len 0 k)
-
--- the first k words were loaded, and these values are what was found there
-pub record IsReadUpTo (start p : Party) (values : List ℕ) (k : ℕ) : Type 0 where
-  pub only : p ≡ record start { last = p.last; history = p.history }
-  pub loads : p.history ≡ start.history ++ first_loads values k
-  pub found : (w : ℕ) → w < k → slice_index p.last w ≡ slice_index values w
-  pub near : (w : ℕ) → w < k → IsCloseTo start w (slice_index values w)
 
 -- nothing was loaded yet
 pub IsReadUpTo-none : (p : Party) (values : List ℕ) → IsReadUpTo p p values 0
@@ -60,6 +49,15 @@ IsReadUpTo-more start p values others k before within close same =
       near = below_more (λ w. IsCloseTo start w (slice_index others w)) k (λ w low. rw (early w low) (before.near w low))
           (record { least = here.least; most = here.most });
     }
+
+-- the same where the values are the last ones of the party
+pub load_one_more : (start p : Party) (k n : ℕ) → IsReadUpTo start p p.last k → k < length p.last → IsCloseTo p k n
+    → IsReadUpTo start (loaded p k n) (slice_set p.last k n) (k + 1)
+load_one_more start p k n before within close =
+    let others : List ℕ = slice_set p.last k n in
+    let there : slice_index others k ≡ n = get_or-set_same p.last k n 0 within in
+    subst (λ (v : ℕ). IsReadUpTo start (loaded p k v) others (k + 1)) there
+    (IsReadUpTo-more start p p.last others k before within (rw there close) (λ w apart. get_or-set_other p.last k w n 0 apart))
 
 -- all words were loaded
 pub after_all_words : (start p : Party) (values : List ℕ) → IsReadUpTo start p values (length values) → length p.last ≡ length values → p ≡ after_reading start values

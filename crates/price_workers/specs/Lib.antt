@@ -5,6 +5,7 @@ pub use Rattle.sharing_runs.specs.NetSteps
 pub use Rattle.tree_set.specs.Loads
 pub use Rattle.sharing_runs.specs.Parts
 pub use Rattle.tree_set.specs.Routings
+pub mod Marks
 pub mod Readings
 pub mod TreeLoads
 pub mod Working

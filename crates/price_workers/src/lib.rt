@@ -21,6 +21,7 @@
 //! The load of a set is taken off a share at one place, [`take_load`], for a worker as for whoever gives a set up.
 #![tactic(auto)]
 
+mod changes;
 mod loads;
 mod net_route;
 mod reading;

@@ -1,12 +1,14 @@
 //! A worker.
 
-ghost use Rattle.std.specs.Prelude.{◌≡◌, IfOk};
-ghost use Rattle.edge_prices.specs.KeptLists.{grid_of, scale_of, budget_of};
+ghost use Rattle.std.specs.Prelude.{◌≡◌, ◌+◌, ◌/◌, replicate, IfOk};
+ghost use Rattle.edge_prices.specs.KeptLists.{grid_of, loads_of, scale_of, budget_of};
 ghost use Rattle.edge_prices.specs.Limits.{IsScale, IsBudget};
-ghost use Rattle.grid_graph.specs.Grids.{size_of};
+ghost use Rattle.grid_graph.specs.Grids.{entries, size_of};
 ghost use Rattle.steiner_exact.specs.TreeLabelWords.{AreTreeLabels};
+ghost use Rattle.price_workers.specs.Marks.{entries_per_mark, MarksChanges};
 ghost use Rattle.price_workers.specs.Working.{IsWorking};
 
+use crate::changes::Changes;
 use crate::loads::{put_tree, take_tree};
 use crate::net_route::{prices_without_loads, route_net};
 use crate::reading::read_all;
@@ -26,10 +28,12 @@ pub struct Worker<'a> {
     share: Share,
     trees: Vec<Tree>,
     kept: KeptPrices<'a>,
+    changes: Changes,
     labels: TreeLabels,
     refreshed: bool,
     since: u32,
     pub ghost working: { IsWorking share kept labels refreshed },
+    pub ghost marked: { MarksChanges (grid_of kept) changes.marks.items share.party.last (loads_of kept) },
 }
 
 impl<'a> Worker<'a> {
@@ -66,13 +70,14 @@ impl<'a> Worker<'a> {
         ensures share_back { IfErr result (λ back. back.0 ≡ share) }
         ensures trees_back { IfErr result (λ back. back.1.items ≡ trees.items) }
     {
-        let Ok((labels, kept)) = workplace(alloc, design, scale, budget) else {
+        let Ok((labels, kept, changes)) = workplace(alloc, design, scale, budget) else {
             return Err((share, trees));
         };
         Ok(Worker {
             share,
             trees,
             kept,
+            changes,
             labels,
             refreshed: false,
             since: 0,
@@ -89,7 +94,14 @@ impl<'a> Worker<'a> {
         ensures trees { trees_of self.new ≡ trees_of self.old }
         ensures setting { KeepsWork self.old self.new }
     {
-        read_all(&mut self.share, &mut self.kept, table, &design.grid);
+        read_all(
+            &mut self.share,
+            &mut self.kept,
+            &self.changes,
+            table,
+            &design.grid,
+        );
+        self.changes.clear();
         self.refreshed = true;
         self.since = 0;
     }
@@ -114,6 +126,7 @@ impl<'a> Worker<'a> {
         let alloc = *self.trees.allocator();
         let spec = &design.nets.list()[net];
         let tree = route_net(alloc, &mut self.kept, spec, over, &mut self.labels)?;
+        self.changes.add_tree(&design.grid, &tree);
         let at = self.trees.len();
         self.trees.push(tree)?;
         put_tree(
@@ -160,8 +173,10 @@ impl<'a> Worker<'a> {
             spec.width,
             &self.trees[at],
         );
+        self.changes.add_tree(grid, &self.trees[at]);
         match route_net(alloc, &mut self.kept, spec, over, &mut self.labels) {
             Ok(tree) => {
+                self.changes.add_tree(grid, &tree);
                 self.trees[at] = tree;
                 self.since += 1;
                 put_tree(
@@ -203,15 +218,17 @@ fn workplace<'a>(
     design: &'a Design,
     scale: u32,
     budget: Option<u64>,
-) -> Result<(TreeLabels, KeptPrices<'a>), NoMemory>
+) -> Result<(TreeLabels, KeptPrices<'a>, Changes), NoMemory>
     requires scale { IsScale scale }
     requires budget { IsBudget budget }
     ensures labels { IfOk result (λ r. AreTreeLabels (size_of design.now.grid) r.0) }
     ensures grid { IfOk result (λ r. grid_of r.1 ≡ design.now.grid) }
     ensures scale { IfOk result (λ r. scale_of r.1 ≡ scale) }
     ensures budget { IfOk result (λ r. budget_of r.1 ≡ budget) }
+    ensures changes { IfOk result (λ r. r.2.marks.items ≡ replicate (entries design.now.grid / entries_per_mark + 1) 1) }
 {
     let labels = TreeLabels::new(alloc, design.grid.size())?;
     let kept = prices_without_loads(alloc, &design.grid, scale, budget)?;
-    Ok((labels, kept))
+    let changes = Changes::everywhere(alloc, &design.grid)?;
+    Ok((labels, kept, changes))
 }

@@ -1,6 +1,7 @@
 use Rattle.std.proofs.Common.{◌≡◌, ℕ, List, length, get_or, refl, sym, ◌∙◌, ap}
 use Rattle.price_workers.proofs.Common.{get_or_push, same_Some, Piece, At, NetSpec, loads_of, scale_of, budget_of}
 use Rattle.price_workers.proofs.LightSteps.{step_moved}
+use Rattle.price_workers.proofs.MarkSteps.{changes_put}
 use Rattle.price_workers.proofs.TurnFacts.{At-read, step_pieces, working_put}
 use Rattle.price_workers.proofs.worker.Worker.price_net.Goals.{After-index, After-index-list-net}
 use Rattle.price_workers.proofs.worker.Worker.price_net.Goals as goal
@@ -44,6 +45,9 @@ invariant_of-self-2 c =
       working = working_put c.args.design.now.grid c.index-list-net.result.width c.index.result.now w.share c.put_tree.new.share
           w.kept c.route_net.new.kept c.put_tree.new.kept w.working.words (w.working.close c.requires.may.refreshed)
           route.setting route.loads route.labels put.party put.share put.seen put.table put.setting put.valid;
+      marked = changes_put c.args.design.now.grid c.index-list-net.result.width c.index.result.now c.in_ok-tree.tree
+          w.share.party c.put_tree.new.share.party w.kept c.route_net.new.kept c.put_tree.new.kept w.marked c.requires.works.on_grid route.setting put.setting route.loads
+          (pushed (goal.at.invariant_of-self-2 c).After-index) c.add_tree.ensures.marked put.seen put.party;
     }
 
 pub returns-clause-priced : goal.returns-clause-priced
@@ -61,3 +65,7 @@ returns-clause-priced c n at =
       share = rw (← its) put.share;
       counted = record { since = refl; refreshed = c.requires.may.refreshed; party = put.party };
     })
+
+pub add_tree-requires-clause-pieces : goal.add_tree-requires-clause-pieces
+add_tree-requires-clause-pieces c =
+    rw (← c.requires.works.on_grid) (step_pieces _ c.index-list-net.result _ c.in_ok-tree.tree c.in_ok-tree.ensures.step)

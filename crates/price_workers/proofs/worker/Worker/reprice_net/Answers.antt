@@ -1,11 +1,12 @@
-use Rattle.std.proofs.Common.{◌≡◌, List, get_or, refl, sym, ◌∙◌, ap, arith}
+use Rattle.std.proofs.Common.{◌≡◌, ◌<◌, ℕ, List, get_or, length, refl, sym, ◌∙◌, ap, subst, arith, true}
 use Rattle.price_workers.proofs.Common.{Grid, get_or-set_same, same_Some, Piece, At, NetSpec, entries, IsNetWidth, grid_of}
-use Rattle.price_workers.proofs.Common.{loads_of, HasRoomForSet, HoldsTree, TableId, AreCloseTo}
+use Rattle.price_workers.proofs.Common.{loads_of, HasRoomForSet, HoldsTree, TableId, AreCloseTo, MarksChanges, MarksTree}
 use Rattle.price_workers.proofs.LightSteps.{step_moved}
+use Rattle.price_workers.proofs.MarkSteps.{changes_put, changes_taken, marked_again}
 use Rattle.price_workers.proofs.Taken.{put_back}
 use Rattle.price_workers.proofs.TurnFacts.{DiffersInShares-trans, same_party, same_share, close_moved, less_at, same_allot}
 use Rattle.price_workers.proofs.TurnFacts.{kept_long, At-read, step_pieces, working_put}
-use Rattle.price_workers.proofs.worker.Worker.reprice_net.Goals.{After-take_tree, After-index-in-Ok, After-index-in-Err}
+use Rattle.price_workers.proofs.worker.Worker.reprice_net.Goals.{After-add_tree, After-take_tree, After-index-in-Ok, After-index-in-Err}
 use Rattle.price_workers.proofs.worker.Worker.reprice_net.Goals as goal
 
 -- the net stands in the design
@@ -71,6 +72,27 @@ again c = same_Some c.index-in-Err.result.now c.index.result.now
     (sym (At-read c.args.self.now.trees.items c.args.at c.index-in-Err.result.now c.index-in-Err.ensures c.requires.at)
     ∙ At-read c.args.self.now.trees.items c.args.at c.index.result.now c.index.ensures c.requires.at)
 
+-- what stands at a place of a list stands there again
+stands_again : (trees : List (List Piece)) (k : ℕ) (a b : List Piece) → a ≡ get_or trees k a → b ≡ get_or trees k b → k < length trees → a ≡ b
+stands_again trees k a b first next within = same_Some a b (sym (At-read trees k a first within) ∙ At-read trees k b next within)
+
+first_marks : (c : After-add_tree) → MarksTree c.args.design.now.grid c.index.result.now c.args.self.now.changes.marks.items c.add_tree.new.self.marks.items
+first_marks c =
+    let trees = c.args.self.now.trees.items in
+    let its : c.index-2.result.now ≡ c.index.result.now =
+    stands_again trees c.args.at c.index-2.result.now c.index.result.now c.index-2.ensures c.index.ensures c.requires.at in
+    subst (λ (ps : List Piece). MarksTree c.args.design.now.grid ps c.args.self.now.changes.marks.items c.add_tree.new.self.marks.items) its
+    c.add_tree.ensures.marked
+
+-- the old set has marks, so without its load what is seen is as it was found last but for these
+taken_marks : (c : After-add_tree) → MarksChanges (grid_of c.take_tree.new.kept) c.add_tree.new.self.marks.items
+    c.take_tree.new.share.party.last (loads_of c.take_tree.new.kept)
+taken_marks c =
+    let w = c.args.self.now in
+    changes_taken c.args.design.now.grid c.index-list-net.result.width c.index.result.now w.share.party c.take_tree.new.share.party
+    w.kept c.take_tree.new.kept w.marked c.requires.works.on_grid c.take_tree.ensures.setting
+    (first_marks c) c.take_tree.ensures.seen c.take_tree.ensures.party
+
 pub take_tree-requires-clause-had : goal.take_tree-requires-clause-had
 take_tree-requires-clause-had c =
     let spec = c.index-list-net.result in
@@ -113,6 +135,10 @@ invariant_of-self c =
           c.put_tree.new.share c.take_tree.new.kept c.route_net.new.kept c.put_tree.new.kept (words_without took)
           (close_without took) route.setting route.loads route.labels put.party put.share put.seen put.table put.setting
           put.valid;
+      marked = changes_put c.args.design.now.grid c.index-list-net.result.width c.index-in-Ok.result.now c.in-Ok.tree
+          c.take_tree.new.share.party c.put_tree.new.share.party c.take_tree.new.kept c.route_net.new.kept c.put_tree.new.kept
+          (taken_marks (goal.at.invariant_of-self c).After-add_tree) (grid_without took) route.setting put.setting route.loads
+          (written (goal.at.invariant_of-self c).After-index-in-Ok) c.add_tree-in-Ok.ensures.marked put.seen put.party;
     }
 
 pub put_tree-requires-in-Err-clause-width : goal.put_tree-requires-in-Err-clause-width
@@ -139,6 +165,12 @@ invariant_of-self-in-Err c =
           c.put_tree-in-Err.new.share c.take_tree.new.kept c.route_net.new.kept c.put_tree-in-Err.new.kept (words_without took)
           (close_without took) route.setting route.loads route.labels put.party put.share put.seen put.table put.setting
           put.valid;
+      marked = changes_put c.args.design.now.grid c.index-list-net.result.width c.index-in-Err.result.now c.index.result.now
+          c.take_tree.new.share.party c.put_tree-in-Err.new.share.party c.take_tree.new.kept c.route_net.new.kept
+          c.put_tree-in-Err.new.kept (taken_marks (goal.at.invariant_of-self-in-Err c).After-add_tree) (grid_without took) route.setting
+          put.setting route.loads (again (goal.at.invariant_of-self-in-Err c).After-index-in-Err)
+          (marked_again c.args.design.now.grid c.index.result.now c.args.self.now.changes.marks.items c.add_tree.new.self.marks.items
+          (first_marks (goal.at.invariant_of-self-in-Err c).After-add_tree)) put.seen put.party;
     }
 
 pub returns-in-Ok-clause-repriced : goal.returns-in-Ok-clause-repriced
@@ -190,3 +222,33 @@ returns-in-Err-clause-no_memory c =
       since = refl;
       refreshed = refl;
     }
+
+pub add_tree-requires-clause-pieces : goal.add_tree-requires-clause-pieces
+add_tree-requires-clause-pieces c =
+    rw (stands_again c.args.self.now.trees.items c.args.at c.index-2.result.now c.index.result.now c.index-2.ensures c.index.ensures c.requires.at)
+    (held (goal.at.add_tree-requires-clause-pieces c).After-take_tree).pieces
+
+pub add_tree-requires-in-Ok-clause-pieces : goal.add_tree-requires-in-Ok-clause-pieces
+add_tree-requires-in-Ok-clause-pieces c =
+    rw (← grid_without (goal.at.add_tree-requires-in-Ok-clause-pieces c).After-take_tree)
+    (step_pieces _ c.index-list-net.result _ c.in-Ok.tree c.in-Ok.ensures.step)
+
+pub returns-in-Ok-clause-close : goal.returns-in-Ok-clause-close
+returns-in-Ok-clause-close c =
+    let took = (goal.at.returns-in-Ok-clause-close c).After-take_tree in
+    let route = c.in-Ok.ensures in
+    let put = c.put_tree.ensures in
+    (working_put c.args.design.now.grid c.index-list-net.result.width c.index-in-Ok.result.now c.take_tree.new.share
+    c.put_tree.new.share c.take_tree.new.kept c.route_net.new.kept c.put_tree.new.kept {labels = c.route_net.new.labels}
+    {refreshed = true} (words_without took) (close_without took) route.setting route.loads route.labels put.party put.share
+    put.seen put.table put.setting put.valid).close refl
+
+pub returns-in-Err-clause-close : goal.returns-in-Err-clause-close
+returns-in-Err-clause-close c =
+    let took = (goal.at.returns-in-Err-clause-close c).After-take_tree in
+    let route = c.in-Err.ensures in
+    let put = c.put_tree-in-Err.ensures in
+    (working_put c.args.design.now.grid c.index-list-net.result.width c.index-in-Err.result.now c.take_tree.new.share
+    c.put_tree-in-Err.new.share c.take_tree.new.kept c.route_net.new.kept c.put_tree-in-Err.new.kept
+    {labels = c.route_net.new.labels} {refreshed = true} (words_without took) (close_without took) route.setting route.loads
+    route.labels put.party put.share put.seen put.table put.setting put.valid).close refl
