@@ -89,6 +89,7 @@ impl<T: Copy> BucketQueue<T> {
     #[inline(always)]
     pub fn push(&mut self, key: u64, item: T) -> Result<(), NoMemory>
         ensures put { IfOk result (λ _. (waiting : ℕ → List T) → Holds self.old waiting → length self.old.entries.items < 2 ^ 32 - 1 → Holds self.new (with_bucket waiting (bucket_for key) (item ∷ waiting (bucket_for key)))) }
+        ensures full { 2 ^ 32 - 1 ≤ length self.old.entries.items → self.new ≡ self.old }
     {
         let bucket = bucket_of(key);
         let at = bucket as usize;
@@ -109,6 +110,7 @@ impl<T: Copy> BucketQueue<T> {
     /// Takes out the last item of the first bucket that has one.
     #[inline(always)]
     pub fn pop(&mut self) -> Option<T>
+        ensures same { IfNone result (self.new ≡ self.old) }
         ensures none { IfNone result ((waiting : ℕ → List T) → Holds self.old waiting → (b : ℕ) → waiting b ≡ []) }
         ensures first { IfSome result (λ item. (waiting : ℕ → List T) → Holds self.old waiting → TakesFirst waiting item self.new) }
     {

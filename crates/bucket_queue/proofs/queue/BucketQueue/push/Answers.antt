@@ -23,4 +23,5 @@ returns-in_ok-push g c =
           (holds_put q new waiting at e h room inside c.in_ok-push.ensures.items
           (c.index.ensures ∙ get_or_default_zero q.tops.items at c.index.result.now there) refl topped
           (omega arith) (omega arith) (omega arith) (omega arith) (omega (arith, inside, h.within)));
+      full = λ past. absurd (omega (arith, past, q.entries.ok.0));
     }
