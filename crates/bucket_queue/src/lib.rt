@@ -10,6 +10,8 @@
 //! (Dial, "Algorithm 360: shortest-path forest with topological ordering", 1969). Of the items of one bucket the last comes
 //! out first, so that a search which is led by a bound runs straight to its goal.
 //!
+//! Promised: what is put in waits in the bucket of its key, and what comes out is the last item of the first bucket with any.
+//!
 //! It stands on `grid_base` for the error.
 #![tactic(auto)]
 

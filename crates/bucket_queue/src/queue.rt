@@ -1,5 +1,8 @@
 //! A queue of buckets.
 
+ghost use Rattle.std.specs.Prelude.{◌≡◌, ◌<◌, length, slice_index};
+ghost use Rattle.bucket_queue.specs.Waiting.{bucket_for, AreEmptied, KeepsEmpty};
+
 use grid_base::NoMemory;
 use std::alloc::Global;
 
@@ -40,8 +43,13 @@ pub struct BucketQueue<T> {
 }
 
 impl<T: Copy> BucketQueue<T> {
+    ghost use Rattle.std.specs.Prelude.{◌≡◌, ◌<◌, ◌≤◌, ◌-◌, ◌^◌, ◌∷◌, ℕ, List, [], length, slice_index, IfOk, IfSome, IfNone};
+    ghost use Rattle.bucket_queue.specs.Waiting.{Holds, TakesFirst, KeepsEmpty, bucket_for, with_bucket};
+
     /// An empty queue.
-    pub fn new(alloc: Global) -> Result<BucketQueue<T>, NoMemory> {
+    pub fn new(alloc: Global) -> Result<BucketQueue<T>, NoMemory>
+        ensures empty { IfOk result (λ queue. Holds queue (λ _. [])) }
+    {
         Ok(BucketQueue {
             tops: vec![in alloc; NO_ENTRY; BUCKETS]?,
             entries: Vec::new(alloc),
@@ -52,31 +60,37 @@ impl<T: Copy> BucketQueue<T> {
 
     /// Takes all items out. What it costs grows with the span of the keys or with the items that were put in, whichever is
     /// less, not with the buckets.
-    pub fn clear(&mut self) {
+    pub fn clear(&mut self)
+        ensures empty { (waiting : ℕ → List T) → Holds self.old waiting → Holds self.new (λ _. []) }
+    {
         let end = self.end.min(self.tops.len());
         if end.saturating_sub(self.low) / RUN > self.entries.len() {
-            self.empty_entered();
-        } else if self.low < end {
-            self.tops.as_mut_slice()[self.low..end].fill(NO_ENTRY);
+            empty_entered(&self.entries, &mut self.tops);
+        } else {
+            self.empty_span(end);
         }
         self.entries.clear();
         self.low = BUCKETS;
         self.end = 0;
     }
 
-    /// Empties each bucket into which an item was put.
-    fn empty_entered(&mut self) {
-        for entry in &self.entries {
-            let bucket = entry.bucket as usize;
-            if bucket < self.tops.len() {
-                self.tops[bucket] = NO_ENTRY;
-            }
+    /// Empties the buckets from the first one with an entry up to this one.
+    fn empty_span(&mut self, end: usize)
+        requires { end ≤ length self.old.tops.items }
+        ensures span { (b : ℕ) → self.old.low ≤ b → b < end → slice_index self.new.tops.items b ≡ 4294967295 }
+        ensures kept { KeepsEmpty self.old.tops.items self.new.tops.items }
+    {
+        if self.low < end {
+            self.tops.as_mut_slice()[self.low..end].fill(NO_ENTRY);
         }
     }
 
-    /// Puts an item in.
+    /// Puts an item in, unless 2^32 - 1 were since the queue was cleared.
     #[inline(always)]
-    pub fn push(&mut self, key: u64, item: T) -> Result<(), NoMemory> {
+    pub fn push(&mut self, key: u64, item: T) -> Result<(), NoMemory>
+        ensures put { IfOk result (λ _. (waiting : ℕ → List T) → Holds self.old waiting → length self.old.entries.items < 2 ^ 32 - 1 → Holds self.new (with_bucket waiting (bucket_for key) (item ∷ waiting (bucket_for key)))) }
+        ensures full { 2 ^ 32 - 1 ≤ length self.old.entries.items → self.new ≡ self.old }
+    {
         let bucket = bucket_of(key);
         let at = bucket as usize;
         if at < self.tops.len() && self.entries.len() < NO_ENTRY as usize {
@@ -95,7 +109,11 @@ impl<T: Copy> BucketQueue<T> {
 
     /// Takes out the last item of the first bucket that has one.
     #[inline(always)]
-    pub fn pop(&mut self) -> Option<T> {
+    pub fn pop(&mut self) -> Option<T>
+        ensures same { IfNone result (self.new ≡ self.old) }
+        ensures none { IfNone result ((waiting : ℕ → List T) → Holds self.old waiting → (b : ℕ) → waiting b ≡ []) }
+        ensures first { IfSome result (λ item. (waiting : ℕ → List T) → Holds self.old waiting → TakesFirst waiting item self.new) }
+    {
         let end = self.end.min(self.tops.len());
         for bucket in self.low..end {
             let top = self.tops[bucket] as usize;
@@ -110,9 +128,31 @@ impl<T: Copy> BucketQueue<T> {
     }
 }
 
+/// Empties each bucket into which an item was put.
+fn empty_entered<T: Copy>(entries: &[Entry<T>], tops: &mut Vec<u32>)
+    ensures emptied { AreEmptied entries.now (length entries.now) tops.new.items }
+    ensures kept { KeepsEmpty tops.old.items tops.new.items }
+{
+    for entry in entries {
+        empty(tops, entry.bucket as usize);
+    }
+}
+
+/// Empties a bucket.
+fn empty(tops: &mut Vec<u32>, bucket: usize)
+    ensures emptied { bucket < length tops.old.items → slice_index tops.new.items bucket ≡ 4294967295 }
+    ensures kept { KeepsEmpty tops.old.items tops.new.items }
+{
+    if bucket < tops.len() {
+        tops[bucket] = NO_ENTRY;
+    }
+}
+
 /// The bucket of a key.
 #[inline(always)]
-fn bucket_of(key: u64) -> u32 {
+fn bucket_of(key: u64) -> u32
+    ensures { result ≡ bucket_for key }
+{
     if key < FINE {
         return key as u32;
     }

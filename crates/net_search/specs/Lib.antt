@@ -1,1 +1,10 @@
+pub mod Boxes
+pub mod Going
+pub mod Kinds
+pub mod Known
 pub mod Plans
+pub mod Roads
+pub mod Sites
+pub mod Targets
+pub mod Tiles
+pub mod Using

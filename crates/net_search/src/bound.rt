@@ -1,5 +1,8 @@
 //! What is still to go.
 
+ghost use Rattle.std.specs.Prelude.{◌≤◌, All};
+ghost use Rattle.net_search.specs.Going.{rest_to};
+
 use crate::fewest_vias::FewestVias;
 use crate::goal::Goal;
 use crate::site::Site;
@@ -16,9 +19,16 @@ pub(crate) struct Bound<'a> {
 }
 
 impl Bound<'_> {
+    ghost use Rattle.std.specs.Prelude.{◌≡◌, ◌≤◌, ℕ, All, None, Some, slice_get, slice_index};
+    ghost use Rattle.net_search.specs.Going.{rest_to, rest_at_prices};
+    ghost use Rattle.net_search.specs.Tiles.{tile_of};
+
     /// What a way from here to the nearest of some targets costs at least.
     #[inline(always)]
-    pub(crate) fn rest(&self, goals: &[Goal], site: &Site) -> u64 {
+    pub(crate) fn rest(&self, goals: &[Goal], site: &Site) -> u64
+        ensures priced { (distance : ℕ) → slice_get self.now.landmark.now (tile_of self.now site.now) ≡ Some distance → All (λ goal. result ≤ rest_at_prices goal site.now distance self.now.demand) goals.now }
+        ensures plain { slice_get self.now.landmark.now (tile_of self.now site.now) ≡ None → All (λ goal. result ≤ rest_to goal site.now) goals.now }
+    {
         match self.landmark.get(self.tile_of(site)) {
             Some(distance) => self.rest_at_prices(goals, site, *distance),
             None => rest_without_prices(goals, site),
@@ -27,7 +37,9 @@ impl Bound<'_> {
 
     /// The same from a tile with this distance from the landmark.
     #[inline(always)]
-    fn rest_at_prices(&self, goals: &[Goal], site: &Site, from_landmark: u32) -> u64 {
+    fn rest_at_prices(&self, goals: &[Goal], site: &Site, from_landmark: u32) -> u64
+        ensures { All (λ goal. result ≤ rest_at_prices goal site.now from_landmark self.now.demand) goals.now }
+    {
         let mut least = u64::MAX;
         for goal in goals {
             least = least.min(goal.rest_at_prices(site, from_landmark, self.demand));
@@ -36,7 +48,9 @@ impl Bound<'_> {
     }
 
     /// The distance of the tile of a site from the landmark, or 0 where there is none.
-    pub(crate) fn from_landmark(&self, site: &Site) -> u32 {
+    pub(crate) fn from_landmark(&self, site: &Site) -> u32
+        ensures { result ≡ slice_index self.now.landmark.now (tile_of self.now site.now) }
+    {
         match self.landmark.get(self.tile_of(site)) {
             Some(distance) => *distance,
             None => 0,
@@ -45,14 +59,18 @@ impl Bound<'_> {
 
     /// The number of the tile of a site.
     #[inline(always)]
-    fn tile_of(&self, site: &Site) -> usize {
+    fn tile_of(&self, site: &Site) -> usize
+        ensures { result ≡ tile_of self.now site.now }
+    {
         site.row.wrapping_mul(self.cols).wrapping_add(site.col) as usize
     }
 }
 
 /// The same where no prices count.
 #[inline(always)]
-fn rest_without_prices(goals: &[Goal], site: &Site) -> u64 {
+fn rest_without_prices(goals: &[Goal], site: &Site) -> u64
+    ensures { All (λ goal. result ≤ rest_to goal site.now) goals.now }
+{
     let mut least = u64::MAX;
     for goal in goals {
         least = least.min(goal.rest(site));

@@ -12,6 +12,8 @@ pub(crate) struct Direction {
 }
 
 impl Direction {
+    ghost use Rattle.std.specs.Prelude.{◌↔◌, ◌⊎◌, IsTrue};
+
     /// Neither.
     pub(crate) const NONE: Direction = Direction {
         along_x: false,
@@ -19,7 +21,10 @@ impl Direction {
     };
 
     /// What either has.
-    pub(crate) fn or(self, other: Direction) -> Direction {
+    pub(crate) fn or(self, other: Direction) -> Direction
+        ensures x { IsTrue result.along_x ↔ (IsTrue self.along_x ⊎ IsTrue other.along_x) }
+        ensures y { IsTrue result.along_y ↔ (IsTrue self.along_y ⊎ IsTrue other.along_y) }
+    {
         Direction {
             along_x: self.along_x || other.along_x,
             along_y: self.along_y || other.along_y,
@@ -27,7 +32,9 @@ impl Direction {
     }
 
     /// Whether it has all that the other one has.
-    pub(crate) fn has(self, other: Direction) -> bool {
+    pub(crate) fn has(self, other: Direction) -> bool
+        ensures { IsTrue result ↔ ((IsTrue other.along_x → IsTrue self.along_x) × (IsTrue other.along_y → IsTrue self.along_y)) }
+    {
         (self.along_x || !other.along_x) && (self.along_y || !other.along_y)
     }
 }
@@ -40,8 +47,15 @@ pub(crate) struct Directions {
 }
 
 impl Directions {
+    ghost use Rattle.std.specs.Prelude.{◌≡◌, IfOk, length, slice_index_or};
+    ghost use Rattle.grid_base.specs.Numbers.{layers};
+    ghost use Rattle.grid_graph.specs.Grids.{size_of};
+    ghost use Rattle.net_search.specs.Using.{neither};
+
     /// Those of a grid.
-    pub(crate) fn of(alloc: Global, grid: &Grid) -> Result<Directions, NoMemory> {
+    pub(crate) fn of(alloc: Global, grid: &Grid) -> Result<Directions, NoMemory>
+        ensures { IfOk result (λ directions. length directions.layers.items ≡ layers (size_of grid.now)) }
+    {
         let size = grid.size();
         let mut layers = vec![in alloc; Direction::NONE; size.layers() as usize]?;
         for v in 0..size.vertices() {
@@ -57,12 +71,16 @@ impl Directions {
     }
 
     /// How many layers there are.
-    pub(crate) fn len(&self) -> usize {
+    pub(crate) fn len(&self) -> usize
+        ensures { result ≡ length self.now.layers.items }
+    {
         self.layers.len()
     }
 
     /// The axes of a layer.
-    pub(crate) fn at(&self, layer: usize) -> Direction {
+    pub(crate) fn at(&self, layer: usize) -> Direction
+        ensures { result ≡ slice_index_or self.now.layers.items layer neither }
+    {
         if layer < self.layers.len() {
             self.layers[layer]
         } else {

@@ -1,5 +1,8 @@
 //! What it costs to enter a tile.
 
+ghost use Rattle.std.specs.Prelude.{◌≡◌, ◌-◌, ◌^◌, false, None, Some, slice_get};
+ghost use Rattle.net_search.specs.declared.layers.LayerUse.{LayerUse};
+
 use crate::labels::Labels;
 use crate::road::Road;
 use crate::side::Side;
@@ -9,12 +12,10 @@ use grid_base::{Edge, Size};
 
 /// What the cheapest edge into a site's tile on the site's layer weighs beyond the unit; the greatest number where the net may use
 /// none. Beside the first column or row stands the number of a wall.
-pub(crate) fn entry_on_layer(
-    size: Size,
-    labels: &Labels,
-    weights: &Weights<'_>,
-    site: Site,
-) -> u32 {
+pub(crate) fn entry_on_layer(size: Size, labels: &Labels, weights: &Weights<'_>, site: Site) -> u32
+    ensures none { slice_get weights.now.layers site.layer ≡ None → result ≡ 2 ^ 32 - 1 }
+    ensures bare { (layer : LayerUse) → slice_get weights.now.layers site.layer ≡ Some layer → layer.along_x ≡ false → layer.along_y ≡ false → result ≡ 2 ^ 32 - 1 }
+{
     let Some(layer) = weights.layers.get(site.layer as usize) else {
         return u32::MAX;
     };

@@ -15,8 +15,13 @@ pub(crate) struct FewestVias {
 }
 
 impl FewestVias {
+    ghost use Rattle.std.specs.Prelude.{◌≡◌, ◌<◌, ◌≤◌, IfOk, length, slice_index_or};
+    ghost use Rattle.net_search.specs.Going.{no_rests, pair_number};
+
     /// Those of layers with these directions.
-    pub(crate) fn of(alloc: Global, directions: &Directions) -> Result<FewestVias, NoMemory> {
+    pub(crate) fn of(alloc: Global, directions: &Directions) -> Result<FewestVias, NoMemory>
+        ensures { IfOk result (λ vias. vias.layers ≡ length directions.now.layers.items) }
+    {
         let layers = directions.len();
         let mut pairs = Vec::new(alloc);
         for from in 0..layers {
@@ -28,7 +33,10 @@ impl FewestVias {
     }
 
     /// What the vias of a way from a layer to a layer weigh at least, by the axes along which it runs.
-    pub(crate) fn rests(&self, from: usize, to: usize) -> Rests {
+    pub(crate) fn rests(&self, from: usize, to: usize) -> Rests
+        ensures outside { self.now.layers ≤ from → result ≡ no_rests }
+        ensures table { from < self.now.layers → result ≡ slice_index_or self.now.pairs.items (pair_number self.now.layers from to) no_rests }
+    {
         let at = from.wrapping_mul(self.layers).wrapping_add(to);
         if from < self.layers && at < self.pairs.len() {
             self.pairs[at]

@@ -1,6 +1,8 @@
 //! Boxes of tiles.
 
 ghost use Rattle.std.specs.Prelude.{All};
+ghost use Rattle.net_search.specs.Boxes.{IsIn};
+ghost use Rattle.net_search.specs.Sites.{site_at};
 ghost use Rattle.grid_base.specs.Numbers.{IsVertex};
 
 use crate::site::Site;
@@ -16,6 +18,9 @@ pub(crate) struct Frame {
 }
 
 impl Frame {
+    ghost use Rattle.std.specs.Prelude.{◌≡◌, ◌↔◌, IsTrue};
+    ghost use Rattle.net_search.specs.Boxes.{IsIn, box_with, box_widened, box_cut};
+
     /// No tile.
     pub(crate) const NONE: Frame = Frame {
         west: u32::MAX,
@@ -25,7 +30,9 @@ impl Frame {
     };
 
     /// The least box with the tile of a site in it too, and all that is no further from it than this.
-    pub(crate) fn with(self, site: Site, margin: u32) -> Frame {
+    pub(crate) fn with(self, site: Site, margin: u32) -> Frame
+        ensures { result ≡ box_with self site margin }
+    {
         Frame {
             west: self.west.min(site.col.saturating_sub(margin)),
             east: self.east.max(site.col.saturating_add(margin)),
@@ -35,7 +42,9 @@ impl Frame {
     }
 
     /// The box with a margin.
-    pub(crate) fn widened(self, margin: u32) -> Frame {
+    pub(crate) fn widened(self, margin: u32) -> Frame
+        ensures { result ≡ box_widened self margin }
+    {
         Frame {
             west: self.west.saturating_sub(margin),
             east: self.east.saturating_add(margin),
@@ -45,7 +54,9 @@ impl Frame {
     }
 
     /// What is in both, and in a grid.
-    pub(crate) fn cut(self, other: Frame, size: Size) -> Frame {
+    pub(crate) fn cut(self, other: Frame, size: Size) -> Frame
+        ensures { result ≡ box_cut self other size }
+    {
         Frame {
             west: self.west.max(other.west),
             east: self.east.min(other.east).min(size.cols().saturating_sub(1)),
@@ -59,7 +70,9 @@ impl Frame {
 
     /// Whether the tile of a site is in it.
     #[inline(always)]
-    pub(crate) fn has(self, site: Site) -> bool {
+    pub(crate) fn has(self, site: Site) -> bool
+        ensures { IsTrue result ↔ IsIn self site }
+    {
         self.west <= site.col
             && site.col <= self.east
             && self.south <= site.row
@@ -70,6 +83,7 @@ impl Frame {
 /// The box of terminals.
 pub(crate) fn frame_of(size: Size, terminals: &[Vertex]) -> Frame
     requires { All (λ t. IsVertex size t.0) terminals.now }
+    ensures { All (λ t. IsIn result (site_at size t.0)) terminals.now }
 {
     let mut frame = Frame::NONE;
     for terminal in terminals {

@@ -22,9 +22,15 @@ pub(crate) struct Goal {
 }
 
 impl Goal {
+    ghost use Rattle.std.specs.Prelude.{◌≡◌, slice_index};
+    ghost use Rattle.net_search.specs.Going.{IsSameGoal, rest_to, rest_at_prices};
+    ghost use Rattle.net_search.specs.Tiles.{tile_of};
+
     /// What a way from here costs at least.
     #[inline(always)]
-    pub(crate) fn rest(&self, site: &Site) -> u64 {
+    pub(crate) fn rest(&self, site: &Site) -> u64
+        ensures { result ≡ rest_to self.now site.now }
+    {
         let cols = site.col.abs_diff(self.site.col);
         let rows = site.row.abs_diff(self.site.row);
         let layer = site.layer as usize;
@@ -37,7 +43,9 @@ impl Goal {
 
     /// The same where edges have prices: for each unit of demand these add at least what the distances from the landmark differ by.
     #[inline(always)]
-    pub(crate) fn rest_at_prices(&self, site: &Site, from_landmark: u32, demand: u32) -> u64 {
+    pub(crate) fn rest_at_prices(&self, site: &Site, from_landmark: u32, demand: u32) -> u64
+        ensures { result ≡ rest_at_prices self.now site.now from_landmark demand }
+    {
         let cols = site.col.abs_diff(self.site.col);
         let rows = site.row.abs_diff(self.site.row);
         let layer = site.layer as usize;
@@ -52,7 +60,10 @@ impl Goal {
     }
 
     /// A terminal as a target.
-    pub(crate) fn of(plan: &Plan<'_>, labels: &Labels, site: Site) -> Goal {
+    pub(crate) fn of(plan: &Plan<'_>, labels: &Labels, site: Site) -> Goal
+        ensures site { result.site ≡ site }
+        ensures landmark { result.from_landmark ≡ slice_index plan.now.bound.landmark.now (tile_of plan.now.bound site) }
+    {
         let mut goal = Goal {
             site,
             from_landmark: plan.bound.from_landmark(&site),
@@ -67,7 +78,9 @@ impl Goal {
 
     /// Takes in the target's layer, and each layer above it whose edges into the tile are cheaper than those of all layers between.
     /// Answers what the cheapest one on the target's layer adds.
-    fn enter_from_above(&mut self, plan: &Plan<'_>, labels: &Labels) -> u32 {
+    fn enter_from_above(&mut self, plan: &Plan<'_>, labels: &Labels) -> u32
+        ensures { IsSameGoal self.old self.new }
+    {
         let mut at = self.site;
         let first = entry_on_layer(plan.size, labels, &plan.weights, at);
         self.enter(plan, at.layer, first, u32::MAX);
@@ -85,7 +98,9 @@ impl Goal {
     }
 
     /// The same on each layer below it.
-    fn enter_from_below(&mut self, plan: &Plan<'_>, labels: &Labels, first: u32) {
+    fn enter_from_below(&mut self, plan: &Plan<'_>, labels: &Labels, first: u32)
+        ensures { IsSameGoal self.old self.new }
+    {
         let mut at = self.site;
         let mut least = first;
         for _ in 0..at.layer {
@@ -101,7 +116,9 @@ impl Goal {
 
     /// Ways may enter the tile on this layer, where the cheapest edge adds this weight. It is left out where a layer between is no
     /// dearer, since a way there has no more vias.
-    fn enter(&mut self, plan: &Plan<'_>, layer: u32, weight: u32, between: u32) {
+    fn enter(&mut self, plan: &Plan<'_>, layer: u32, weight: u32, between: u32)
+        ensures { IsSameGoal self.old self.new }
+    {
         if weight >= between {
             return;
         }
@@ -116,7 +133,9 @@ impl Goal {
     }
 
     /// Within the target's tile only vias are still to go.
-    fn stay_within(&mut self) {
+    fn stay_within(&mut self)
+        ensures { IsSameGoal self.old self.new }
+    {
         for from in 0..LAYERS {
             let upright = UNIT.saturating_mul(self.site.layer.abs_diff(from as u32));
             self.with_entry[from].upright = upright;

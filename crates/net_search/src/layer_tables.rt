@@ -14,8 +14,14 @@ pub struct LayerTables {
 }
 
 impl LayerTables {
+    ghost use Rattle.std.specs.Prelude.{◌≡◌, IfOk, length};
+    ghost use Rattle.grid_base.specs.Numbers.{layers};
+    ghost use Rattle.grid_graph.specs.Grids.{size_of};
+
     /// Those of a grid.
-    pub fn of(alloc: Global, grid: &Grid) -> Result<LayerTables, NoMemory> {
+    pub fn of(alloc: Global, grid: &Grid) -> Result<LayerTables, NoMemory>
+        ensures { IfOk result (λ tables. length tables.directions.layers.items ≡ layers (size_of grid.now)) }
+    {
         let directions = Directions::of(alloc, grid)?;
         Ok(LayerTables {
             vias: FewestVias::of(alloc, &directions)?,

@@ -1,6 +1,8 @@
 //! What a net may use of the layers.
 
+ghost use Rattle.std.specs.Prelude.{◌≡◌, ◌≤◌, All};
 ghost use Rattle.grid_graph.specs.Grids.{IsNetWidth};
+ghost use Rattle.net_search.specs.Using.{HasEdges};
 
 use crate::directions::Directions;
 use grid_base::{Axis, Edge, Place};
@@ -46,12 +48,23 @@ pub(crate) fn layers_for(grid: &Grid, directions: &Directions, width: u32) -> [L
 }
 
 /// The least demand on a layer that has edges.
-pub(crate) fn least_demand(layers: &[LayerUse; LAYERS]) -> u32 {
+pub(crate) fn least_demand(layers: &[LayerUse; LAYERS]) -> u32
+    ensures { All (λ layer. HasEdges layer → result ≤ layer.demand) layers.now }
+{
     let mut least = u32::MAX;
     for layer in layers {
-        if layer.along_x || layer.along_y {
-            least = least.min(layer.demand);
-        }
+        least = least.min(demand_where_used(layer));
     }
     least
+}
+
+/// The demand on a layer; the greatest number where it has no edges.
+fn demand_where_used(layer: &LayerUse) -> u32
+    ensures { HasEdges layer.now → result ≡ layer.now.demand }
+{
+    if layer.along_x || layer.along_y {
+        layer.demand
+    } else {
+        u32::MAX
+    }
 }

@@ -16,7 +16,9 @@
 //! It stands on `bucket_queue` for what waits, on `grid_graph` for grids and nets, on `tree_set` for sets, and on `grid_base`
 //! for vertices and pieces.
 //!
-//! Nothing is promised but that each call ends. What rests on a search tests the ways that it finds.
+//! Promised: what is found is a target, no edge weighs less than a wire or is used by a net that may not, no edge's kind changes, and
+//! what is still to go is at most what it is to each target. That a way is cheap isn't promised, nor that it leads back: what rests
+//! on a search tests the ways that it finds.
 #![tactic(auto)]
 
 mod bound;

@@ -10,6 +10,9 @@ pub(crate) struct Rests {
 }
 
 impl Rests {
+    ghost use Rattle.std.specs.Prelude.{◌≡◌};
+    ghost use Rattle.net_search.specs.Going.{rest_along, rests_with, least_rests};
+
     /// Nothing.
     pub(crate) const NONE: Rests = Rests {
         upright: 0,
@@ -28,7 +31,9 @@ impl Rests {
 
     /// That of a way that has to run along these axes.
     #[inline(always)]
-    pub(crate) fn at(&self, along_x: bool, along_y: bool) -> u32 {
+    pub(crate) fn at(&self, along_x: bool, along_y: bool) -> u32
+        ensures { result ≡ rest_along self.now along_x along_y }
+    {
         let with_y = if along_x {
             self.along_both
         } else {
@@ -39,7 +44,9 @@ impl Rests {
     }
 
     /// So much more from every other tile; within the tile as before.
-    pub(crate) fn with(self, more: u32) -> Rests {
+    pub(crate) fn with(self, more: u32) -> Rests
+        ensures { result ≡ rests_with self more }
+    {
         Rests {
             upright: self.upright,
             along_x: self.along_x.saturating_add(more),
@@ -49,7 +56,9 @@ impl Rests {
     }
 
     /// The least of both.
-    pub(crate) fn or(self, other: Rests) -> Rests {
+    pub(crate) fn or(self, other: Rests) -> Rests
+        ensures { result ≡ least_rests self other }
+    {
         Rests {
             upright: self.upright.min(other.upright),
             along_x: self.along_x.min(other.along_x),

@@ -19,8 +19,14 @@ pub(crate) enum Road {
 }
 
 impl Road {
+    ghost use Rattle.std.specs.Prelude.{◌≡◌, false};
+    ghost use Rattle.net_search.specs.Kinds.{kind_of_road};
+    ghost use Rattle.net_search.specs.Roads.{road_for};
+
     /// An edge of this kind that the net hasn't got.
-    pub(crate) fn of(kind: Kind) -> Road {
+    pub(crate) fn of(kind: Kind) -> Road
+        ensures { result ≡ road_for kind false }
+    {
         match kind {
             Kind::Open => Road::Open,
             Kind::Choked => Road::Choked,
@@ -29,7 +35,9 @@ impl Road {
     }
 
     /// The same edge, if the net has got it, or hasn't.
-    pub(crate) fn owned(self, is_own: bool) -> Road {
+    pub(crate) fn owned(self, is_own: bool) -> Road
+        ensures { result ≡ road_for (kind_of_road self) is_own }
+    {
         match (self, is_own) {
             (Road::Wall, _) => Road::Wall,
             (Road::Choked | Road::OwnChoked, true) => Road::OwnChoked,

@@ -20,8 +20,15 @@ pub struct NetSearch {
 }
 
 impl NetSearch {
+    ghost use Rattle.std.specs.Prelude.{◌≡◌, IfOk, IfSome, map};
+    ghost use Rattle.std.specs.List.{Any};
+    ghost use Rattle.net_search.specs.Known.{AreFor, KeepsKinds, known_of};
+    ghost use Rattle.net_search.specs.Sites.{IsStepBack};
+
     /// The tables for searches on this grid.
-    pub fn new(alloc: Global, grid: &Grid) -> Result<NetSearch, NoMemory> {
+    pub fn new(alloc: Global, grid: &Grid) -> Result<NetSearch, NoMemory>
+        ensures { IfOk result (λ search. AreFor grid.now search.wave.labels) }
+    {
         Ok(NetSearch {
             wave: Wave::new(alloc, grid)?,
             goals: Vec::new(alloc),
@@ -30,7 +37,9 @@ impl NetSearch {
 
     /// Says of the edges of a set that they are those which the net of the next searches has got, or that they are no longer.
     /// Loads are weighed as if its own set were taken away.
-    pub fn lay_own(&mut self, own: &Tree, is_own: bool) {
+    pub fn lay_own(&mut self, own: &Tree, is_own: bool)
+        ensures { KeepsKinds self.old.wave.labels self.new.wave.labels }
+    {
         for piece in own.pieces() {
             if let Piece::Edge(edge) = *piece {
                 self.wave.labels.lay(edge, is_own);
@@ -46,7 +55,9 @@ impl NetSearch {
         plan: &Plan<'_>,
         targets: &[Target],
         sources: &[Site],
-    ) -> Result<Option<Site>, NoMemory> {
+    ) -> Result<Option<Site>, NoMemory>
+        ensures { IfOk result (λ found. IfSome found (λ site. Any (λ target. target.site.vertex ≡ site.vertex) targets.now)) }
+    {
         self.aim(plan, targets)?;
         let mut margin = plan.margin;
         for _ in 0..u32::BITS {
@@ -63,7 +74,9 @@ impl NetSearch {
     }
 
     /// Makes the targets those of the present search.
-    fn aim(&mut self, plan: &Plan<'_>, targets: &[Target]) -> Result<(), NoMemory> {
+    fn aim(&mut self, plan: &Plan<'_>, targets: &[Target]) -> Result<(), NoMemory>
+        ensures { IfOk result (λ _. map (λ goal. goal.site) self.new.goals.items ≡ map (λ target. target.site) targets.now) }
+    {
         self.goals.clear();
         for target in targets {
             self.goals
@@ -73,7 +86,9 @@ impl NetSearch {
     }
 
     /// The piece by which the last search reached a site, and where from.
-    pub fn step_back(&self, plan: &Plan<'_>, site: Site) -> (Piece, Site) {
+    pub fn step_back(&self, plan: &Plan<'_>, site: Site) -> (Piece, Site)
+        ensures { IsStepBack plan.now.size site (known_of self.now.wave.labels site.vertex).back result.0 result.1 }
+    {
         let side = self.wave.labels.at(site.vertex).back;
         (site.piece(plan.size, side), site.beside(plan.size, side))
     }

@@ -13,11 +13,15 @@ pub struct Site {
 }
 
 impl Site {
-    ghost use Rattle.grid_base.specs.Numbers.{IsVertex};
+    ghost use Rattle.std.specs.Prelude.{◌≡◌, ◌<◌, ◌^◌};
+    ghost use Rattle.grid_base.specs.Numbers.{IsVertex, edge_along};
+    ghost use Rattle.grid_base.specs.declared.axis.Axis.TheVariants.{X, Y};
+    ghost use Rattle.net_search.specs.Sites.{site_at, neighbour, piece_to, tiles_between};
 
     /// The site of a vertex.
     pub fn of(size: Size, v: Vertex) -> Site
         requires { IsVertex size v.0 }
+        ensures { result ≡ site_at size v.0 }
     {
         let Place { col, row, layer } = size.place_of(v);
         Site {
@@ -29,13 +33,17 @@ impl Site {
     }
 
     /// Its vertex.
-    pub fn vertex(self) -> Vertex {
+    pub fn vertex(self) -> Vertex
+        ensures { result.0 ≡ self.vertex }
+    {
         Vertex(self.vertex)
     }
 
     /// The neighbour on this side. It need not be in the grid.
     #[inline(always)]
-    pub(crate) fn beside(self, size: Size, side: Side) -> Site {
+    pub(crate) fn beside(self, size: Size, side: Side) -> Site
+        ensures { result ≡ neighbour size self side }
+    {
         let Site {
             vertex,
             col,
@@ -79,18 +87,24 @@ impl Site {
 
     /// The edge to the next column.
     #[inline(always)]
-    pub(crate) fn east(self) -> Edge {
+    pub(crate) fn east(self) -> Edge
+        ensures { self.vertex < 2 ^ 31 → result ≡ edge_along X self.vertex }
+    {
         Edge(self.vertex.wrapping_mul(2))
     }
 
     /// The edge to the next row.
     #[inline(always)]
-    pub(crate) fn north(self) -> Edge {
+    pub(crate) fn north(self) -> Edge
+        ensures { self.vertex < 2 ^ 31 → result ≡ edge_along Y self.vertex }
+    {
         Edge(self.vertex.wrapping_mul(2).wrapping_add(1))
     }
 
     /// The piece between this vertex and its neighbour on this side.
-    pub(crate) fn piece(self, size: Size, side: Side) -> Piece {
+    pub(crate) fn piece(self, size: Size, side: Side) -> Piece
+        ensures { self.vertex < 2 ^ 31 → (neighbour size self side).vertex < 2 ^ 31 → result ≡ piece_to size self side }
+    {
         match side {
             Side::West => Piece::Edge(self.beside(size, side).east()),
             Side::East => Piece::Edge(self.east()),
@@ -102,7 +116,9 @@ impl Site {
     }
 
     /// How many tile steps lead from its tile to that of another one.
-    pub fn tiles_to(self, other: Site) -> u32 {
+    pub fn tiles_to(self, other: Site) -> u32
+        ensures { result ≡ tiles_between self other }
+    {
         self.col
             .abs_diff(other.col)
             .saturating_add(self.row.abs_diff(other.row))

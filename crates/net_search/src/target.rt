@@ -11,8 +11,14 @@ pub struct Target {
 }
 
 impl Target {
+    ghost use Rattle.std.specs.Prelude.{◌≡◌, ◌≤◌, All};
+    ghost use Rattle.net_search.specs.Sites.{tiles_between};
+
     /// A terminal as a target, where so far one site is joined.
-    pub fn of(site: Site, joined: Site) -> Target {
+    pub fn of(site: Site, joined: Site) -> Target
+        ensures site { result.site ≡ site }
+        ensures distance { result.distance ≡ tiles_between site joined }
+    {
         Target {
             site,
             distance: site.tiles_to(joined),
@@ -20,17 +26,25 @@ impl Target {
     }
 
     /// Where it is.
-    pub fn site(&self) -> Site {
+    pub fn site(&self) -> Site
+        ensures { result ≡ self.now.site }
+    {
         self.site
     }
 
     /// The tile steps to it from what is joined.
-    pub fn distance(&self) -> u32 {
+    pub fn distance(&self) -> u32
+        ensures { result ≡ self.now.distance }
+    {
         self.distance
     }
 
     /// Tells it of more sites that are joined.
-    pub fn draw_nearer(&mut self, joined: &[Site]) {
+    pub fn draw_nearer(&mut self, joined: &[Site])
+        ensures site { self.new.site ≡ self.old.site }
+        ensures nearer { self.new.distance ≤ self.old.distance }
+        ensures all { All (λ site. self.new.distance ≤ tiles_between self.old.site site) joined.now }
+    {
         for other in joined {
             self.distance = self.distance.min(self.site.tiles_to(*other));
         }

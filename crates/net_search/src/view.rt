@@ -17,6 +17,12 @@ pub(crate) struct View<'g, 'p, 'a> {
 }
 
 impl<'g, 'p, 'a> View<'g, 'p, 'a> {
+    ghost use Rattle.std.specs.Prelude.{◌≡◌, ◌≤◌, ◌↔◌, All, None, IsTrue, slice_get};
+    ghost use Rattle.std.specs.List.{Any};
+    ghost use Rattle.net_search.specs.Boxes.{IsWithin, box_cut, box_widened};
+    ghost use Rattle.net_search.specs.Going.{rest_to};
+    ghost use Rattle.net_search.specs.Tiles.{tile_of};
+
     /// That of a search for some targets, which looks no further than the margin beyond the net's box, nor beyond the
     /// targets as far as each is from what is joined.
     pub(crate) fn of(
@@ -24,7 +30,10 @@ impl<'g, 'p, 'a> View<'g, 'p, 'a> {
         targets: &[Target],
         goals: &'g [Goal],
         margin: u32,
-    ) -> View<'g, 'p, 'a> {
+    ) -> View<'g, 'p, 'a>
+        ensures goals { result.goals.now ≡ goals.now }
+        ensures frame { IsWithin result.frame (box_cut (box_widened plan.now.frame margin) (box_widened plan.now.frame margin) plan.now.size) }
+    {
         let mut frame = Frame::NONE;
         for target in targets {
             frame = frame.with(target.site, target.distance.saturating_add(margin));
@@ -38,13 +47,17 @@ impl<'g, 'p, 'a> View<'g, 'p, 'a> {
 
     /// What is still to go from here at least.
     #[inline(always)]
-    pub(crate) fn rest(&self, site: &Site) -> u64 {
+    pub(crate) fn rest(&self, site: &Site) -> u64
+        ensures plain { slice_get self.now.plan.now.bound.landmark.now (tile_of self.now.plan.now.bound site.now) ≡ None → All (λ goal. result ≤ rest_to goal site.now) self.now.goals.now }
+    {
         self.plan.bound.rest(self.goals, site)
     }
 
     /// Whether a site is that of a target.
     #[inline(always)]
-    pub(crate) fn is_target(&self, site: &Site) -> bool {
+    pub(crate) fn is_target(&self, site: &Site) -> bool
+        ensures { IsTrue result ↔ Any (λ goal. goal.site.vertex ≡ site.now.vertex) self.now.goals.now }
+    {
         self.goals
             .iter()
             .any(|goal| goal.site.vertex == site.vertex)

@@ -19,8 +19,14 @@ pub(crate) struct Wave {
 }
 
 impl Wave {
+    ghost use Rattle.std.specs.Prelude.{◌≡◌, IfOk, IfSome};
+    ghost use Rattle.std.specs.List.{Any};
+    ghost use Rattle.net_search.specs.Known.{AreFor};
+
     /// The tables for this grid.
-    pub(crate) fn new(alloc: Global, grid: &Grid) -> Result<Wave, NoMemory> {
+    pub(crate) fn new(alloc: Global, grid: &Grid) -> Result<Wave, NoMemory>
+        ensures { IfOk result (λ wave. AreFor grid.now wave.labels) }
+    {
         Ok(Wave {
             labels: Labels::new(alloc, grid)?,
             queue: BucketQueue::new(alloc)?,
@@ -32,7 +38,9 @@ impl Wave {
         &mut self,
         view: &View<'_, '_, '_>,
         sources: &[Site],
-    ) -> Result<Option<Site>, NoMemory> {
+    ) -> Result<Option<Site>, NoMemory>
+        ensures { IfOk result (λ found. IfSome found (λ site. Any (λ goal. goal.site.vertex ≡ site.vertex) view.now.goals.now)) }
+    {
         self.labels.begin();
         self.queue.clear();
         for source in sources {

@@ -30,9 +30,15 @@ pub(crate) struct Weights<'a> {
 }
 
 impl Weights<'_> {
+    ghost use Rattle.std.specs.Prelude.{◌≤◌, ◌<◌, ◌↔◌, IsSome, IfSome, length};
+    ghost use Rattle.net_search.specs.Using.{IsUsable};
+
     /// What an edge on this layer weighs. `None` is an edge that the net may not use.
     #[inline(always)]
-    pub(crate) fn weight(&self, edge: Edge, road: Road, demand: u32) -> Option<u32> {
+    pub(crate) fn weight(&self, edge: Edge, road: Road, demand: u32) -> Option<u32>
+        ensures usable { IsSome result ↔ (IsUsable self.now.over road × (edge.0 < length self.now.field.rooms.now)) }
+        ensures unit { IfSome result (λ weight. 4 ≤ weight) }
+    {
         let is_own = match road {
             Road::Wall => return None,
             Road::Choked | Road::OwnChoked if self.over == Ground::Open => return None,

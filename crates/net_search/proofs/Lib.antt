@@ -1,0 +1,4 @@
+mod Found
+mod Inside
+mod Keeping
+mod Least

@@ -1,0 +1,5 @@
+use Rattle.net_search.specs.Going.{IsSameGoal}
+use Rattle.net_search.proofs.goal.Goal.enter_from_below.Given as goal
+
+abbrev pub invariant-loop : goal.invariant-loop
+invariant-loop l = IsSameGoal l.initial.self l.self
