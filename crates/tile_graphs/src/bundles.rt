@@ -1,5 +1,10 @@
 //! Nets in bundles.
 
+ghost use Rattle.std.specs.Prelude.{◌≡◌, ◌≤◌, All};
+ghost use Rattle.std.specs.List.{sum_by};
+ghost use Rattle.tile_graphs.specs.Bundles.{demand_of_bundles, looks_of_bundle, sets_of_ends};
+ghost use Rattle.tile_graphs.specs.Fullness.{in_word};
+
 use crate::ends::Ends;
 use grid_base::NoMemory;
 use std::alloc::Global;
@@ -15,7 +20,9 @@ pub struct Bundle {
 }
 
 /// What all bundles use together.
-pub fn total_demand(bundles: &[Bundle]) -> u64 {
+pub fn total_demand(bundles: &[Bundle]) -> u64
+    ensures { result ≡ in_word (demand_of_bundles bundles.now) }
+{
     let mut total: u64 = 0;
     for bundle in bundles {
         total = total.saturating_add(bundle.demand);
@@ -24,7 +31,9 @@ pub fn total_demand(bundles: &[Bundle]) -> u64 {
 }
 
 /// The most sets of ends that a bundle has.
-pub fn most_sets(bundles: &[Bundle]) -> u32 {
+pub fn most_sets(bundles: &[Bundle]) -> u32
+    ensures { All (λ b. sets_of_ends b.ends.nodes ≤ result) bundles.now }
+{
     let mut most = 0;
     for bundle in bundles {
         most = most.max(bundle.ends.sets());
@@ -34,7 +43,9 @@ pub fn most_sets(bundles: &[Bundle]) -> u32 {
 
 /// How often least trees of the bundles look at links, of which there are so many, and at labels of so many nodes, where they
 /// look at each link once for each set of ends.
-pub(crate) fn looks_of(bundles: &[Bundle], links: u64, nodes: u64) -> u64 {
+pub(crate) fn looks_of(bundles: &[Bundle], links: u64, nodes: u64) -> u64
+    ensures { result ≡ in_word (sum_by (looks_of_bundle links nodes) bundles.now) }
+{
     let mut looks: u64 = 0;
     for bundle in bundles {
         let sets = u64::from(bundle.ends.sets());

@@ -1,5 +1,8 @@
 //! The nodes that a net has to join.
 
+ghost use Rattle.std.specs.Prelude.{◌≡◌, ◌≢◌, ◌↔◌, IsTrue, slice_index};
+ghost use Rattle.tile_graphs.specs.Bundles.{no_end, sets_of_ends};
+
 /// Stands for no node.
 const NO_NODE: u32 = u32::MAX;
 
@@ -35,12 +38,16 @@ impl Ends {
     }
 
     /// Whether there are two nodes at least.
-    pub fn are_apart(self) -> bool {
+    pub fn are_apart(self) -> bool
+        ensures { IsTrue result ↔ (slice_index self.nodes 1 ≢ no_end) }
+    {
         self.nodes[1] != NO_NODE
     }
 
     /// How many sets there are of the nodes but the first one.
-    pub fn sets(self) -> u32 {
+    pub fn sets(self) -> u32
+        ensures { result ≡ sets_of_ends self.nodes }
+    {
         let mut sets: u32 = 1;
         for place in 1..MOST_ENDS {
             if self.nodes[place] == NO_NODE {

@@ -10,8 +10,8 @@
 //! Where all but some tile edges cost nothing, tiles that the others join are one node, and what is left is a graph of few
 //! nodes. Without the region of the most tiles it falls into parts, and each net is brought into those where it has ends.
 //!
-//! It stands on `groups`, `grid_graph` and `grid_base`. Want of memory alone is a free answer. Promised: `tile_edges` is the
-//! number of tile edges. All else serves the search for prices of `hot_cuts`, of which no clause says how good they are.
+//! It stands on `groups`, `grid_graph` and `grid_base`. Want of memory alone is a free answer. Promised: how many tile edges
+//! there are and which tiles they join, how full they are, and sums. What regions, parts and links are made of no clause says.
 
 #![tactic(auto)]
 

@@ -1,5 +1,11 @@
 //! Parts of the graph of regions.
 
+ghost use Rattle.std.specs.Prelude.{◌≡◌, ◌+◌, ◌-◌, ◌<◌, ◌^◌, ◌≢◌, ◌++◌, ◌∷◌, ◌||◌, ◌==◌, [], All, IfOk, OnOk, IsPermutation, length, min, max, slice_index};
+ghost use Rattle.std.specs.List.{list_all, list_any, sum_by};
+ghost use Rattle.tile_graphs.specs.Bundles.{looks_of_bundle, no_end};
+ghost use Rattle.tile_graphs.specs.Fullness.{excess_of, in_word, is_above};
+ghost use Rattle.tile_graphs.specs.Links.{open_excess_of};
+
 use crate::bundles::{Bundle, looks_of, merged};
 use crate::tile_use::TileTotal;
 use grid_base::NoMemory;
@@ -34,7 +40,12 @@ pub struct Part {
 
 impl Part {
     /// The outside alone.
-    pub fn new(alloc: Global) -> Part {
+    pub fn new(alloc: Global) -> Part
+        ensures nodes { result.nodes ≡ 1 }
+        ensures links { result.links.items ≡ [] }
+        ensures edges { result.edges.items ≡ [] }
+        ensures nets { result.nets.items ≡ [] }
+    {
         Part {
             nodes: 1,
             links: Vec::new(alloc),
@@ -44,14 +55,23 @@ impl Part {
     }
 
     /// The number of one node more.
-    pub fn add_node(&mut self) -> u32 {
+    pub fn add_node(&mut self) -> u32
+        ensures number { result ≡ self.old.nodes }
+        ensures new { self.new ≡ record self.old { nodes = min (self.old.nodes + 1) (2 ^ 32 - 1) } }
+    {
         let node = self.nodes;
         self.nodes = node.saturating_add(1);
         node
     }
 
     /// Adds a tile edge between two nodes, which is in no link so far.
-    pub fn add_edge(&mut self, one: u32, other: u32, tile_edge: u32) -> Result<(), NoMemory> {
+    pub fn add_edge(&mut self, one: u32, other: u32, tile_edge: u32) -> Result<(), NoMemory>
+        ensures edges { OnOk result (self.new.edges.items
+            ≡ self.old.edges.items ++ record { one = min one other; other = max one other; tile_edge = tile_edge; link = 0 } ∷ []) }
+        ensures links { self.new.links ≡ self.old.links }
+        ensures nets { self.new.nets ≡ self.old.nets }
+        ensures nodes { self.new.nodes ≡ self.old.nodes }
+    {
         self.edges.push(HotEdge {
             one: one.min(other),
             other: one.max(other),
@@ -62,7 +82,13 @@ impl Part {
     }
 
     /// Adds a net that has two ends at least.
-    pub fn add_net(&mut self, net: Bundle) -> Result<(), NoMemory> {
+    pub fn add_net(&mut self, net: Bundle) -> Result<(), NoMemory>
+        ensures apart { slice_index net.ends.nodes 1 ≢ no_end → OnOk result (self.new.nets.items ≡ self.old.nets.items ++ net ∷ []) }
+        ensures single { slice_index net.ends.nodes 1 ≡ no_end → self.new.nets ≡ self.old.nets }
+        ensures edges { self.new.edges ≡ self.old.edges }
+        ensures links { self.new.links ≡ self.old.links }
+        ensures nodes { self.new.nodes ≡ self.old.nodes }
+    {
         if net.ends.are_apart() {
             self.nets.push(net)?;
         }
@@ -70,7 +96,10 @@ impl Part {
     }
 
     /// Makes the links of the tile edges, of which these are the totals.
-    pub fn make_links(&mut self, totals: &[TileTotal]) -> Result<(), NoMemory> {
+    pub fn make_links(&mut self, totals: &[TileTotal]) -> Result<(), NoMemory>
+        ensures nets { self.new.nets ≡ self.old.nets }
+        ensures nodes { self.new.nodes ≡ self.old.nodes }
+    {
         self.edges.sort_unstable();
         for edge in self.edges.iter_mut() {
             let total = totals.get(edge.tile_edge as usize).copied();
@@ -82,18 +111,28 @@ impl Part {
     }
 
     /// The nets in bundles.
-    pub fn bundles(&mut self, alloc: Global) -> Result<Vec<Bundle>, NoMemory> {
+    pub fn bundles(&mut self, alloc: Global) -> Result<Vec<Bundle>, NoMemory>
+        ensures nets { IsPermutation self.old.nets.items self.new.nets.items }
+        ensures edges { self.new.edges ≡ self.old.edges }
+        ensures links { self.new.links ≡ self.old.links }
+        ensures nodes { self.new.nodes ≡ self.old.nodes }
+    {
         self.nets.sort_unstable();
         merged(alloc, self.nets.as_slice())
     }
 
     /// How often a round of the bundles looks at links and labels.
-    pub fn looks(&self, bundles: &[Bundle]) -> u64 {
+    pub fn looks(&self, bundles: &[Bundle]) -> u64
+        ensures { result ≡ in_word (sum_by (looks_of_bundle (length self.now.links.items) self.now.nodes) bundles.now) }
+    {
         looks_of(bundles, self.links.len() as u64, u64::from(self.nodes))
     }
 
     /// Whether routes fill a link more than at a level, or nothing is known of routes. Else no prices prove more than the level.
-    pub fn may_be_fuller(&self, level: u64) -> bool {
+    pub fn may_be_fuller(&self, level: u64) -> bool
+        ensures { result ≡ list_any (λ link. is_above level link.total) self.now.links.items
+            || list_all (λ link. link.total.load == 0) self.now.links.items }
+    {
         let mut is_unused = true;
         for link in self.links.iter() {
             if link.total.is_fuller(level) {
@@ -105,7 +144,9 @@ impl Part {
     }
 
     /// By how much routes overfill the links.
-    pub fn excess(&self) -> u64 {
+    pub fn excess(&self) -> u64
+        ensures { result ≡ in_word (sum_by (λ link. excess_of link.total) self.now.links.items) }
+    {
         let mut excess: u64 = 0;
         for link in self.links.iter() {
             excess = excess.saturating_add(link.total.excess());
@@ -114,7 +155,9 @@ impl Part {
     }
 
     /// By how much routes overfill the tile edges that are not settled.
-    pub fn open_excess(&self, totals: &[TileTotal], are_settled: &[bool]) -> u64 {
+    pub fn open_excess(&self, totals: &[TileTotal], are_settled: &[bool]) -> u64
+        ensures { result ≡ in_word (sum_by (open_excess_of totals.now are_settled.now) self.now.edges.items) }
+    {
         let mut open: u64 = 0;
         for edge in self.edges.iter() {
             let place = edge.tile_edge as usize;
@@ -127,7 +170,9 @@ impl Part {
     }
 
     /// For each link the greatest of these prices of its tile edges.
-    pub fn prices_of(&self, alloc: Global, tile_prices: &[u32]) -> Result<Vec<u64>, NoMemory> {
+    pub fn prices_of(&self, alloc: Global, tile_prices: &[u32]) -> Result<Vec<u64>, NoMemory>
+        ensures { IfOk result (λ prices. length prices.items ≡ length self.now.links.items) }
+    {
         let mut prices = vec![in alloc; 0u64; self.links.len()]?;
         for edge in self.edges.iter() {
             let tile_price = tile_prices.get(edge.tile_edge as usize).copied();

@@ -1,5 +1,8 @@
 //! Cuts round single tiles.
 
+ghost use Rattle.std.specs.Prelude.{◌≡◌, ◌<◌, ℕ, IfOk, slice_index_or};
+ghost use Rattle.tile_graphs.specs.Fullness.{no_total};
+
 use crate::regions::ends_of;
 use crate::tile_use::TileTotal;
 use crate::tile_view::TileView;
@@ -58,7 +61,10 @@ impl TileCuts {
 }
 
 /// For each open tile edge the fuller one of the cuts round its two tiles, and nothing for the others.
-pub fn fuller_cuts(alloc: Global, view: &TileView) -> Result<Vec<TileTotal>, NoMemory> {
+pub fn fuller_cuts(alloc: Global, view: &TileView) -> Result<Vec<TileTotal>, NoMemory>
+    ensures { IfOk result (λ cuts. (t : ℕ) → (slice_index_or view.now.totals.items t no_total).capacity ≡ 0
+        → slice_index_or cuts.items t no_total ≡ no_total) }
+{
     let cuts = TileCuts::of(alloc, view)?;
     let mut fuller = Vec::new(alloc);
     for (tile_edge, total) in (0..u32::MAX).zip(view.totals.iter()) {

@@ -1,6 +1,7 @@
 //! Nets by their tiles.
 
-ghost use Rattle.std.specs.Prelude.{◌<◌, length};
+ghost use Rattle.std.specs.Prelude.{◌≡◌, ◌<◌, ◌≤◌, ◌+◌, All, IfOk, OnOk, length, slice_range};
+ghost use Rattle.tile_graphs.specs.TileNets.{HasTiles};
 
 use grid_base::{Edge, NoMemory};
 use grid_graph::Design;
@@ -23,7 +24,10 @@ pub struct TileNets {
 
 impl TileNets {
     /// The nets of a design.
-    pub fn of(alloc: Global, design: &Design) -> Result<TileNets, NoMemory> {
+    pub fn of(alloc: Global, design: &Design) -> Result<TileNets, NoMemory>
+        ensures few { IfOk result (λ made. length made.nets.items ≤ length design.now.nets) }
+        ensures tiles { IfOk result (λ made. All (HasTiles made.tiles.items) made.nets.items) }
+    {
         let mut nets = TileNets {
             tiles: Vec::new(alloc),
             nets: Vec::new(alloc),
@@ -35,12 +39,16 @@ impl TileNets {
     }
 
     /// The nets.
-    pub fn list(&self) -> &[TileNet] {
+    pub fn list(&self) -> &[TileNet]
+        ensures { result.now ≡ self.now.nets.items }
+    {
         self.nets.as_slice()
     }
 
     /// The tiles of a net, each once.
-    pub fn tiles_of(&self, net: TileNet) -> &[u32] {
+    pub fn tiles_of(&self, net: TileNet) -> &[u32]
+        ensures { HasTiles self.now.tiles.items net → result.now ≡ slice_range self.now.tiles.items net.first net.past }
+    {
         match self.tiles.as_slice().get(net.first..net.past) {
             Some(tiles) => tiles,
             None => &[],
@@ -50,6 +58,8 @@ impl TileNets {
     /// Adds the net at a place, if it has two tiles at least.
     fn add(&mut self, alloc: Global, design: &Design, place: usize) -> Result<(), NoMemory>
         requires { place < length design.now.nets }
+        ensures few { OnOk result (length self.new.nets.items ≤ length self.old.nets.items + 1) }
+        ensures tiles { OnOk result (All (HasTiles self.old.tiles.items) self.old.nets.items → All (HasTiles self.new.tiles.items) self.new.nets.items) }
     {
         let tiles = tiles_of_net(alloc, design, place)?;
         if tiles.len() > 1 {

@@ -1,5 +1,10 @@
 //! How full tile edges are.
 
+ghost use Rattle.std.specs.Prelude.{◌≡◌, ◌*◌, ◌<◌, ◌≤◌, ◌↔◌, ◌⊎◌, IfOk, IsTrue, SomeIff, length, map};
+ghost use Rattle.grid_graph.specs.Flat.{tiles};
+ghost use Rattle.grid_graph.specs.Grids as grids;
+ghost use Rattle.tile_graphs.specs.Fullness.{excess_of, fullness_of, is_above, is_filled_to, with_more};
+
 use crate::numbers::tile_edges;
 use grid_base::{Edge, NoMemory};
 use grid_graph::Grid;
@@ -24,7 +29,9 @@ impl TileTotal {
     };
 
     /// With so much more.
-    pub fn with(self, load: u64, capacity: u64) -> TileTotal {
+    pub fn with(self, load: u64, capacity: u64) -> TileTotal
+        ensures { result ≡ with_more self load capacity }
+    {
         TileTotal {
             load: self.load.saturating_add(load),
             capacity: self.capacity.saturating_add(capacity),
@@ -32,28 +39,40 @@ impl TileTotal {
     }
 
     /// Whether there is any capacity.
-    pub fn is_open(self) -> bool {
+    pub fn is_open(self) -> bool
+        ensures { IsTrue result ↔ 0 < self.capacity }
+    {
         self.capacity > 0
     }
 
     /// What is carried beyond the capacity.
-    pub fn excess(self) -> u64 {
+    pub fn excess(self) -> u64
+        ensures { result ≡ excess_of self }
+    {
         self.load.saturating_sub(self.capacity)
     }
 
     /// Whether more is carried than at a level, in parts of `FULL`.
-    pub fn is_fuller(self, level: u64) -> bool {
+    pub fn is_fuller(self, level: u64) -> bool
+        ensures { result ≡ is_above level self }
+    {
         let held = u128::from(self.capacity) * u128::from(level);
         u128::from(self.load) * u128::from(FULL) > held
     }
 
     /// The load by the capacity, in parts of `FULL`, where there is capacity.
-    fn fullness(self) -> Option<u64> {
+    fn fullness(self) -> Option<u64>
+        ensures { SomeIff result (0 < self.capacity) (fullness_of self) }
+    {
         self.load.saturating_mul(FULL).checked_div(self.capacity)
     }
 
     /// The fuller one of two.
-    pub fn fuller(self, other: TileTotal) -> TileTotal {
+    pub fn fuller(self, other: TileTotal) -> TileTotal
+        ensures one { (result ≡ self) ⊎ (result ≡ other) }
+        ensures first { 0 < self.capacity → 0 < other.capacity → fullness_of self ≤ fullness_of result }
+        ensures second { 0 < self.capacity → 0 < other.capacity → fullness_of other ≤ fullness_of result }
+    {
         if other.fullness() > self.fullness() {
             other
         } else {
@@ -74,7 +93,9 @@ pub(crate) fn tile_totals(
     alloc: Global,
     grid: &Grid,
     loads: &[u64],
-) -> Result<Vec<TileTotal>, NoMemory> {
+) -> Result<Vec<TileTotal>, NoMemory>
+    ensures { IfOk result (λ totals. length totals.items ≡ 2 * tiles (grids.size_of grid.now)) }
+{
     let per_layer = tile_edges(grid);
     let mut totals = vec![in alloc; TileTotal::NONE; per_layer as usize]?;
     for e in 0..2 * grid.size().vertices() {
@@ -94,7 +115,9 @@ pub fn marks_by_level(
     alloc: Global,
     totals: &[TileTotal],
     level: u64,
-) -> Result<Vec<bool>, NoMemory> {
+) -> Result<Vec<bool>, NoMemory>
+    ensures { IfOk result (λ marks. marks.items ≡ map (is_filled_to level) totals.now) }
+{
     let mut marks = Vec::new(alloc);
     for total in totals {
         marks.push(total.fullness() >= Some(level))?;
@@ -108,7 +131,9 @@ pub fn marks_by_count(
     uses: &[TileUse],
     count: usize,
     tile_edges: usize,
-) -> Result<Vec<bool>, NoMemory> {
+) -> Result<Vec<bool>, NoMemory>
+    ensures { IfOk result (λ marks. length marks.items ≡ tile_edges) }
+{
     let mut marks = vec![in alloc; false; tile_edges]?;
     for used in uses.iter().take(count) {
         if let Some(mark) = marks.get_mut(used.tile_edge as usize) {

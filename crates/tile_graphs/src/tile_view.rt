@@ -1,5 +1,9 @@
 //! Designs seen from above.
 
+ghost use Rattle.std.specs.Prelude.{◌≡◌, ◌*◌, IfOk, length};
+ghost use Rattle.grid_graph.specs.Flat.{tiles};
+ghost use Rattle.grid_graph.specs.Grids as grids;
+
 use crate::tile_nets::TileNets;
 use crate::tile_use::{TileTotal, tile_totals};
 use grid_base::{NoMemory, Size};
@@ -17,7 +21,10 @@ pub struct TileView {
 
 impl TileView {
     /// The view of a design, and of loads by edge numbers.
-    pub fn of(alloc: Global, design: &Design, loads: &[u64]) -> Result<TileView, NoMemory> {
+    pub fn of(alloc: Global, design: &Design, loads: &[u64]) -> Result<TileView, NoMemory>
+        ensures size { IfOk result (λ view. view.size ≡ grids.size_of design.now.grid) }
+        ensures long { IfOk result (λ view. length view.totals.items ≡ 2 * tiles view.size) }
+    {
         Ok(TileView {
             size: design.grid.size(),
             totals: tile_totals(alloc, &design.grid, loads)?,
@@ -26,7 +33,9 @@ impl TileView {
     }
 
     /// How many tiles there are.
-    pub fn tiles(&self) -> u32 {
+    pub fn tiles(&self) -> u32
+        ensures { result ≡ tiles self.now.size }
+    {
         self.size.cols() * self.size.rows()
     }
 }

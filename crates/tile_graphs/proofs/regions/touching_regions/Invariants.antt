@@ -1,0 +1,7 @@
+use Rattle.std.proofs.Common.{◌≡◌, length}
+use Rattle.grid_graph.specs.Flat.{tiles}
+use Rattle.tile_graphs.proofs.regions.touching_regions.Given as goal
+
+-- there is a number for each tile
+abbrev pub invariant-loop-tile_edge : goal.invariant-loop-tile_edge
+invariant-loop-tile_edge l = length l.touching.groups.parents.items ≡ tiles l.view.size

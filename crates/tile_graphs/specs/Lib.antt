@@ -1,0 +1,5 @@
+pub mod Bundles
+pub mod Fullness
+pub mod Links
+pub mod TileEdges
+pub mod TileNets
