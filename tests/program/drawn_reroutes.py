@@ -14,9 +14,10 @@ that `rt run` left in crates/*/out. Of each design it asks that
   overflow and wirelength.
 
 Designs are drawn with widths from 1 to 4, choked edges and nets that are forced over them, one layer, one row, nets of many pins,
-and 16 layers. It prints a line for each design that fails, then how the processor time for each piece of wirelength is spread, apart
-for designs that end without overflow and for the others, of which most go through dozens of rounds. It fails where one design
-failed."""
+and 16 layers. It prints a line for each design that fails, then how the processor time is spread: for each piece of wirelength,
+apart for designs that end without overflow and for the others; and for each piece in each turn, since a run goes through the nets
+once for their first sets, in up to 60 rounds and in up to ten passes. Of each it prints the mean and the greatest by kind of
+design and over all, and whether none is above twice the mean. It fails where one design failed."""
 
 import os
 import random
@@ -29,6 +30,8 @@ TOP = os.path.dirname(os.path.dirname(os.path.dirname(os.path.abspath(__file__))
 KINDS = ["plain", "widths", "choked", "one_layer", "one_row", "many_pins", "layers"]
 # a design with fewer pieces says nothing of the time for each
 FEWEST_PIECES = 1000
+# the turns of a run beside its rounds: the first sets, and the most passes of descent
+OTHER_TURNS = 11
 
 
 class Design:
@@ -166,7 +169,7 @@ def totals(report):
 
 def try_design(design, room, reroute, grouter):
     """Tries one design. Answers the overflow and the wirelength of the run from none, its processor seconds, the lesser of two
-    runs, and how many nets are forced."""
+    runs, its rounds, and how many nets are forced."""
     here = lambda name: os.path.join(room, name)
     with open(here("in.gr"), "w", encoding="ascii") as file:
         file.write(design.text())
@@ -194,16 +197,22 @@ def try_design(design, room, reroute, grouter):
         os.remove(here(name))
     _, once_more = run(reroute, here("in.gr"), here("new"))
     os.remove(here("new"))
-    return counted, min(seconds, once_more), int(report["forced"][0])
+    return counted, min(seconds, once_more), int(report["rounds"][0]), int(report["forced"][0])
 
 
 def print_rates(name, rates):
-    """Says how the microseconds for each piece are spread over some designs."""
-    if rates:
-        mean = sum(rate for rate, _, _ in rates) / len(rates)
-        slowest = ", ".join(f"{rate:.2f} ({number}, {kind})" for rate, number, kind in sorted(rates, reverse=True)[:5])
-        print(f"microseconds for each piece, of {len(rates)} designs {name} with {FEWEST_PIECES} pieces and more: mean {mean:.2f}; "
-              f"slowest {slowest}")
+    """Says how a rate is spread over some designs, by kind and over all, and whether none is above twice the mean."""
+    if not rates:
+        return
+    mean = sum(rate for rate, _, _ in rates) / len(rates)
+    print(f"{name}, of designs with {FEWEST_PIECES} pieces and more:")
+    for kind in [*KINDS, "all"]:
+        found = [rate for rate, _, of in rates if kind in (of, "all")]
+        if found:
+            print(f"  {kind:10} {len(found):4} designs, mean {sum(found) / len(found):8.3f}, greatest {max(found):8.3f}")
+    above = sorted(((rate, number, kind) for rate, number, kind in rates if rate > 2 * mean), reverse=True)
+    slowest = ", ".join(f"{rate:.2f} ({number}, {kind})" for rate, number, kind in above[:5])
+    print("  none is above twice the mean over all" if not above else f"  {len(above)} are above twice the mean over all: {slowest}")
 
 
 def built(name):
@@ -211,13 +220,13 @@ def built(name):
 
 
 def main(count=200, seed=1, reroute=built("reroute"), grouter=built("grouter")):
-    failed, forced, fitting, overfull = 0, 0, [], []
+    failed, forced, fitting, overfull, turns = 0, 0, [], [], []
     with tempfile.TemporaryDirectory() as room:
         for number in range(int(count)):
             kind = KINDS[number % len(KINDS)]
             design = Design(kind, random.Random(f"{seed} {number}"))
             try:
-                (overflow, pieces), seconds, over = try_design(design, room, reroute, grouter)
+                (overflow, pieces), seconds, rounds, over = try_design(design, room, reroute, grouter)
             except AssertionError as fault:
                 failed += 1
                 print(f"FAILED: design {number}, {kind}: {fault}")
@@ -226,10 +235,13 @@ def main(count=200, seed=1, reroute=built("reroute"), grouter=built("grouter")):
                 continue
             forced += over
             if pieces >= FEWEST_PIECES:
-                (overfull if overflow else fitting).append((1e6 * seconds / pieces, number, kind))
+                rate = 1e6 * seconds / pieces
+                (overfull if overflow else fitting).append((rate, number, kind))
+                turns.append((rate / (rounds + OTHER_TURNS), number, kind))
     print(f"{int(count) - failed} designs passed, {failed} failed; {forced} nets were forced")
-    print_rates("without overflow", fitting)
-    print_rates("with overflow", overfull)
+    print_rates("microseconds for each piece, without overflow", fitting)
+    print_rates("microseconds for each piece, with overflow", overfull)
+    print_rates("microseconds for each piece in each turn", turns)
     return 1 if failed else 0
 
 
