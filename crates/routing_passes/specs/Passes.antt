@@ -21,6 +21,7 @@ use Rattle.price_workers.specs.declared.worker.Worker.{Worker}
 use Rattle.price_workers.specs.Workers.{held_share, party_of, trees_of, seen_loads, is_refreshed, nets_since}
 use Rattle.sharing_runs.specs.Parts.{part_start}
 use Rattle.sharing_runs.specs.RepairRuns.{at_positions}
+use Rattle.routing_passes.specs.declared.pass_input.PassInput.{PassInput}
 use Rattle.routing_passes.specs.declared.plan.Plan.{Plan}
 
 -- a pass: the design and each net's ground, the table of the loads, the sets of the nets that stay, list after list, the sets
@@ -50,6 +51,10 @@ pass_of design grounds table earlier before plan = record {
   workers = plan.workers;
   budget = plan.budget;
 }
+
+-- the pass of what its calls are lent
+abbrev pub pass_in : PassInput → Pass
+pass_in i = pass_of i.design.now i.grounds.now i.table.now i.earlier.now i.before.now i.plan.now
 
 -- the nets that get new sets, and the sets that they had
 abbrev pub pass_nets : Pass → List NetSpec
@@ -124,6 +129,10 @@ pub record ServesTurns (p : Pass) (first last : ℕ) (share : Holding) : Type 0 
   pub loads : (r : ℕ) → r < entries p.design.grid
       → turns_load p (turns_start p first) (turns_start p last) r ≤ share_at r share.party
   pub few : (r : ℕ) → share_at r share.party ≤ max_earlier_load
+
+-- the workers from one up to another may have their turns in a pass, with this share
+abbrev pub MayTakeTurns : Pass → ℕ → ℕ → Holding → Type 0
+MayTakeTurns p first last share = IsPass p × ((first < last) × (last ≤ p.workers)) × ServesTurns p first last share
 
 -- a share was split in two: each word is divided, the whole history stays with the first
 pub record AreSplit (old kept other : Holding) : Type 0 where

@@ -24,6 +24,7 @@
 mod loads;
 mod old_sets;
 mod part;
+mod pass_input;
 mod plan;
 mod workers;
 

@@ -2,16 +2,16 @@
 
 ghost use Rattle.std.specs.Prelude.{◌≡◌, ◌+◌, ◌<◌, true, false, length, IfOk};
 ghost use Rattle.price_workers.specs.Workers.{WorksOn, KeepsWork, IsUnchanged};
-ghost use Rattle.routing_passes.specs.Passes.{pass_of, HasRead, IsPass, ServesTurns};
+ghost use Rattle.routing_passes.specs.Passes.{pass_in, HasRead, IsPass, ServesTurns};
 ghost use Rattle.routing_passes.specs.PassTurns.{HadTurns};
 
 use crate::old_sets::copies;
-use crate::plan::Plan;
+use crate::pass_input::PassInput;
 use grid_base::NoMemory;
-use grid_graph::{Design, Ground};
+use grid_graph::Design;
 use load_table::{LoadTable, Share};
 use price_workers::Worker;
-use routing_stages::{Gate, Trees};
+use routing_stages::Gate;
 use tree_set::Tree;
 
 /// So many nets a worker routes at most between two readings of the table: a reading costs a load of each word.
@@ -19,23 +19,24 @@ const NETS_PER_READING: usize = 32;
 
 /// The nets of a worker's part get their new sets, one after another.
 pub(crate) fn route_part<G: Gate>(
-    design: &Design,
-    grounds: &[Ground],
-    table: &LoadTable,
-    earlier: &[Trees],
-    before: &[Tree],
-    plan: &Plan,
+    input: PassInput<'_>,
     gate: &G,
     share: Share,
     worker: u32,
 ) -> Result<(Share, Vec<Tree>), NoMemory>
-    requires pass { IsPass (pass_of design.now grounds.now table.now earlier.now before.now plan.now) }
-    requires worker { worker < plan.now.workers }
-    requires share { ServesTurns (pass_of design.now grounds.now table.now earlier.now before.now plan.now)
-        worker (worker + 1) share }
-    ensures turns { IfOk result (λ r. HadTurns (pass_of design.now grounds.now table.now earlier.now before.now plan.now)
-        worker (worker + 1) share r.0 r.1.items) }
+    requires pass { IsPass (pass_in input) }
+    requires worker { worker < input.plan.now.workers }
+    requires share { ServesTurns (pass_in input) worker (worker + 1) share }
+    ensures turns { IfOk result (λ r. HadTurns (pass_in input.entry) worker (worker + 1) share r.0 r.1.items) }
 {
+    let PassInput {
+        design,
+        grounds,
+        table,
+        before,
+        plan,
+        ..
+    } = input;
     let alloc = *plan.positions.allocator();
     let positions = plan.positions.as_slice();
     let (from, to) = plan.turns_of(worker, worker + 1);

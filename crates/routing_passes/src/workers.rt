@@ -2,11 +2,12 @@
 
 ghost use Rattle.std.specs.Prelude.{◌≡◌, ◌+◌, ◌≤◌, ◌<◌, IfOk};
 ghost use Rattle.std.specs.Thread.{IsSync};
-ghost use Rattle.routing_passes.specs.Passes.{pass_of, AreHalves, IsPass, ServesTurns};
+ghost use Rattle.routing_passes.specs.Passes.{pass_in, pass_of, AreHalves, IsPass, MayTakeTurns, ServesTurns};
 ghost use Rattle.routing_passes.specs.PassTurns.{HadTurns};
 
 use crate::loads::loads_of;
 use crate::part::route_part;
+use crate::pass_input::PassInput;
 use crate::plan::Plan;
 use grid_base::NoMemory;
 use grid_graph::{Design, Ground};
@@ -40,21 +41,24 @@ pub fn route_parts<R: Threads + Sync, G: Gate>(
     ensures turns { IfOk result (λ r. HadTurns (pass_of design.now grounds.now table.now earlier.now before.now plan.now)
         first last share r.0 r.1.items) }
 {
+    let input = PassInput {
+        design,
+        grounds,
+        table,
+        earlier,
+        before,
+        plan,
+    };
     if last - first == 1 {
-        return route_part(
-            design, grounds, table, earlier, before, plan, gate, share, first,
-        );
+        return route_part(input, gate, share, first);
     }
     let middle = first + (last - first) / 2;
-    let given = split_for(
-        design, grounds, table, earlier, before, plan, &mut share, first, middle, last,
-    )?;
+    let given = split_for(input, &mut share, first, middle, last)?;
     let (left, right) = join(
         rt,
         move || -> Result<(Share, Vec<Tree>), NoMemory>
-            requires { IsSync R.row × IsPass (pass_of design.now grounds.now table.now earlier.now before.now plan.now)
-                × ((first < middle) × (middle ≤ plan.now.workers))
-                × ServesTurns (pass_of design.now grounds.now table.now earlier.now before.now plan.now) first middle share }
+            requires { IsSync R.row × MayTakeTurns (pass_of design.now grounds.now table.now earlier.now before.now plan.now)
+                first middle share }
             ensures { IfOk result (λ r. HadTurns (pass_of design.entry.now grounds.entry.now table.entry.now
                 earlier.entry.now before.entry.now plan.entry.now) first middle share r.0 r.1.items) }
         {
@@ -63,9 +67,8 @@ pub fn route_parts<R: Threads + Sync, G: Gate>(
             )
         },
         move || -> Result<(Share, Vec<Tree>), NoMemory>
-            requires { IsSync R.row × IsPass (pass_of design.now grounds.now table.now earlier.now before.now plan.now)
-                × ((middle < last) × (last ≤ plan.now.workers))
-                × ServesTurns (pass_of design.now grounds.now table.now earlier.now before.now plan.now) middle last given }
+            requires { IsSync R.row × MayTakeTurns (pass_of design.now grounds.now table.now earlier.now before.now plan.now)
+                middle last given }
             ensures { IfOk result (λ r. HadTurns (pass_of design.entry.now grounds.entry.now table.entry.now
                 earlier.entry.now before.entry.now plan.entry.now) middle last given r.0 r.1.items) }
         {
@@ -83,35 +86,30 @@ pub fn route_parts<R: Threads + Sync, G: Gate>(
 
 /// Splits off a share for the workers from the middle one on: it has the load of all sets of their nets.
 fn split_for(
-    design: &Design,
-    grounds: &[Ground],
-    table: &LoadTable,
-    earlier: &[Trees],
-    before: &[Tree],
-    plan: &Plan,
+    input: PassInput<'_>,
     share: &mut Share,
     first: u32,
     middle: u32,
     last: u32,
 ) -> Result<Share, NoMemory>
-    requires pass { IsPass (pass_of design.now grounds.now table.now earlier.now before.now plan.now) }
-    requires range { (first < middle) × (middle < last) × (last ≤ plan.now.workers) }
-    requires share { ServesTurns (pass_of design.now grounds.now table.now earlier.now before.now plan.now) first last share.old }
-    ensures halves { IfOk result (λ other. AreHalves (pass_of design.now grounds.now table.now earlier.now before.now plan.now)
-        first middle last share.old share.new other) }
+    requires pass { IsPass (pass_in input) }
+    requires range { (first < middle) × (middle < last) × (last ≤ input.plan.now.workers) }
+    requires share { ServesTurns (pass_in input) first last share.old }
+    ensures halves { IfOk result (λ other. AreHalves (pass_in input.entry) first middle last share.old share.new other) }
 {
+    let plan = input.plan;
     let positions = plan.positions.as_slice();
     let (from, to) = plan.turns_of(middle, last);
     let given = loads_of(
         *plan.positions.allocator(),
-        design,
-        earlier,
-        before,
+        input.design,
+        input.earlier,
+        input.before,
         positions,
         from,
         to,
     )?;
     let allotment = u64::from(last - middle) * LEAST_ALLOTMENT;
-    let other = share.split(table, allotment, &given)?;
+    let other = share.split(input.table, allotment, &given)?;
     Ok(other)
 }

@@ -1,6 +1,6 @@
 use Rattle.std.proofs.Common.{◌≡◌, ◌+◌, ◌-◌, get_or, ◌∙◌, arith}
 use Rattle.std.proofs.lemmas.Option.{slice_get_within}
-use Rattle.routing_passes.specs.Passes.{pass_of, turns_start}
+use Rattle.routing_passes.specs.Passes.{pass_in, turns_start}
 use Rattle.routing_passes.proofs.PartSteps.{IsReady, ready, turns_begin}
 use Rattle.routing_passes.proofs.WorkerSteps.{begins_turns, ends_turns, reprice_in_part}
 use Rattle.routing_passes.proofs.part.route_part.Goals as goal
@@ -15,9 +15,8 @@ loop-turn-init g c =
     c.in-Ok.ensures.budget)
 
 -- the worker's next turn is due
-due : (g : _) (c : After-read_if g) → IsReady (pass_of c.args.design.now c.args.grounds.now c.args.table.now c.args.earlier.now
-    c.args.before.now c.args.plan.now) c.args.worker c.args.share c.loop-turn.turn c.turns_of-from.result.0
-    (get_or c.as_slice-positions.result.now c.loop-turn.turn 0) c.read_if.new.worker
+due : (g : _) (c : After-read_if g) → IsReady (pass_in c.args.input) c.args.worker c.args.share c.loop-turn.turn
+    c.turns_of-from.result.0 (get_or c.as_slice-positions.result.now c.loop-turn.turn 0) c.read_if.new.worker
 due g c =
     ready c.requires.pass c.requires.worker c.requires.share c.as_slice-positions.ensures.value
     (turns_begin c.args.worker c.requires.pass c.turns_of-from.ensures.from)
@@ -50,10 +49,9 @@ loop-turn-preserved g c =
 
 pub returns : goal.returns
 returns g c =
-    let p = pass_of c.args.design.now c.args.grounds.now c.args.table.now c.args.earlier.now c.args.before.now c.args.plan.now in
     let start = turns_begin c.args.worker c.requires.pass c.turns_of-from.ensures.from in
     let end = turns_begin (c.args.worker + 1) c.requires.pass c.turns_of-from.ensures.to in
-    let last : c.loop-turn.turn ≡ turns_start p (c.args.worker + 1) =
+    let last : c.loop-turn.turn ≡ turns_start (pass_in c.args.input) (c.args.worker + 1) =
     omega (arith, c.loop-turn-test.false, c.loop-turn.auto.turn-end, end, c.turns_of-from.ensures.within.0) in
     rw (c.finish.ensures.share, c.finish.ensures.trees)
     (record { turns = ends_turns c.requires.share.table (rw last at c.loop-turn.invariant) })

@@ -1,12 +1,11 @@
-use Rattle.routing_passes.specs.Passes.{pass_of}
+use Rattle.routing_passes.specs.Passes.{pass_in}
 use Rattle.routing_passes.proofs.PartSteps.{turns_begin}
 use Rattle.routing_passes.proofs.PassSplits.{IsGiven, halves_served, may_be_given}
 use Rattle.routing_passes.proofs.workers.split_for.Goals as goal
 use Rattle.routing_passes.proofs.workers.split_for.Goals.{In_ok-given}
 
 -- what was worked out is the load in the parts from the middle worker on
-given : (c : In_ok-given) → IsGiven (pass_of c.args.design.now c.args.grounds.now c.args.table.now c.args.earlier.now
-    c.args.before.now c.args.plan.now) c.args.middle c.args.last c.in_ok-given.given.items
+given : (c : In_ok-given) → IsGiven (pass_in c.args.input) c.args.middle c.args.last c.in_ok-given.given.items
 given c =
     let start = turns_begin c.args.middle c.requires.pass c.turns_of-from.ensures.from in
     let end = turns_begin c.args.last c.requires.pass c.turns_of-from.ensures.to in
