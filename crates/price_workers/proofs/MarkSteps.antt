@@ -1,6 +1,6 @@
 -- Marks, piece by piece.
 use Rattle.std.proofs.Common.{◌≡◌, ℕ, ◌+◌, ◌/◌, ◌<◌, ◌≤◌, List, length, get_or, take, slice_index, slice_set, refl, sym, ◌∙◌, ap, subst}
-use Rattle.std.proofs.Common.{⊎_elim, arith, eq-eqb, ne_eqb, replicate}
+use Rattle.std.proofs.Common.{⊎_elim, arith, ne_eqb, replicate}
 use Rattle.std.proofs.lemmas.List.{get_or-replicate, length-replicate}
 use Rattle.price_workers.proofs.Common.{get_or-set_same, get_or-set_other, length-set, take_all, cases_eq, Piece, Grid, net_load}
 use Rattle.price_workers.proofs.Common.{entries_per_mark, mark_for, MarksChanges, MarksEdges, MarksTree, entries, edge_numbers, tree_load}

@@ -1,7 +1,7 @@
 -- A reading, word by word.
-use Rattle.std.proofs.Common.{◌≡◌, ℕ, ◌+◌, ◌<◌, ◌≤◌, List, [], ◌∷◌, ◌++◌, length, map, slice_index, slice_set, refl, sym, ◌∙◌, ap}
+use Rattle.std.proofs.Common.{◌≡◌, ℕ, ◌+◌, ◌<◌, ◌≤◌, List, [], ◌∷◌, ◌++◌, length, slice_index, slice_set, refl, sym, ◌∙◌, ap}
 use Rattle.std.proofs.Common.{subst, ⊎_elim, arith, below_more}
-use Rattle.price_workers.proofs.Common.{range_with_len, cases_lt, get_or-set_same, get_or-set_other, get_or_past, ext_get_or}
+use Rattle.price_workers.proofs.Common.{cases_lt, get_or-set_same, get_or-set_other, get_or_past, ext_get_or}
 use Rattle.price_workers.proofs.Common.{append-nil, append_assoc, fill_by_all, get_or-map-range_with_len}
 use Rattle.price_workers.proofs.Common.{length-map-range_with_len, map-range_with_len_more, Party, entry, loaded, share_at}
 use Rattle.price_workers.proofs.Common.{after_reading, AreCloseTo, IsReadUpTo, first_loads}

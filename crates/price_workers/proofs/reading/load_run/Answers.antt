@@ -1,5 +1,5 @@
 use Rattle.std.proofs.Common.{◌≡◌, ◌≤◌, ◌<◌, ℕ, length, sym, ◌∙◌, ap, subst, arith, below_more, slice_index}
-use Rattle.price_workers.proofs.Common.{length-set, get_or-set_other, loads_of, loaded, Holding, IsShare, held, KeepsSetting-trans}
+use Rattle.price_workers.proofs.Common.{length-set, get_or-set_other, loaded, Holding, IsShare, held, KeepsSetting-trans}
 use Rattle.grid_graph.specs.Limits.{max_load}
 use Rattle.price_workers.proofs.ReadSteps.{load_one_more}
 use Rattle.price_workers.proofs.reading.load_run.Goals as goal

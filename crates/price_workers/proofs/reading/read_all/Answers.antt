@@ -1,6 +1,6 @@
-use Rattle.std.proofs.Common.{◌≡◌, ◌≤◌, ◌<◌, ℕ, List, length, refl, slice_index, sym, ◌∙◌, ap, subst, ⊎_elim, arith}
-use Rattle.price_workers.proofs.Common.{cases_lt, ext_get_or, TableId, Size, size_of, entries, grid_of, loads_of, Holding, IsShare, held}
-use Rattle.price_workers.proofs.Common.{KeepsSetting-trans, MarksChanges, IsReadUpTo, after_reading, AreCloseTo}
+use Rattle.std.proofs.Common.{◌≡◌, ◌≤◌, ◌<◌, ℕ, List, length, refl, sym, ◌∙◌, ap, subst, ⊎_elim, arith}
+use Rattle.price_workers.proofs.Common.{cases_lt, ext_get_or, TableId, Size, size_of, entries, loads_of, held}
+use Rattle.price_workers.proofs.Common.{KeepsSetting-trans, IsReadUpTo, after_reading}
 use Rattle.grid_base.specs.Numbers.{vertices}
 use Rattle.price_workers.proofs.ReadSteps.{IsReadUpTo-none, after_all_words, close_to_all}
 use Rattle.price_workers.proofs.TurnFacts.{kept_long, same_share}

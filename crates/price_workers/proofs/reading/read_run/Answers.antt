@@ -1,5 +1,5 @@
-use Rattle.std.proofs.Common.{◌≡◌, ◌≤◌, ◌<◌, ℕ, sym, ◌∙◌, ap, arith}
-use Rattle.price_workers.proofs.Common.{KeepsSetting-trans, entries_per_mark, grid_of, size_of}
+use Rattle.std.proofs.Common.{arith}
+use Rattle.price_workers.proofs.Common.{grid_of, size_of}
 use Rattle.price_workers.proofs.reading.read_run.Goals as goal
 
 pub next_after-requires : goal.next_after-requires

@@ -1,5 +1,5 @@
-use Rattle.std.proofs.Common.{◌≡◌, ◌/◌, ◌≤◌, ◌<◌, ℕ, List, slice_index, refl, sym, ◌∙◌, ap, arith}
-use Rattle.price_workers.proofs.Common.{entries_per_mark, mark_for, loads_of}
+use Rattle.std.proofs.Common.{◌≡◌, ◌/◌, ℕ, List, slice_index, refl, ◌∙◌, ap, arith}
+use Rattle.price_workers.proofs.Common.{entries_per_mark}
 use Rattle.price_workers.proofs.reading.settle_run.Goals as goal
 
 -- a word with an unset mark is kept as it was found last
