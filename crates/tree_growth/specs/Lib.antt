@@ -1,1 +1,2 @@
 pub mod Growns
+pub mod Nearest

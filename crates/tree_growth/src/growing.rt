@@ -1,6 +1,6 @@
 //! How a set grows from terminal to terminal.
 
-ghost use Rattle.std.specs.Prelude.{◌≡◌, IfOk, All};
+ghost use Rattle.std.specs.Prelude.{◌≡◌, [], IfOk, All};
 ghost use Rattle.grid_base.specs.Numbers.{IsVertex};
 ghost use Rattle.grid_graph.specs.Grids.{size_of};
 ghost use Rattle.net_search.specs.Plans.{size_of_plan};
@@ -30,7 +30,10 @@ pub(crate) struct Growing {
 
 impl Growing {
     /// The tables for growths on this grid.
-    pub(crate) fn new(alloc: Global, grid: &Grid) -> Result<Growing, NoMemory> {
+    pub(crate) fn new(alloc: Global, grid: &Grid) -> Result<Growing, NoMemory>
+        ensures joined { IfOk result (λ growing. growing.joined.items ≡ []) }
+        ensures left { IfOk result (λ growing. growing.left.items ≡ []) }
+    {
         Ok(Growing {
             search: NetSearch::new(alloc, grid)?,
             joined: Vec::new(alloc),

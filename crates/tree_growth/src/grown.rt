@@ -23,6 +23,7 @@ pub(crate) struct Grown {
 
 impl Grown {
     ghost use Rattle.std.specs.Prelude.{◌≡◌, ◌<◌, ◌+◌, ◌^◌, ◌↔◌, ℕ, [], All, IfOk, IfSome, IsTrue};
+    ghost use Rattle.std.specs.Vec.{vec_allocator};
     ghost use Rattle.grid_base.specs.Numbers.{IsVertex, Connects};
     ghost use Rattle.grid_base.specs.Walks.{JoinsList};
     ghost use Rattle.grid_graph.specs.Grids.{size_of, Allows};
@@ -65,7 +66,9 @@ impl Grown {
     }
 
     /// The allocator of the lists.
-    pub(crate) fn allocator(&self) -> Global {
+    pub(crate) fn allocator(&self) -> Global
+        ensures { result ≡ vec_allocator self.now.marks }
+    {
         *self.marks.allocator()
     }
 

@@ -1,11 +1,16 @@
 //! The order of targets.
 
-ghost use Rattle.std.specs.Prelude.{◌<◌, length};
+ghost use Rattle.std.specs.Prelude.{◌<◌, ◌≤◌, length};
+ghost use Rattle.std.specs.List.Sorted.{IsPermutation};
+ghost use Rattle.tree_growth.specs.Nearest.{AreNearestFirst, IsNearestFrom};
 
 use net_search::{Site, Target};
 
 /// Brings this many of the nearest targets to the front.
-pub(crate) fn bring_nearest(left: &mut [Target], count: usize) {
+pub(crate) fn bring_nearest(left: &mut [Target], count: usize)
+    ensures same { IsPermutation left.old left.new }
+    ensures nearest { AreNearestFirst left.new count }
+{
     for place in 0..count.min(left.len()) {
         let nearest = nearest_from(left, place);
         left.swap(place, nearest);
@@ -15,7 +20,9 @@ pub(crate) fn bring_nearest(left: &mut [Target], count: usize) {
 /// The place of the nearest target, from this place on.
 fn nearest_from(left: &[Target], place: usize) -> usize
     requires { place < length left.now }
-    ensures { result < length left.now }
+    ensures within { result < length left.now }
+    ensures from { place ≤ result }
+    ensures nearest { IsNearestFrom left.now place result }
 {
     let mut nearest = place;
     for at in place..left.len() {
