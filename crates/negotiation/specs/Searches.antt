@@ -8,6 +8,7 @@ use Rattle.grid_graph.specs.declared.net_spec.NetSpec.{NetSpec}
 use Rattle.grid_graph.specs.Grids.{edge_numbers}
 use Rattle.grid_graph.specs.Grounds.{AreGrounds}
 use Rattle.tree_set.specs.Routings.{IsRoute}
+use Rattle.negotiation.specs.declared.finding.Finding.{Finding}
 use Rattle.negotiation.specs.declared.sight.Sight.{Sight}
 
 -- a ground, a set and a margin for each net, and a room and a price for each edge number
@@ -29,3 +30,11 @@ IsFoundFor d k found = (n : NetSpec) → At d.nets k n → IfSome found (IsRoute
 -- one finding for each of these nets, in their order
 abbrev pub AreFound : Design → List ℕ → List (Option (List Piece)) → Type 0
 AreFound d nets found = AllZip (IsFoundFor d) nets found
+
+-- it names a place of one of these nets, and what is found for that net
+pub record IsFinding (d : Design) (nets : List ℕ) (f : Finding) : Type 0 where
+  pub place : f.place < length nets
+  pub found : (k : ℕ) → At nets f.place k → IsFoundFor d k f.found
+
+abbrev pub AreFindings : Design → List ℕ → List Finding → Type 0
+AreFindings d nets findings = All (IsFinding d nets) findings

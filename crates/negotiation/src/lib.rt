@@ -25,6 +25,8 @@ mod drawn;
 mod due;
 mod extent;
 mod extents;
+mod finding;
+mod gathering;
 mod lowest_layers;
 mod negotiating;
 mod order;

@@ -2,11 +2,14 @@
 
 ghost use Rattle.std.specs.Prelude.{◌<◌, IfOk, length};
 ghost use Rattle.std.specs.Thread.{IsSync};
-ghost use Rattle.negotiation.specs.Searches.{AreFound, ArePlaces, IsSight};
+ghost use Rattle.negotiation.specs.Searches.{AreFindings, AreFound, ArePlaces, IsSight};
 
+use crate::finding::Finding;
+use crate::gathering::in_order;
 use crate::sight::Sight;
 use grid_base::NoMemory;
 use std::alloc::Global;
+use std::sync::atomic::{AtomicUsize, Ordering};
 use std::thread::{Threads, join};
 use tree_growth::Growth;
 use tree_set::Tree;
@@ -32,8 +35,8 @@ fn search_in_turn(
     Ok(found)
 }
 
-/// The same by as many workers as there are growths, each of which searches for some nets that follow one another and are about as
-/// much work as those of the others. What is found doesn't depend on how many there are.
+/// The same by as many workers as there are growths, as far as there is work for them. Each takes the next net when it is done with
+/// one, since some searches take much longer than most. What is found doesn't depend on who takes which net, nor on how many there are.
 pub(crate) fn search_batch<R: Threads + Sync>(
     rt: &R,
     alloc: Global,
@@ -46,26 +49,72 @@ pub(crate) fn search_batch<R: Threads + Sync>(
     requires workers { 0 < length growths.old }
     ensures found { IfOk result (λ found. AreFound sight.entry.design.now nets.now found.items) }
 {
-    let work = sight.work_on(nets);
-    if growths.len() == 1 || nets.len() == 1 || work < 2 * LEAST_RUN {
+    let most = nets.len().min(growths.len());
+    let workers = (most as u64).min(sight.work_on(nets) / LEAST_RUN) as usize;
+    if workers < 2 {
         return search_in_turn(alloc, sight, nets, &mut growths[0]);
     }
+    let turns = AtomicUsize::new(0);
+    let (busy, _) = growths.split_at_mut(workers);
+    let findings = search_side_by_side(rt, alloc, sight, nets, &turns, busy)?;
+    in_order(alloc, sight, nets, findings, &mut busy[0])
+}
+
+/// Workers, one for each growth, that search for nets until none is left. Which place is the next one, `turns` says.
+fn search_side_by_side<R: Threads + Sync>(
+    rt: &R,
+    alloc: Global,
+    sight: Sight<'_>,
+    nets: &[u32],
+    turns: &AtomicUsize,
+    growths: &mut [Growth],
+) -> Result<Vec<Finding>, NoMemory>
+    requires sight { IsSight sight }
+    requires nets { ArePlaces sight.design.now nets.now }
+    requires workers { 0 < length growths.old }
+    ensures findings { IfOk result (λ findings. AreFindings sight.entry.design.now nets.now findings.items) }
+{
+    if growths.len() == 1 {
+        return search_by_turns(alloc, sight, nets, turns, &mut growths[0]);
+    }
     let (few, more) = growths.split_at_mut(growths.len() / 2);
-    let half = sight.first_with(nets, work / 2);
-    let (front, back) = nets.split_at(half);
     let (left, right) = join(
         rt,
-        move || -> Result<Vec<Option<Tree>>, NoMemory>
-            requires { IsSync R.row × IsSight sight × ArePlaces sight.design.now front.now × (0 < length few.now) }
-            ensures { IfOk result (λ found. AreFound sight.entry.design.now front.entry.now found.items) }
-        { search_batch(rt, alloc, sight, front, few) },
-        move || -> Result<Vec<Option<Tree>>, NoMemory>
-            requires { IsSync R.row × IsSight sight × ArePlaces sight.design.now back.now × (0 < length more.now) }
-            ensures { IfOk result (λ found. AreFound sight.entry.design.now back.entry.now found.items) }
-        { search_batch(rt, alloc, sight, back, more) },
+        move || -> Result<Vec<Finding>, NoMemory>
+            requires { IsSync R.row × IsSight sight × ArePlaces sight.design.now nets.now × (0 < length few.now) }
+            ensures { IfOk result (λ findings. AreFindings sight.entry.design.now nets.entry.now findings.items) }
+        { search_side_by_side(rt, alloc, sight, nets, turns, few) },
+        move || -> Result<Vec<Finding>, NoMemory>
+            requires { IsSync R.row × IsSight sight × ArePlaces sight.design.now nets.now × (0 < length more.now) }
+            ensures { IfOk result (λ findings. AreFindings sight.entry.design.now nets.entry.now findings.items) }
+        { search_side_by_side(rt, alloc, sight, nets, turns, more) },
     );
-    let mut found = left?;
-    let mut behind = right?;
-    found.append(&mut behind)?;
-    Ok(found)
+    let mut findings = left?;
+    let mut others = right?;
+    findings.append(&mut others)?;
+    Ok(findings)
+}
+
+/// One worker, which takes the next net as long as there is one.
+fn search_by_turns(
+    alloc: Global,
+    sight: Sight<'_>,
+    nets: &[u32],
+    turns: &AtomicUsize,
+    growth: &mut Growth,
+) -> Result<Vec<Finding>, NoMemory>
+    requires sight { IsSight sight }
+    requires nets { ArePlaces sight.design.now nets.now }
+    ensures findings { IfOk result (λ findings. AreFindings sight.entry.design.now nets.now findings.items) }
+{
+    let mut findings = Vec::new(alloc);
+    for _ in 0..nets.len() {
+        let place = turns.fetch_add(1, Ordering::SeqCst);
+        if place >= nets.len() {
+            return Ok(findings);
+        }
+        let found = sight.search(nets[place], growth)?;
+        findings.push(Finding { place, found })?;
+    }
+    Ok(findings)
 }

@@ -22,7 +22,7 @@ pub(crate) struct Sight<'a> {
 const WORK_ON_NET: u64 = 8;
 
 impl Sight<'_> {
-    ghost use Rattle.std.specs.Prelude.{◌<◌, ◌≤◌, IfOk, length};
+    ghost use Rattle.std.specs.Prelude.{◌<◌, IfOk, length};
     ghost use Rattle.negotiation.specs.Searches.{ArePlaces, IsFoundFor, IsSight};
 
     /// A new set for the net at this place, where one is found. After the start the very set that the net has counts as none:
@@ -49,22 +49,6 @@ impl Sight<'_> {
             work = work.saturating_add(self.work_on_net(*net));
         }
         work
-    }
-
-    /// How many of these nets, from the first on, are so much work together, or a little more.
-    pub fn first_with(&self, nets: &[u32], work: u64) -> usize
-        requires sight { IsSight self.now }
-        requires nets { ArePlaces self.now.design.now nets.now }
-        ensures { result ≤ length nets.now }
-    {
-        let mut done: u64 = 0;
-        for at in 0..nets.len() {
-            if done >= work {
-                return at;
-            }
-            done = done.saturating_add(self.work_on_net(nets[at]));
-        }
-        nets.len()
     }
 
     /// How much work it is to search for a net.
