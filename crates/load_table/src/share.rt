@@ -1,6 +1,6 @@
 //! A share of a table.
 
-ghost use Rattle.std.specs.Prelude.{◌≡◌, ◌<◌, ◌≤◌, ◌+◌, [], replicate, slice_index, true, IfOk, OnErr};
+ghost use Rattle.std.specs.Prelude.{◌≡◌, ◌<◌, ◌≤◌, ◌+◌, [], replicate, slice_index, true, false, IfOk, OnErr};
 ghost use Rattle.load_core.specs.Events.{MayAdd, MayLoad, MaySub};
 ghost use Rattle.load_core.specs.Parties.{IsPart, added, first_party, joined, kept_after_split, loaded, share_at, split_off, taken, whole_allotment};
 ghost use Rattle.load_core.specs.Soundness.{IsCloseTo};
@@ -115,6 +115,26 @@ impl Share {
         let found = steps::load(&table.table.shared, &mut self.seat, word as usize);
         self.last[word as usize] = found;
         found
+    }
+
+    /// Loads a word as `load` does, and answers whether it found another value than the last load of the word. What was
+    /// found is the last value of the word from then on. Where most words are as they were, this writes little memory.
+    pub fn reload(&mut self, table: &LoadTable, word: u32) -> bool
+        requires table { self.old.table ≡ table.now }
+        requires word { word < table.now.words }
+        ensures close { IsCloseTo self.old.party word (slice_index self.new.party.last word) }
+        ensures whole { slice_index self.new.party.last word ≤ whole_allotment }
+        ensures same { result ≡ false → slice_index self.new.party.last word ≡ slice_index self.old.party.last word }
+        ensures lawful { MayLoad table.now.words self.old.party word }
+        ensures event { self.new ≡ held self.old.table (loaded self.old.party word (slice_index self.new.party.last word)) }
+        ensures share { IsShare self.new }
+    {
+        let now = steps::load(&table.table.shared, &mut self.seat, word as usize);
+        if self.last[word as usize] == now {
+            return false;
+        }
+        self.last[word as usize] = now;
+        true
     }
 
     /// Splits off a new share with this allotment and these amounts, one per word: the core's Split. Its cost is linear in

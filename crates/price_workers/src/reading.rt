@@ -100,10 +100,8 @@ fn load_word(share: &mut Share, kept: &mut KeptPrices<'_>, table: &LoadTable, wo
     ensures keeps { KeepsFound share.old.party.last (loads_of kept.old) share.new.party.last (loads_of kept.new) }
     ensures setting { KeepsSetting kept.old kept.new }
 {
-    let before = share.last_of(word);
-    let found = share.load(table, word);
-    if found != before {
-        kept.set_load(word, found);
+    if share.reload(table, word) {
+        kept.set_load(word, share.last_of(word));
     }
 }
 
