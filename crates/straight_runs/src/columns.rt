@@ -1,6 +1,6 @@
 //! The columns that a sweep over the rows meets.
 
-ghost use Rattle.std.specs.Prelude.{◌≡◌, ◌≤◌, ◌<◌, IfOk, IfSome, None, Some, length, replicate, slice_index_or, slice_set};
+ghost use Rattle.std.specs.Prelude.{◌≡◌, ◌≤◌, IfOk, IfSome, None, Some, length, replicate, slice_index_or, slice_set};
 
 use crate::marks::Marks;
 use grid_base::NoMemory;
