@@ -3,6 +3,7 @@ pub mod Differences
 pub mod LineCounts
 pub mod Lines
 pub mod LoadSums
+pub mod Marks
 pub mod Merging
 pub mod Runs
 pub mod Touching

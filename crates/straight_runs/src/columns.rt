@@ -1,5 +1,7 @@
 //! The columns that a sweep over the rows meets.
 
+ghost use Rattle.std.specs.Prelude.{◌≡◌, ◌≤◌, IfOk, IfSome, None, Some, length, replicate, slice_index_or, slice_set};
+
 use crate::marks::Marks;
 use grid_base::NoMemory;
 use std::alloc::Global;
@@ -37,7 +39,10 @@ pub(crate) struct Columns {
 
 impl Columns {
     /// No run is met of these columns.
-    pub fn of(alloc: Global, cols: Vec<u32>) -> Result<Columns, NoMemory> {
+    pub fn of(alloc: Global, cols: Vec<u32>) -> Result<Columns, NoMemory>
+        ensures cols { IfOk result (λ columns. columns.cols ≡ cols) }
+        ensures met { IfOk result (λ columns. columns.met.items ≡ replicate (length cols.items) None) }
+    {
         let count = cols.len();
         Ok(Columns {
             cols,
@@ -48,7 +53,9 @@ impl Columns {
     }
 
     /// The place of the first column from one of the grid on. Where no column is left out before it, that needs no search.
-    pub fn place_of(&self, col: u32) -> usize {
+    pub fn place_of(&self, col: u32) -> usize
+        ensures { result ≤ length self.now.cols.items }
+    {
         let first = self.cols.first().copied().unwrap_or(0);
         let guess = col.saturating_sub(first) as usize;
         if self.cols.get(guess) == Some(&col) {
@@ -58,12 +65,17 @@ impl Columns {
     }
 
     /// The run of a column that was met last.
-    pub fn met_at(&self, place: usize) -> Option<Upright> {
+    pub fn met_at(&self, place: usize) -> Option<Upright>
+        ensures { result ≡ slice_index_or self.now.met.items place None }
+    {
         *self.met.get(place)?
     }
 
     /// A run is met: it is a stretch of its own, and what is behind it is another.
-    pub fn meet(&mut self, upright: Upright) {
+    pub fn meet(&mut self, upright: Upright)
+        ensures met { self.new.met.items ≡ slice_set self.old.met.items upright.place (Some upright) }
+        ensures cols { self.new.cols ≡ self.old.cols }
+    {
         if let Some(met) = self.met.get_mut(upright.place) {
             *met = Some(upright);
         }
@@ -73,14 +85,20 @@ impl Columns {
     }
 
     /// Begins a stretch at the first kept run behind a column.
-    fn start_behind(&mut self, place: usize) {
+    fn start_behind(&mut self, place: usize)
+        ensures met { self.new.met ≡ self.old.met }
+        ensures cols { self.new.cols ≡ self.old.cols }
+    {
         if let Some(next) = self.kept.next(place.saturating_add(1)) {
             self.starts.insert(next);
         }
     }
 
     /// Forgets a run. If a stretch began with it, it begins with the next.
-    fn forget(&mut self, place: usize) {
+    fn forget(&mut self, place: usize)
+        ensures met { self.new.met ≡ self.old.met }
+        ensures cols { self.new.cols ≡ self.old.cols }
+    {
         self.kept.remove(place);
         if self.starts.contains(place) {
             self.starts.remove(place);
@@ -89,7 +107,11 @@ impl Columns {
     }
 
     /// The first run from a place on, and up to a column of the grid, that reaches the row.
-    pub fn first_between(&mut self, from: usize, to: u32, row: u32) -> Option<Upright> {
+    pub fn first_between(&mut self, from: usize, to: u32, row: u32) -> Option<Upright>
+        ensures col { IfSome result (λ found. found.col ≤ to) }
+        ensures row { IfSome result (λ found. row ≤ found.end) }
+        ensures met { self.new.met ≡ self.old.met }
+    {
         for _ in 0..self.cols.len() {
             let found = self.met_at(self.kept.next(from)?)?;
             if found.col > to {
@@ -105,7 +127,11 @@ impl Columns {
 
     /// The first run behind a place, and up to a column of the grid, that reaches the row and with which a stretch begins. The
     /// stretch is part of the one before it from now on.
-    pub fn take_start(&mut self, behind: usize, to: u32, row: u32) -> Option<Upright> {
+    pub fn take_start(&mut self, behind: usize, to: u32, row: u32) -> Option<Upright>
+        ensures col { IfSome result (λ found. found.col ≤ to) }
+        ensures row { IfSome result (λ found. row ≤ found.end) }
+        ensures met { self.new.met ≡ self.old.met }
+    {
         for _ in 0..self.cols.len() {
             let found = self.met_at(self.starts.next(behind.saturating_add(1))?)?;
             if found.col > to {

@@ -1,5 +1,7 @@
 //! Runs by their directions.
 
+ghost use Rattle.std.specs.Prelude.{◌≡◌, ◌<◌, ◌+◌, ℕ, All, IfOk, OnOk, length};
+
 use crate::columns::Upright;
 use crate::direction::Direction;
 use crate::run::Run;
@@ -34,7 +36,10 @@ pub(crate) struct Kinds {
 
 impl Kinds {
     /// Those of these runs.
-    pub fn of(alloc: Global, size: Size, runs: &[Run]) -> Result<Kinds, NoMemory> {
+    pub fn of(alloc: Global, size: Size, runs: &[Run]) -> Result<Kinds, NoMemory>
+        ensures { IfOk result (λ kinds.
+            length kinds.rows.items + length kinds.uprights.items + length kinds.stacks.items ≡ length runs.now) }
+    {
         let mut kinds = Kinds {
             rows: Vec::new(alloc),
             cols: Vec::new(alloc),
@@ -53,7 +58,13 @@ impl Kinds {
     }
 
     /// Adds a run of a column.
-    fn add_upright(&mut self, size: Size, number: usize, run: Run) -> Result<(), NoMemory> {
+    fn add_upright(&mut self, size: Size, number: usize, run: Run) -> Result<(), NoMemory>
+        ensures long { OnOk result (length self.new.uprights.items ≡ length self.old.uprights.items + 1) }
+        ensures number { (most : ℕ) → number < most → All (λ upright. upright.run < most) self.old.uprights.items
+            → OnOk result (All (λ upright. upright.run < most) self.new.uprights.items) }
+        ensures rows { self.new.rows ≡ self.old.rows }
+        ensures stacks { self.new.stacks ≡ self.old.stacks }
+    {
         let col = run.first.0 % size.cols();
         let begin = run.first.0 / size.cols();
         if self.cols.last() != Some(&col) {
@@ -70,7 +81,13 @@ impl Kinds {
     }
 
     /// Adds a stack of vias.
-    fn add_stack(&mut self, size: Size, number: usize, run: Run) -> Result<(), NoMemory> {
+    fn add_stack(&mut self, size: Size, number: usize, run: Run) -> Result<(), NoMemory>
+        ensures long { OnOk result (length self.new.stacks.items ≡ length self.old.stacks.items + 1) }
+        ensures number { (most : ℕ) → number < most → All (λ stack. stack.run < most) self.old.stacks.items
+            → OnOk result (All (λ stack. stack.run < most) self.new.stacks.items) }
+        ensures rows { self.new.rows ≡ self.old.rows }
+        ensures uprights { self.new.uprights ≡ self.old.uprights }
+    {
         let tiles = Direction::Up.rise(size);
         let tile = run.first.0 % tiles;
         let place = self.place_of(tile % size.cols());

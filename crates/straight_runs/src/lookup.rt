@@ -1,6 +1,7 @@
 //! Runs by the vertices that they have.
 
-ghost use Rattle.std.specs.Prelude.{◌≡◌, All, IfSome};
+ghost use Rattle.std.specs.Prelude.{◌≡◌, All, IfOk, IfSome, map};
+ghost use Rattle.straight_runs.specs.Lines.{line_number};
 ghost use Rattle.straight_runs.specs.Touching.{IsRunWith};
 
 use crate::direction::Direction;
@@ -9,7 +10,9 @@ use grid_base::{NoMemory, Size, Vertex};
 use std::alloc::Global;
 
 /// The numbers of the runs' first pieces, when all pieces are counted line by line.
-pub(crate) fn numbers_of(alloc: Global, size: Size, runs: &[Run]) -> Result<Vec<u64>, NoMemory> {
+pub(crate) fn numbers_of(alloc: Global, size: Size, runs: &[Run]) -> Result<Vec<u64>, NoMemory>
+    ensures { IfOk result (λ numbers. numbers.items ≡ map (λ run. line_number size run.direction run.first.0) runs.now) }
+{
     let mut numbers = Vec::with_capacity(alloc, runs.len())?;
     for run in runs {
         numbers.push(run.direction.line_number(size, run.first))?;

@@ -1,5 +1,8 @@
 //! Sets of small numbers.
 
+ghost use Rattle.std.specs.Prelude.{◌≡◌, ◌≤◌, All, IfOk, IfSome};
+ghost use Rattle.straight_runs.specs.Marks.{is_marked};
+
 use grid_base::NoMemory;
 use std::alloc::Global;
 
@@ -14,7 +17,9 @@ pub(crate) struct Marks {
 
 impl Marks {
     /// No number, where all are below a limit.
-    pub fn none(alloc: Global, limit: usize) -> Result<Marks, NoMemory> {
+    pub fn none(alloc: Global, limit: usize) -> Result<Marks, NoMemory>
+        ensures { IfOk result (λ marks. All (λ row. All (λ word. word ≡ 0) row.items) marks.rows.items) }
+    {
         let mut rows = Vec::new(alloc);
         let mut last = limit;
         for _ in 0..u64::BITS {
@@ -28,7 +33,9 @@ impl Marks {
     }
 
     /// Whether the number is in the set.
-    pub fn contains(&self, number: usize) -> bool {
+    pub fn contains(&self, number: usize) -> bool
+        ensures { result ≡ is_marked self.now number }
+    {
         let Some(words) = self.rows.first() else {
             return false;
         };
@@ -63,13 +70,17 @@ impl Marks {
     }
 
     /// The least number of the set from one on.
-    pub fn next(&self, from: usize) -> Option<usize> {
+    pub fn next(&self, from: usize) -> Option<usize>
+        ensures { IfSome result (λ number. from ≤ number) }
+    {
         next_in(&self.rows, from)
     }
 }
 
 /// The first bit from one on that is set in the first of some rows.
-fn next_in(rows: &[Vec<u64>], from: usize) -> Option<usize> {
+fn next_in(rows: &[Vec<u64>], from: usize) -> Option<usize>
+    ensures { IfSome result (λ number. from ≤ number) }
+{
     let (words, above) = rows.split_first()?;
     let rest = *words.get(from / 64)? >> (from % 64);
     if rest != 0 {
