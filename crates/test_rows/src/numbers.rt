@@ -1,5 +1,7 @@
 //! Numbers as fields of rows.
 
+ghost use Rattle.std.specs.Prelude.{IfOk, Ok};
+
 use crate::fault::RowFault;
 use std::alloc::{AllocError, Global};
 use std::fmt::Display;
@@ -9,6 +11,7 @@ use std::str::FromStr;
 pub fn number_of<N: FromStr + Drop>(field: &'static str) -> Result<N, RowFault>
 where
     N::Err: Drop,
+    ensures { IfOk result (λ number. N.from_str_gives field.now (Ok number)) }
 {
     match field.parse::<N>() {
         Ok(number) => Ok(number),

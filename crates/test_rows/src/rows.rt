@@ -1,6 +1,7 @@
 //! The rows of a table, their fields, and what is found of a row.
 
-ghost use Rattle.std.specs.Prelude.{◌<◌, IfOk, length};
+ghost use Rattle.std.specs.Prelude.{◌≡◌, ◌<◌, ◌↔◌, ◌==◌, IfOk, IfSome, IsTrue, is_ok, length};
+ghost use Rattle.std.specs.List.{before_first, after_first};
 
 use crate::fault::RowFault;
 use std::alloc::{AllocError, Global};
@@ -38,14 +39,18 @@ pub fn paragraphs_of(alloc: Global, table: &'static str) -> Result<Vec<&'static 
 }
 
 /// The two fields of a row.
-pub fn two_fields(row: &'static str) -> Result<(&'static str, &'static str), RowFault> {
+pub fn two_fields(row: &'static str) -> Result<(&'static str, &'static str), RowFault>
+    ensures { IfOk result (λ fields. (fields.0.now ≡ before_first (λ b. b == 124) row.now) × (fields.1.now ≡ after_first (λ b. b == 124) row.now)) }
+{
     two_parts(row).ok_or(RowFault::OtherFields(row))
 }
 
 /// The three fields of a row.
 pub fn three_fields(
     row: &'static str,
-) -> Result<(&'static str, &'static str, &'static str), RowFault> {
+) -> Result<(&'static str, &'static str, &'static str), RowFault>
+    ensures { IfOk result (λ fields. (fields.0.now ≡ before_first (λ b. b == 124) row.now) × (fields.1.now ≡ before_first (λ b. b == 124) (after_first (λ b. b == 124) row.now)) × (fields.2.now ≡ after_first (λ b. b == 124) (after_first (λ b. b == 124) row.now))) }
+{
     three_parts(row).ok_or(RowFault::OtherFields(row))
 }
 
@@ -72,7 +77,9 @@ pub fn five_fields(
     five_parts(row).ok_or(RowFault::OtherFields(row))
 }
 
-fn two_parts(text: &'static str) -> Option<(&'static str, &'static str)> {
+fn two_parts(text: &'static str) -> Option<(&'static str, &'static str)>
+    ensures { IfSome result (λ fields. (fields.0.now ≡ before_first (λ b. b == 124) text.now) × (fields.1.now ≡ after_first (λ b. b == 124) text.now)) }
+{
     let (first, second) = text.split_once('|')?;
     if second.contains('|') {
         return None;
@@ -80,7 +87,9 @@ fn two_parts(text: &'static str) -> Option<(&'static str, &'static str)> {
     Some((first, second))
 }
 
-fn three_parts(text: &'static str) -> Option<(&'static str, &'static str, &'static str)> {
+fn three_parts(text: &'static str) -> Option<(&'static str, &'static str, &'static str)>
+    ensures { IfSome result (λ fields. (fields.0.now ≡ before_first (λ b. b == 124) text.now) × (fields.1.now ≡ before_first (λ b. b == 124) (after_first (λ b. b == 124) text.now)) × (fields.2.now ≡ after_first (λ b. b == 124) (after_first (λ b. b == 124) text.now))) }
+{
     let (first, rest) = text.split_once('|')?;
     let (second, third) = two_parts(rest)?;
     Some((first, second, third))
@@ -130,7 +139,9 @@ pub fn bytes_of(alloc: Global, field: &str) -> Result<Vec<u8>, AllocError> {
 }
 
 /// Fails where what was found of a row is not what the row wants.
-pub fn agree(row: &str, found: &str, wanted: &str) -> Result<(), Fail> {
+pub fn agree(row: &str, found: &str, wanted: &str) -> Result<(), Fail>
+    ensures { IsTrue (is_ok result) ↔ found.now ≡ wanted.now }
+{
     if found == wanted {
         Ok(())
     } else {
