@@ -2,6 +2,7 @@
 
 ghost use Rattle.std.specs.Prelude.{◌≡◌, IfOk, None, codes, string_bytes};
 ghost use Rattle.tree_set.specs.Order.{IsRising};
+ghost use Rattle.test_rows.specs.Fields.{piece_word};
 
 use crate::fault::RowFault;
 use crate::numbers::{number_of, three_numbers};
@@ -62,7 +63,9 @@ pub fn sets_of(alloc: Global, field: &'static str) -> Result<Vec<Tree>, RowFault
 }
 
 /// The piece as a word.
-pub fn piece_text(alloc: Global, piece: Piece) -> Result<String, AllocError> {
+pub fn piece_text(alloc: Global, piece: Piece) -> Result<String, AllocError>
+    ensures { IfOk result (λ text. string_bytes text ≡ piece_word piece) }
+{
     match piece {
         Piece::Edge(Edge(e)) => format!(in alloc; "e{e}"),
         Piece::Via(Via(v)) => format!(in alloc; "v{v}"),
