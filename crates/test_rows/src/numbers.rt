@@ -1,5 +1,8 @@
 //! Numbers as fields of rows.
 
+ghost use Rattle.std.specs.Prelude.{IfOk, Ok};
+ghost use Rattle.test_rows.specs.Fields.{first_word, other_words};
+
 use crate::fault::RowFault;
 use std::alloc::{AllocError, Global};
 use std::fmt::Display;
@@ -9,6 +12,7 @@ use std::str::FromStr;
 pub fn number_of<N: FromStr + Drop>(field: &'static str) -> Result<N, RowFault>
 where
     N::Err: Drop,
+    ensures { IfOk result (λ number. N.from_str_gives field.now (Ok number)) }
 {
     match field.parse::<N>() {
         Ok(number) => Ok(number),
@@ -20,6 +24,8 @@ where
 pub fn two_numbers<N: FromStr + Drop>(field: &'static str) -> Result<(N, N), RowFault>
 where
     N::Err: Drop,
+    ensures first { IfOk result (λ numbers. N.from_str_gives (first_word field.now) (Ok numbers.0)) }
+    ensures second { IfOk result (λ numbers. N.from_str_gives (other_words field.now) (Ok numbers.1)) }
 {
     let Some((first, second)) = field.split_once(' ') else {
         return Err(RowFault::OtherNumbers(field));
@@ -31,6 +37,9 @@ where
 pub fn three_numbers<N: FromStr + Drop>(field: &'static str) -> Result<(N, N, N), RowFault>
 where
     N::Err: Drop,
+    ensures first { IfOk result (λ numbers. N.from_str_gives (first_word field.now) (Ok numbers.0)) }
+    ensures second { IfOk result (λ numbers. N.from_str_gives (first_word (other_words field.now)) (Ok numbers.1)) }
+    ensures third { IfOk result (λ numbers. N.from_str_gives (other_words (other_words field.now)) (Ok numbers.2)) }
 {
     let Some((first, rest)) = field.split_once(' ') else {
         return Err(RowFault::OtherNumbers(field));

@@ -1,6 +1,7 @@
 //! The rows of a table, their fields, and what is found of a row.
 
-ghost use Rattle.std.specs.Prelude.{◌<◌, IfOk, length};
+ghost use Rattle.std.specs.Prelude.{◌≡◌, ◌<◌, ◌↔◌, IfOk, IfSome, IsTrue, is_ok, length};
+ghost use Rattle.test_rows.specs.Fields.{AreTwoFields, AreThreeFields, AreFourFields, AreFiveFields};
 
 use crate::fault::RowFault;
 use std::alloc::{AllocError, Global};
@@ -38,21 +39,27 @@ pub fn paragraphs_of(alloc: Global, table: &'static str) -> Result<Vec<&'static 
 }
 
 /// The two fields of a row.
-pub fn two_fields(row: &'static str) -> Result<(&'static str, &'static str), RowFault> {
+pub fn two_fields(row: &'static str) -> Result<(&'static str, &'static str), RowFault>
+    ensures { IfOk result (λ fields. AreTwoFields row.now fields.0.now fields.1.now) }
+{
     two_parts(row).ok_or(RowFault::OtherFields(row))
 }
 
 /// The three fields of a row.
 pub fn three_fields(
     row: &'static str,
-) -> Result<(&'static str, &'static str, &'static str), RowFault> {
+) -> Result<(&'static str, &'static str, &'static str), RowFault>
+    ensures { IfOk result (λ fields. AreThreeFields row.now fields.0.now fields.1.now fields.2.now) }
+{
     three_parts(row).ok_or(RowFault::OtherFields(row))
 }
 
 /// The four fields of a row.
 pub fn four_fields(
     row: &'static str,
-) -> Result<(&'static str, &'static str, &'static str, &'static str), RowFault> {
+) -> Result<(&'static str, &'static str, &'static str, &'static str), RowFault>
+    ensures { IfOk result (λ fields. AreFourFields row.now fields.0.now fields.1.now fields.2.now fields.3.now) }
+{
     four_parts(row).ok_or(RowFault::OtherFields(row))
 }
 
@@ -68,11 +75,15 @@ pub fn five_fields(
         &'static str,
     ),
     RowFault,
-> {
+>
+    ensures { IfOk result (λ fields. AreFiveFields row.now fields.0.now fields.1.now fields.2.now fields.3.now fields.4.now) }
+{
     five_parts(row).ok_or(RowFault::OtherFields(row))
 }
 
-fn two_parts(text: &'static str) -> Option<(&'static str, &'static str)> {
+fn two_parts(text: &'static str) -> Option<(&'static str, &'static str)>
+    ensures { IfSome result (λ fields. AreTwoFields text.now fields.0.now fields.1.now) }
+{
     let (first, second) = text.split_once('|')?;
     if second.contains('|') {
         return None;
@@ -80,7 +91,9 @@ fn two_parts(text: &'static str) -> Option<(&'static str, &'static str)> {
     Some((first, second))
 }
 
-fn three_parts(text: &'static str) -> Option<(&'static str, &'static str, &'static str)> {
+fn three_parts(text: &'static str) -> Option<(&'static str, &'static str, &'static str)>
+    ensures { IfSome result (λ fields. AreThreeFields text.now fields.0.now fields.1.now fields.2.now) }
+{
     let (first, rest) = text.split_once('|')?;
     let (second, third) = two_parts(rest)?;
     Some((first, second, third))
@@ -88,7 +101,9 @@ fn three_parts(text: &'static str) -> Option<(&'static str, &'static str, &'stat
 
 fn four_parts(
     text: &'static str,
-) -> Option<(&'static str, &'static str, &'static str, &'static str)> {
+) -> Option<(&'static str, &'static str, &'static str, &'static str)>
+    ensures { IfSome result (λ fields. AreFourFields text.now fields.0.now fields.1.now fields.2.now fields.3.now) }
+{
     let (first, rest) = text.split_once('|')?;
     let (second, third, fourth) = three_parts(rest)?;
     Some((first, second, third, fourth))
@@ -104,7 +119,9 @@ fn five_parts(
         &'static str,
         &'static str,
     ),
-> {
+>
+    ensures { IfSome result (λ fields. AreFiveFields text.now fields.0.now fields.1.now fields.2.now fields.3.now fields.4.now) }
+{
     let (first, rest) = text.split_once('|')?;
     let (second, third, fourth, fifth) = four_parts(rest)?;
     Some((first, second, third, fourth, fifth))
@@ -130,7 +147,9 @@ pub fn bytes_of(alloc: Global, field: &str) -> Result<Vec<u8>, AllocError> {
 }
 
 /// Fails where what was found of a row is not what the row wants.
-pub fn agree(row: &str, found: &str, wanted: &str) -> Result<(), Fail> {
+pub fn agree(row: &str, found: &str, wanted: &str) -> Result<(), Fail>
+    ensures { IsTrue (is_ok result) ↔ found.now ≡ wanted.now }
+{
     if found == wanted {
         Ok(())
     } else {

@@ -1,5 +1,9 @@
 //! Grids, vertices, pieces, sets of pieces and fractions as fields of rows.
 
+ghost use Rattle.std.specs.Prelude.{◌≡◌, IfOk, None, codes, string_bytes};
+ghost use Rattle.tree_set.specs.Order.{IsRising};
+ghost use Rattle.test_rows.specs.Fields.{piece_word};
+
 use crate::fault::RowFault;
 use crate::numbers::{number_of, three_numbers};
 use grid_base::{Edge, Piece, Size, Vertex, Via};
@@ -33,7 +37,9 @@ pub fn piece_of(word: &'static str) -> Result<Piece, RowFault> {
 }
 
 /// The set of pieces that a field lists, as in `e0 e2 v12`.
-pub fn set_of(alloc: Global, field: &'static str) -> Result<Tree, RowFault> {
+pub fn set_of(alloc: Global, field: &'static str) -> Result<Tree, RowFault>
+    ensures { IfOk result IsRising }
+{
     let mut pieces = Vec::new(alloc);
     for word in field.split_whitespace() {
         pieces.push(piece_of(word)?)?;
@@ -57,7 +63,9 @@ pub fn sets_of(alloc: Global, field: &'static str) -> Result<Vec<Tree>, RowFault
 }
 
 /// The piece as a word.
-pub fn piece_text(alloc: Global, piece: Piece) -> Result<String, AllocError> {
+pub fn piece_text(alloc: Global, piece: Piece) -> Result<String, AllocError>
+    ensures { IfOk result (λ text. string_bytes text ≡ piece_word piece) }
+{
     match piece {
         Piece::Edge(Edge(e)) => format!(in alloc; "e{e}"),
         Piece::Via(Via(v)) => format!(in alloc; "v{v}"),
@@ -85,7 +93,9 @@ pub fn sets_text(alloc: Global, trees: &[Tree]) -> Result<String, AllocError> {
 }
 
 /// The two numbers of a fraction with a slash between them, or `none`.
-pub fn fraction_text(alloc: Global, fraction: Option<Fraction>) -> Result<String, AllocError> {
+pub fn fraction_text(alloc: Global, fraction: Option<Fraction>) -> Result<String, AllocError>
+    ensures { fraction ≡ None → IfOk result (λ text. string_bytes text ≡ codes "none") }
+{
     match fraction {
         None => String::from_str(alloc, "none"),
         Some(Fraction { num, den, .. }) => format!(in alloc; "{num}/{den}"),

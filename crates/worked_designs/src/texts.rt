@@ -1,5 +1,7 @@
 //! The texts of the worked designs. Most designs are `ROW` with the bytes between two places replaced by others.
 
+ghost use Rattle.std.specs.Prelude.{◌≡◌, ◌++◌, IfOk, drop, length, min, take};
+
 use grid_graph::Design;
 use ispd_reader::{InputError, read_design};
 use std::alloc::{AllocError, Global};
@@ -127,7 +129,9 @@ pub fn edited(
     from: usize,
     to: usize,
     by: &[u8],
-) -> Result<Vec<u8>, AllocError> {
+) -> Result<Vec<u8>, AllocError>
+    ensures { IfOk result (λ bytes. bytes.items ≡ take (min from (length text.now)) text.now ++ by.now ++ drop (min to (length text.now)) text.now) }
+{
     let mut bytes = Vec::from_slice(alloc, &text[..from.min(text.len())])?;
     bytes.extend_from_slice(by)?;
     bytes.extend_from_slice(&text[to.min(text.len())..])?;
