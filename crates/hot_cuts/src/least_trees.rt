@@ -1,5 +1,7 @@
 //! Least trees on the graph of regions.
 
+ghost use Rattle.std.specs.Prelude.{◌≡◌, All, IfOk, length};
+
 use grid_base::NoMemory;
 use std::alloc::Global;
 use std::mem::swap;
@@ -60,7 +62,9 @@ pub(crate) struct LeastTrees {
 
 impl LeastTrees {
     /// Room for trees on so many nodes, for so many sets of ends.
-    pub fn new(alloc: Global, nodes: u32, sets: u32) -> Result<LeastTrees, NoMemory> {
+    pub fn new(alloc: Global, nodes: u32, sets: u32) -> Result<LeastTrees, NoMemory>
+        ensures { IfOk result (λ trees. All (λ row. length row.items ≡ nodes) trees.rows.items) }
+    {
         let mut rows = Vec::new(alloc);
         for _ in 0..sets {
             rows.push(vec![in alloc; Label::FAR; nodes as usize]?)?;

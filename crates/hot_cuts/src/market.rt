@@ -1,5 +1,7 @@
 //! Rounds in which nets and prices answer each other.
 
+ghost use Rattle.std.specs.Prelude.{◌≡◌, IfOk, length, replicate};
+
 use crate::estimate::Estimate;
 use crate::least_trees::LeastTrees;
 use crate::rules::{GRAIN, TOP, part_of};
@@ -30,7 +32,10 @@ impl<'a> Market<'a> {
         nodes: u32,
         links: &'a [Link],
         bundles: &'a [Bundle],
-    ) -> Result<Market<'a>, NoMemory> {
+    ) -> Result<Market<'a>, NoMemory>
+        ensures prices { IfOk result (λ market. market.prices.items ≡ replicate (length links.now) 0) }
+        ensures sums { IfOk result (λ market. market.sums.items ≡ replicate (length links.now) 0) }
+    {
         Ok(Market {
             links,
             bundles,
@@ -61,7 +66,9 @@ impl<'a> Market<'a> {
     }
 
     /// Gives no link a price.
-    pub fn price_nothing(&mut self) {
+    pub fn price_nothing(&mut self)
+        ensures { self.new.prices.items ≡ replicate (length self.old.prices.items) 0 }
+    {
         self.prices.fill(0);
     }
 
@@ -73,7 +80,9 @@ impl<'a> Market<'a> {
     }
 
     /// The mean prices of the later rounds, of which the greatest is `MAX_PRICE`.
-    pub fn mean_prices(&self, alloc: Global) -> Result<Vec<u64>, NoMemory> {
+    pub fn mean_prices(&self, alloc: Global) -> Result<Vec<u64>, NoMemory>
+        ensures { IfOk result (λ prices. length prices.items ≡ length self.now.sums.items) }
+    {
         let greatest = self.sums.iter().copied().max().unwrap_or(0);
         let mut prices = Vec::new(alloc);
         for sum in self.sums.iter() {

@@ -1,5 +1,11 @@
 //! Prices that are offered, with what they prove.
 
+ghost use Rattle.std.specs.Prelude.{◌≡◌, ◌++◌, [], IfOk, OnOk, length, not, replicate, slice_index_or, true};
+ghost use Rattle.std.specs.List.{flat_map, fold, list_all, sum_by};
+ghost use Rattle.hot_cuts.specs.Estimates.{of_both};
+ghost use Rattle.hot_cuts.specs.Offers.{offered_price, with_price};
+ghost use Rattle.tile_graphs.specs.Fullness.{excess_of, in_word, no_total};
+
 use crate::estimate::Estimate;
 use grid_base::NoMemory;
 use std::alloc::Global;
@@ -22,7 +28,10 @@ pub(crate) struct Offer {
 
 impl Offer {
     /// No prices.
-    pub fn none(alloc: Global) -> Offer {
+    pub fn none(alloc: Global) -> Offer
+        ensures prices { result.prices.items ≡ [] }
+        ensures estimate { result.estimate ≡ record { cost = 0; capacity_cost = 0 } }
+    {
         Offer {
             prices: Vec::new(alloc),
             estimate: Estimate::NONE,
@@ -35,7 +44,10 @@ impl Offer {
         part: &Part,
         prices: &[u64],
         estimate: Estimate,
-    ) -> Result<Offer, NoMemory> {
+    ) -> Result<Offer, NoMemory>
+        ensures prices { IfOk result (λ offer. offer.prices.items ≡ flat_map (offered_price prices.now) part.now.edges.items) }
+        ensures estimate { IfOk result (λ offer. offer.estimate ≡ estimate) }
+    {
         let mut offered = Vec::new(alloc);
         for edge in part.edges.iter() {
             let price = prices.get(edge.link as usize).copied().unwrap_or(0);
@@ -52,14 +64,19 @@ impl Offer {
     }
 
     /// Adds the prices of another place.
-    pub fn add(&mut self, other: &Offer) -> Result<(), NoMemory> {
+    pub fn add(&mut self, other: &Offer) -> Result<(), NoMemory>
+        ensures prices { OnOk result (self.new.prices.items ≡ self.old.prices.items ++ other.now.prices.items) }
+        ensures estimate { OnOk result (self.new.estimate ≡ of_both self.old.estimate other.now.estimate) }
+    {
         self.prices.extend_from_slice(other.prices.as_slice())?;
         self.estimate.add(other.estimate);
         Ok(())
     }
 
     /// Whether none of the marked tile edges has a price.
-    fn is_apart(&self, marks: &[bool]) -> bool {
+    fn is_apart(&self, marks: &[bool]) -> bool
+        ensures { result ≡ list_all (λ priced. not (slice_index_or marks.now priced.tile_edge true)) self.now.prices.items }
+    {
         for priced in self.prices.iter() {
             let mark = marks.get(priced.tile_edge as usize);
             if mark.copied().unwrap_or(true) {
@@ -70,7 +87,9 @@ impl Offer {
     }
 
     /// Marks the tile edges that have a price.
-    pub fn mark(&self, marks: &mut [bool]) {
+    pub fn mark(&self, marks: &mut [bool])
+        ensures { length marks.new ≡ length marks.old }
+    {
         for priced in self.prices.iter() {
             if let Some(mark) = marks.get_mut(priced.tile_edge as usize) {
                 *mark = true;
@@ -79,7 +98,10 @@ impl Offer {
     }
 
     /// By how much routes overfill the tile edges that have a price, of which these are the totals.
-    pub fn most_excess(&self, totals: &[TileTotal]) -> u64 {
+    pub fn most_excess(&self, totals: &[TileTotal]) -> u64
+        ensures { result
+            ≡ in_word (sum_by (λ priced. excess_of (slice_index_or totals.now priced.tile_edge no_total)) self.now.prices.items) }
+    {
         let mut most: u64 = 0;
         for priced in self.prices.iter() {
             let total = totals.get(priced.tile_edge as usize).copied();
@@ -94,7 +116,9 @@ pub(crate) fn by_tile_edges(
     alloc: Global,
     prices: &[TilePrice],
     count: usize,
-) -> Result<Vec<u32>, NoMemory> {
+) -> Result<Vec<u32>, NoMemory>
+    ensures { IfOk result (λ made. made.items ≡ fold with_price (replicate count 0) prices.now) }
+{
     let mut tile_prices = vec![in alloc; 0u32; count]?;
     for priced in prices {
         if let Some(price) = tile_prices.get_mut(priced.tile_edge as usize) {

@@ -1,5 +1,8 @@
 //! Rules by which prices follow loads.
 
+ghost use Rattle.std.specs.Prelude.{◌≡◌, ◌*◌, ◌/◌, ◌<◌};
+ghost use Rattle.tile_graphs.specs.Fullness.{in_word};
+
 use edge_prices::MAX_PRICE;
 
 /// What prices are to prove.
@@ -24,7 +27,10 @@ pub(crate) const FIRST_STEP: u64 = TOP / 2;
 pub(crate) const LATER_STEP: u64 = TOP / 8;
 
 /// A part of a number, as great as another one is of all.
-pub(crate) fn part_of(number: u64, part: u64, all: u64) -> u64 {
+pub(crate) fn part_of(number: u64, part: u64, all: u64) -> u64
+    ensures some { 0 < all → result ≡ in_word (number * part / all) }
+    ensures none { all ≡ 0 → result ≡ 0 }
+{
     let product = u128::from(number) * u128::from(part);
     let share = product.checked_div(u128::from(all)).unwrap_or(0);
     u64::try_from(share).unwrap_or(u64::MAX)

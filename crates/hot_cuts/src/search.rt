@@ -1,5 +1,7 @@
 //! The search for the best prices.
 
+ghost use Rattle.std.specs.Prelude.{◌≡◌, ◌≤◌, [], IfOk, length};
+
 use crate::estimate::Estimate;
 use crate::offers::{Offer, TilePrice, by_tile_edges, joined};
 use crate::rules::{Goal, part_of};
@@ -36,7 +38,11 @@ pub(crate) struct Search<'a> {
 
 impl<'a> Search<'a> {
     /// Nothing is tried so far.
-    pub fn new(alloc: Global, view: &'a TileView, rounds: u32) -> Result<Search<'a>, NoMemory> {
+    pub fn new(alloc: Global, view: &'a TileView, rounds: u32) -> Result<Search<'a>, NoMemory>
+        ensures bound { IfOk result (λ search. search.bound.prices.items ≡ []) }
+        ensures offers { IfOk result (λ search. search.offers.items ≡ []) }
+        ensures settled { IfOk result (λ search. length search.are_settled.items ≡ length view.now.totals.items) }
+    {
         Ok(Search {
             alloc,
             view,
@@ -49,7 +55,9 @@ impl<'a> Search<'a> {
     }
 
     /// Tries cuts of some of the tile edges that routes fill most, and of those round the tiles that all routes fill most.
-    pub fn try_all(&mut self) -> Result<(), NoMemory> {
+    pub fn try_all(&mut self) -> Result<(), NoMemory>
+        ensures more { length self.old.offers.items ≤ length self.new.offers.items }
+    {
         let totals = self.view.totals.as_slice();
         let cuts = fuller_cuts(self.alloc, self.view)?;
         self.looks_left = MOST_LOOKS;
@@ -64,12 +72,17 @@ impl<'a> Search<'a> {
     }
 
     /// The prices of the greatest bound.
-    pub fn for_bound(&self) -> &[TilePrice] {
+    pub fn for_bound(&self) -> &[TilePrice]
+        ensures { result.now ≡ self.now.bound.prices.items }
+    {
         self.bound.prices.as_slice()
     }
 
     /// The prices that prove the most overflow: the best ones of each place, and what is found from there.
-    pub fn for_overflow(&mut self) -> Result<Offer, NoMemory> {
+    pub fn for_overflow(&mut self) -> Result<Offer, NoMemory>
+        ensures bound { self.new.bound ≡ self.old.bound }
+        ensures offers { self.new.offers ≡ self.old.offers }
+    {
         let given = joined(self.alloc, self.offers.as_slice(), self.are_settled.len())?;
         let found = self.found_from(&given)?;
         if found.estimate.proves_more_overflow(given.estimate) {
@@ -80,7 +93,9 @@ impl<'a> Search<'a> {
     }
 
     /// Tries cuts of some of the tile edges that are fullest by these totals, for the bound.
-    fn try_fullest(&mut self, totals: &[TileTotal]) -> Result<(), NoMemory> {
+    fn try_fullest(&mut self, totals: &[TileTotal]) -> Result<(), NoMemory>
+        ensures more { length self.old.offers.items ≤ length self.new.offers.items }
+    {
         let uses = fullest_first(self.alloc, totals)?;
         for count in COUNTS {
             let marks = marks_by_count(self.alloc, uses.as_slice(), count, totals.len())?;
@@ -90,13 +105,17 @@ impl<'a> Search<'a> {
     }
 
     /// Tries cuts of the tile edges that routes fill to a level at least, for overflow.
-    fn try_level(&mut self, level: u64) -> Result<(), NoMemory> {
+    fn try_level(&mut self, level: u64) -> Result<(), NoMemory>
+        ensures more { length self.old.offers.items ≤ length self.new.offers.items }
+    {
         let marks = marks_by_level(self.alloc, self.view.totals.as_slice(), level)?;
         self.try_parts(marks.as_slice(), Goal::Overflow)
     }
 
     /// Tries prices on the parts of the graph between hot tile edges.
-    fn try_parts(&mut self, are_hot: &[bool], goal: Goal) -> Result<(), NoMemory> {
+    fn try_parts(&mut self, are_hot: &[bool], goal: Goal) -> Result<(), NoMemory>
+        ensures more { length self.old.offers.items ≤ length self.new.offers.items }
+    {
         let mut graph = Contraction::of(self.alloc, self.view, are_hot)?;
         let all = self.open_excess();
         for part in graph.parts.iter_mut() {
@@ -106,7 +125,9 @@ impl<'a> Search<'a> {
     }
 
     /// Tries prices on a part, if looks enough are left.
-    fn try_part(&mut self, part: &mut Part, goal: Goal, all: u64) -> Result<(), NoMemory> {
+    fn try_part(&mut self, part: &mut Part, goal: Goal, all: u64) -> Result<(), NoMemory>
+        ensures more { length self.old.offers.items ≤ length self.new.offers.items }
+    {
         let bundles = part.bundles(self.alloc)?;
         let looks = part.looks(bundles.as_slice());
         if looks > self.looks_left {
@@ -122,7 +143,10 @@ impl<'a> Search<'a> {
     }
 
     /// Prices that are found from given ones, on the tile edges that have a price there.
-    fn found_from(&mut self, given: &Offer) -> Result<Offer, NoMemory> {
+    fn found_from(&mut self, given: &Offer) -> Result<Offer, NoMemory>
+        ensures bound { self.new.bound ≡ self.old.bound }
+        ensures offers { self.new.offers ≡ self.old.offers }
+    {
         let alloc = self.alloc;
         let prices = by_tile_edges(alloc, given.prices.as_slice(), self.are_settled.len())?;
         let mut are_hot = vec![in alloc; false; self.are_settled.len()]?;
@@ -143,7 +167,9 @@ impl<'a> Search<'a> {
     }
 
     /// Takes the best prices of a trial. Tile edges are settled where they prove all by which routes overfill them.
-    fn take(&mut self, trial: Trial) -> Result<(), NoMemory> {
+    fn take(&mut self, trial: Trial) -> Result<(), NoMemory>
+        ensures more { length self.old.offers.items ≤ length self.new.offers.items }
+    {
         let Trial {
             bound,
             overflow,
@@ -175,7 +201,11 @@ impl<'a> Search<'a> {
     }
 
     /// How many rounds may be led on a part, each of which takes so many looks of those that are left.
-    fn rounds_on(&mut self, part: &Part, looks: u64, goal: Goal, all: u64) -> u32 {
+    fn rounds_on(&mut self, part: &Part, looks: u64, goal: Goal, all: u64) -> u32
+        ensures most { result ≤ self.old.rounds }
+        ensures bound { self.new.bound ≡ self.old.bound }
+        ensures offers { self.new.offers ≡ self.old.offers }
+    {
         let most = self.most_looks(part, goal, all);
         let rounds = most.checked_div(looks).unwrap_or(0);
         let rounds = u32::try_from(rounds).unwrap_or(u32::MAX).min(self.rounds);

@@ -1,5 +1,8 @@
 //! What is tried on a part.
 
+ghost use Rattle.std.specs.Prelude.{◌≡◌, ◌≤◌, [], IfOk};
+ghost use Rattle.hot_cuts.specs.Estimates.{proved_excess};
+
 use crate::market::Market;
 use crate::offers::Offer;
 use crate::rules::{FIRST_STEP, LATER_STEP};
@@ -23,11 +26,10 @@ pub(crate) struct Trial<'a> {
 
 impl<'a> Trial<'a> {
     /// Nothing is tried so far.
-    pub fn new(
-        alloc: Global,
-        part: &'a Part,
-        bundles: &'a [Bundle],
-    ) -> Result<Trial<'a>, NoMemory> {
+    pub fn new(alloc: Global, part: &'a Part, bundles: &'a [Bundle]) -> Result<Trial<'a>, NoMemory>
+        ensures bound { IfOk result (λ trial. trial.bound.prices.items ≡ []) }
+        ensures overflow { IfOk result (λ trial. trial.overflow.prices.items ≡ []) }
+    {
         Ok(Trial {
             alloc,
             part,
@@ -38,7 +40,9 @@ impl<'a> Trial<'a> {
     }
 
     /// Tries one price for all links.
-    pub fn try_equal(&mut self) -> Result<(), NoMemory> {
+    pub fn try_equal(&mut self) -> Result<(), NoMemory>
+        ensures { proved_excess self.old.overflow.estimate ≤ proved_excess self.new.overflow.estimate }
+    {
         let alloc = self.alloc;
         let equal = vec![in alloc; u64::from(MAX_PRICE); self.part.links.len()]?;
         self.try_list(equal.as_slice())
@@ -46,7 +50,9 @@ impl<'a> Trial<'a> {
 
     /// Tries what is found from prices on the links that routes fill more than a level, which serves good routes; and where
     /// that is not much, what is found from none.
-    pub fn try_rounds(&mut self, level: u64, rounds: u32) -> Result<(), NoMemory> {
+    pub fn try_rounds(&mut self, level: u64, rounds: u32) -> Result<(), NoMemory>
+        ensures { proved_excess self.old.overflow.estimate ≤ proved_excess self.new.overflow.estimate }
+    {
         self.market.price_fuller(level);
         self.lead_rounds(level, rounds, FIRST_STEP)?;
         if self.proves_half() {
@@ -57,7 +63,9 @@ impl<'a> Trial<'a> {
     }
 
     /// Tries prices of tile edges, and what is found from them.
-    pub fn try_from(&mut self, tile_prices: &[u32], rounds: u32) -> Result<(), NoMemory> {
+    pub fn try_from(&mut self, tile_prices: &[u32], rounds: u32) -> Result<(), NoMemory>
+        ensures { proved_excess self.old.overflow.estimate ≤ proved_excess self.new.overflow.estimate }
+    {
         let given = self.part.prices_of(self.alloc, tile_prices)?;
         self.try_list(given.as_slice())?;
         self.market.set_prices(given.as_slice());
@@ -65,7 +73,9 @@ impl<'a> Trial<'a> {
     }
 
     /// Leads rounds from the present prices, and tries the mean prices, and one price for the links whose mean price is high.
-    fn lead_rounds(&mut self, level: u64, rounds: u32, first_step: u64) -> Result<(), NoMemory> {
+    fn lead_rounds(&mut self, level: u64, rounds: u32, first_step: u64) -> Result<(), NoMemory>
+        ensures { proved_excess self.old.overflow.estimate ≤ proved_excess self.new.overflow.estimate }
+    {
         if rounds < FEWEST_ROUNDS {
             return Ok(());
         }
@@ -83,7 +93,9 @@ impl<'a> Trial<'a> {
     }
 
     /// Tries one list of prices.
-    fn try_list(&mut self, prices: &[u64]) -> Result<(), NoMemory> {
+    fn try_list(&mut self, prices: &[u64]) -> Result<(), NoMemory>
+        ensures { proved_excess self.old.overflow.estimate ≤ proved_excess self.new.overflow.estimate }
+    {
         let estimate = self.market.estimate(prices);
         if estimate.has_greater_bound(self.bound.estimate) {
             self.bound = Offer::of(self.alloc, self.part, prices, estimate)?;
