@@ -16,9 +16,9 @@
 //! It stands on `bucket_queue` for what waits, on `grid_graph` for grids and nets, on `tree_set` for sets, and on `grid_base`
 //! for vertices and pieces.
 //!
-//! Promised: what is found is a target, no edge weighs less than a wire or is used by a net that may not, no edge's kind changes, and
-//! what is still to go is at most what it is to each target. That a way is cheap isn't promised, nor that it leads back: what rests
-//! on a search tests the ways that it finds.
+//! Promised: what is found is a target, an edge of a kind that a net may not use has no weight, none weighs less than a wire, no
+//! edge's kind changes, and what is still to go is at most what is counted to each target. That a way is cheap isn't promised, nor
+//! that it leads back: what rests on a search tests the ways that it finds.
 #![tactic(auto)]
 
 mod bound;

@@ -11,7 +11,7 @@
 //! nodes. Without the region of the most tiles it falls into parts, and each net is brought into those where it has ends.
 //!
 //! It stands on `groups`, `grid_graph` and `grid_base`. Want of memory alone is a free answer. Promised: how many tile edges
-//! there are and which tiles they join, how full they are, and sums. What regions, parts and links are made of no clause says.
+//! there are, which tiles they join, what follows from their totals, and sums; of totals, regions, parts and links no more.
 
 #![tactic(auto)]
 
