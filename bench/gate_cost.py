@@ -45,7 +45,8 @@ def purpose(number):
     if not name:
         return None
     parts = words.split('\0')
-    kind = 'tests' if '--test' in parts else 'edits' if 'check' in parts[1:2] else 'proving'
+    is_edit = 'check' in parts[1:2] and 'src/main.rt' not in parts
+    kind = 'tests' if '--test' in parts else 'edits' if is_edit else 'proving'
     return name[1], kind
 
 
