@@ -18,7 +18,7 @@ use load_table::{LoadTable, Share};
 /// Loads every word of the table, in rising order of its number, so that the kept loads are what was found.
 ///
 /// Where no change is marked, the kept loads are what was found last. So a word that is as it was, as most are, costs a look
-/// at the table and at what was found last.
+/// at two lists and not at three.
 pub(crate) fn read_all(
     share: &mut Share,
     kept: &mut KeptPrices<'_>,
