@@ -1,4 +1,4 @@
-//! The command line of the router: `grouter route IN ROUTES CERT`, `measure`, `judge`, `make` and `trial`.
+//! The command line of the router: `grouter` with one of `route`, `measure`, `judge`, `eco`, `climb`, `guide`, `make` and `trial`.
 #![tactic(auto)]
 
 ghost use Rattle.std.specs.Prelude.{◌≡◌, IsErr, IfOk};
