@@ -1,9 +1,11 @@
 //! Worked examples of the events of `load_core`.
 
+ghost use Rattle.load_core.specs.Events.{IsFit};
+
 use load_core::{Amounts, Core, Event, Party};
 use std::alloc::{AllocError, Global};
 use std::test::Fail;
-use test_rows::{agree, number_of, numbers_text, rows_of, two_fields, two_numbers};
+use test_rows::{agree, number_of, numbers_text, rows_of, three_fields, two_fields, two_numbers};
 
 /// A split, of which nothing of so many words is given.
 fn split(alloc: Global, party: u32, allot: u64, words: usize) -> Result<Event, AllocError> {
@@ -54,39 +56,56 @@ fn changing_of(name: &str, party: u32, numbers: &'static str) -> Result<Event, F
     }
 }
 
-fn events_of(alloc: Global, table: &'static str, words: usize) -> Result<Vec<Event>, Fail> {
+/// The events that a field lists, with a semicolon between two.
+fn events_of(alloc: Global, field: &'static str, words: usize) -> Result<Vec<Event>, Fail> {
     let mut events = Vec::new(alloc);
-    for row in rows_of(alloc, table)? {
-        events.push(event_of(alloc, row, words)?)?;
+    for event in field.split(';') {
+        events.push(event_of(alloc, event, words)?)?;
     }
     Ok(events)
 }
 
-fn first_of(amounts: &Amounts) -> Result<u64, Fail> {
-    Ok(*amounts.list().first().ok_or("a word")?)
+/// Whether a party is live, its allotment, its shares, its last values, and the values that it loaded.
+fn party_text(alloc: Global, party: &Party) -> Result<String, AllocError> {
+    let mut numbers = Vec::new(alloc);
+    numbers.push(u64::from(party.live))?;
+    numbers.push(party.allot)?;
+    numbers.extend_from_slice(party.shares.list())?;
+    numbers.extend_from_slice(party.last.list())?;
+    for load in party.history.list() {
+        numbers.push(load.value)?;
+    }
+    numbers_text(alloc, &numbers)
 }
 
-/// What is known of a core of one word: whether the last event was made, the word, and the allotment, the share and the last
-/// value of party 0.
-fn state_text(alloc: Global, made: bool, core: &Core) -> Result<String, Fail> {
-    let party = core.parties.list().first().ok_or("a party")?;
-    let (share, last) = (first_of(&party.shares)?, first_of(&party.last)?);
-    let numbers = [
-        u64::from(made),
-        first_of(&core.words)?,
-        party.allot,
-        share,
-        last,
-    ];
-    Ok(numbers_text(alloc, numbers.as_slice())?)
+/// How many events were made, the words, and what is known of each party.
+fn state_text(alloc: Global, made: u32, core: &Core) -> Result<String, AllocError> {
+    let mut text = made.to_string(alloc)?;
+    text.push_str(numbers_text(alloc, core.words.list())?.as_str())?;
+    for party in core.parties.list() {
+        text.push_str(";")?;
+        text.push_str(party_text(alloc, party)?.as_str())?;
+    }
+    Ok(text)
 }
 
-/// Half of the allotment goes to party 1, which adds 5; party 0 loads, takes away what it hasn't, and takes party 1 in.
-const STEPS: &str = "split 0 2305843009213693952| 1 0 2305843009213693952 0 0
-add 1 0 5| 1 5 2305843009213693952 0 0
-load 0 0| 1 5 2305843009213693952 0 5
-sub 0 0 1| 0 5 2305843009213693952 0 5
-join 0 1| 1 5 4611686018427387904 5 5";
+/// What is known after one more event.
+fn step_text(alloc: Global, core: &mut Core, field: &'static str) -> Result<String, Fail>
+    requires { IsFit core.old }
+    ensures { IsFit core.new }
+{
+    let made = core.step(&event_of(alloc, field, 1)?)?;
+    Ok(state_text(alloc, u32::from(made), core)?)
+}
+
+/// An event on a core of one word, and what is known behind it. Half of the allotment goes to party 1, which adds 5; party 0
+/// loads, takes away what it hasn't, and takes party 1 in.
+const STEPS: &str =
+    "split 0 2305843009213693952|1 0; 1 2305843009213693952 0 0; 1 2305843009213693952 0 0
+add 1 0 5|1 5; 1 2305843009213693952 0 0; 1 2305843009213693952 5 0
+load 0 0|1 5; 1 2305843009213693952 0 5 5; 1 2305843009213693952 5 0
+sub 0 0 1|0 5; 1 2305843009213693952 0 5 5; 1 2305843009213693952 5 0
+join 0 1|1 5; 1 4611686018427387904 5 5 5; 0 0 0 0";
 
 #[test]
 fn words_and_shares_move_together_step_by_step(rt: HostRuntime) -> Result<(), Fail> {
@@ -94,84 +113,68 @@ fn words_and_shares_move_together_step_by_step(rt: HostRuntime) -> Result<(), Fa
     let mut core = Core::new(alloc, 1)?;
     for row in rows_of(alloc, STEPS)? {
         let (event, wanted) = two_fields(row)?;
-        let made = core.step(&event_of(alloc, event, 1)?)?;
-        agree(row, state_text(alloc, made, &core)?.as_str(), wanted)?;
+        agree(row, step_text(alloc, &mut core, event)?.as_str(), wanted)?;
     }
     Ok(())
 }
 
-/// The events of these steps.
-const RUN: &str = "split 0 2305843009213693952
-add 1 0 5
-load 0 0
-sub 0 0 1
-join 0 1";
+/// The core of so many words behind those of the events that are made, and how many these are, of so many events.
+fn ran(alloc: Global, words: u32, count: u32, events: &[Event]) -> Result<(Core, u32), Fail> {
+    if events.len() != count as usize {
+        return Err(Fail::new("another number of events"));
+    }
+    let mut core = Core::new(alloc, words)?;
+    let made = core.run(events)?;
+    Ok((core, made))
+}
+
+/// What is known behind those of so many events that are made.
+fn run_text(alloc: Global, words: u32, count: u32, field: &'static str) -> Result<String, Fail> {
+    let events = events_of(alloc, field, words as usize)?;
+    let (core, made) = ran(alloc, words, count, &events)?;
+    Ok(state_text(alloc, made, &core)?)
+}
+
+/// How many words and events there are, the events, and what is known behind those before the first that is not lawful: the
+/// fourth of the steps above, and the last on a party that was taken in. A join appends the history and leaves nothing.
+const RUNS: &str =
+    "1 5|split 0 2305843009213693952;add 1 0 5;load 0 0;sub 0 0 1;join 0 1|3 5; 1 2305843009213693952 0 5 5; 1 2305843009213693952 5 0
+2 7|split 0 7;add 1 1 7;load 1 1;sub 1 1 3;load 0 1;join 0 1;load 1 0|6 0 4; 1 4611686018427387904 0 4 0 4 4 7; 0 0 0 0 0 7";
 
 #[test]
 fn a_run_stops_before_the_first_event_that_is_not_lawful(rt: HostRuntime) -> Result<(), Fail> {
-    let alloc = rt.alloc();
-    let mut core = Core::new(alloc, 1)?;
-    let events = events_of(alloc, RUN, 1)?;
-    assert!(rt; events.len() == 5);
-    assert!(rt; core.run(&events)? == 3 && core.parties.list().len() == 2);
-    agree(
-        "after three events",
-        state_text(alloc, true, &core)?.as_str(),
-        " 1 5 2305843009213693952 0 5",
-    )
-}
-
-/// Whether a party is live, its allotment, and the values that it loaded.
-fn party_text(alloc: Global, party: &Party) -> Result<String, AllocError> {
-    let mut numbers = Vec::new(alloc);
-    numbers.push(u64::from(party.live))?;
-    numbers.push(party.allot)?;
-    for load in party.history.list() {
-        numbers.push(load.value)?;
-    }
-    numbers_text(alloc, &numbers)
-}
-
-/// The last of these events is not lawful, since the party was taken in.
-const JOINED: &str = "split 0 7
-add 1 1 7
-load 1 1
-sub 1 1 3
-load 0 1
-join 0 1
-load 1 0";
-
-#[test]
-fn a_join_appends_the_history_and_leaves_nothing(rt: HostRuntime) -> Result<(), Fail> {
-    let alloc = rt.alloc();
-    let mut core = Core::new(alloc, 2)?;
-    let events = events_of(alloc, JOINED, 2)?;
-    assert!(rt; events.len() == 7);
-    assert!(rt; core.run(&events)? == 6);
-    for (party, wanted) in core
-        .parties
-        .list()
-        .iter()
-        .zip([" 1 4611686018427387904 4 7", " 0 0"])
-    {
-        agree(wanted, party_text(alloc, party)?.as_str(), wanted)?;
+    for row in rows_of(rt.alloc(), RUNS)? {
+        let (sizes, events, wanted) = three_fields(row)?;
+        let (words, count) = two_numbers(sizes)?;
+        let found = run_text(rt.alloc(), words, count, events)?;
+        agree(row, found.as_str(), wanted)?;
     }
     Ok(())
+}
+
+/// A load of each word, a split, and a join by which the new party takes the first one in.
+fn many_events(alloc: Global, words: u32) -> Result<Vec<Event>, Fail> {
+    let mut events = Vec::new(alloc);
+    for word in 0..words {
+        events.push(Event::Load { party: 0, word })?;
+    }
+    events.push(split(alloc, 0, 7, words as usize)?)?;
+    events.push(Event::Join { into: 1, from: 0 })?;
+    Ok(events)
+}
+
+/// How many values the last party loaded.
+fn last_loads(core: &Core) -> usize {
+    match core.parties.list().last() {
+        Some(party) => party.history.list().len(),
+        None => 0,
+    }
 }
 
 #[test]
 fn thousands_of_words_are_loaded_split_and_joined(rt: HostRuntime) -> Result<(), Fail> {
-    let alloc = rt.alloc();
-    let mut events = Vec::new(alloc);
-    for word in 0..5000 {
-        events.push(Event::Load { party: 0, word })?;
-    }
-    events.push(split(alloc, 0, 7, 5000)?)?;
-    events.push(Event::Join { into: 1, from: 0 })?;
-    let mut core = Core::new(alloc, 5000)?;
-    assert!(rt; events.len() == 5002);
-    assert!(rt; core.run(&events)? == 5002);
-    let last = core.parties.list().last().ok_or("a party")?;
-    assert!(rt; last.history.list().len() == 5000);
+    let events = many_events(rt.alloc(), 5000)?;
+    let (core, made) = ran(rt.alloc(), 5000, 5002, &events)?;
+    assert!(rt; made == 5002 && last_loads(&core) == 5000);
     Ok(())
 }

@@ -3,37 +3,11 @@
 use grid_base::{Axis, Edge, NoMemory, Piece, Place, Size, Vertex, Via};
 use std::alloc::{AllocError, Global};
 use std::test::Fail;
-use test_rows::{
-    agree, piece_of, piece_text, rows_of, size_of, three_fields, two_fields, two_numbers,
-};
+use test_rows::{agree, number_of, piece_of, piece_text, rows_of, size_of, three_fields};
 
 // Three columns, two rows and two layers.
 fn small() -> Result<Size, Fail> {
     Ok(Size::new(3, 2, 2).ok_or("within the limits")?)
-}
-
-/// Columns, rows and layers, and whether there is such a grid.
-const SIZES: &str = "2048 2048 2|fits
-2048 2048 3|none
-1 1 1|fits
-1 1 0|none
-0 1 1|none
-1 0 1|none
-1 1 16|fits
-1 1 17|none
-8388608 1 1|fits
-8388609 1 1|none
-1 524288 16|fits
-65536 65536 1|none";
-
-#[test]
-fn the_limits_are_on_the_product_and_the_layers(rt: HostRuntime) -> Result<(), Fail> {
-    for row in rows_of(rt.alloc(), SIZES)? {
-        let (size, wanted) = two_fields(row)?;
-        let found = size_of(size)?.map_or("none", |_| "fits");
-        agree(row, found, wanted)?;
-    }
-    Ok(())
 }
 
 #[test]
@@ -63,32 +37,6 @@ fn an_edge_has_a_start_and_an_axis(rt: HostRuntime) {
     }
 }
 
-/// Edges and vias, and whether three columns, two rows and two layers have them.
-const PIECES: &str = "e2|piece
-e5|piece
-e20|piece
-v5|piece
-# past the last column, past the last row, no vertex, past the last layer
-e4|none
-e7|none
-e24|none
-v6|none";
-
-#[test]
-fn pieces_stop_at_the_border(rt: HostRuntime) -> Result<(), Fail> {
-    let size = small()?;
-    for row in rows_of(rt.alloc(), PIECES)? {
-        let (piece, wanted) = two_fields(row)?;
-        let found = if size.is_piece(piece_of(piece)?) {
-            "piece"
-        } else {
-            "none"
-        };
-        agree(row, found, wanted)?;
-    }
-    Ok(())
-}
-
 #[test]
 fn each_piece_has_its_ends(rt: HostRuntime) -> Result<(), Fail> {
     let size = small()?;
@@ -112,8 +60,57 @@ fn between(alloc: Global, size: Size, start: u32, end: u32) -> Result<String, Al
     }
 }
 
-/// Columns, rows and layers, two vertices, and the piece between them.
-const BETWEEN: &str = "3 2 2|1 2|e2
+/// Whether a grid has the piece, or what is between the vertices of these numbers. Without either the grid alone is asked for.
+fn found_in(alloc: Global, size: Size, asked: &'static str) -> Result<String, Fail> {
+    if asked.is_empty() {
+        return Ok(String::from_str(alloc, "fits")?);
+    }
+    if let Some((start, end)) = asked.split_once(' ') {
+        return Ok(between(alloc, size, number_of(start)?, number_of(end)?)?);
+    }
+    let found = if size.is_piece(piece_of(asked)?) {
+        "piece"
+    } else {
+        "none"
+    };
+    Ok(String::from_str(alloc, found)?)
+}
+
+/// What is found in the grid of this size, or that there is none.
+fn answer_of(alloc: Global, size: &'static str, asked: &'static str) -> Result<String, Fail> {
+    match size_of(size)? {
+        Some(size) => found_in(alloc, size, asked),
+        None => Ok(String::from_str(alloc, "no grid")?),
+    }
+}
+
+/// Columns, rows and layers, what is asked for, and the answer: whether there is such a grid, whether it has an edge or a via,
+/// or the piece between two vertices.
+const ANSWERS: &str = "# the limits are on the product and the layers
+2048 2048 2||fits
+2048 2048 3||no grid
+1 1 1||fits
+1 1 0||no grid
+0 1 1||no grid
+1 0 1||no grid
+1 1 16||fits
+1 1 17||no grid
+8388608 1 1||fits
+8388609 1 1||no grid
+1 524288 16||fits
+65536 65536 1||no grid
+# pieces stop at the border
+3 2 2|e2|piece
+3 2 2|e5|piece
+3 2 2|e20|piece
+3 2 2|v5|piece
+# past the last column, past the last row, no vertex, past the last layer
+3 2 2|e4|none
+3 2 2|e7|none
+3 2 2|e24|none
+3 2 2|v6|none
+# each piece is found between its ends
+3 2 2|1 2|e2
 3 2 2|2 1|e2
 3 2 2|2 5|e5
 3 2 2|5 2|e5
@@ -129,13 +126,10 @@ const BETWEEN: &str = "3 2 2|1 2|e2
 1 3 2|4 1|v1";
 
 #[test]
-fn each_piece_is_found_between_its_ends(rt: HostRuntime) -> Result<(), Fail> {
-    for row in rows_of(rt.alloc(), BETWEEN)? {
-        let (size, ends, wanted) = three_fields(row)?;
-        let size = size_of(size)?.ok_or("within the limits")?;
-        let (start, end) = two_numbers(ends)?;
-        let found = between(rt.alloc(), size, start, end)?;
-        agree(row, found.as_str(), wanted)?;
+fn grids_and_their_pieces_keep_to_the_limits_and_the_border(rt: HostRuntime) -> Result<(), Fail> {
+    for row in rows_of(rt.alloc(), ANSWERS)? {
+        let (size, asked, wanted) = three_fields(row)?;
+        agree(row, answer_of(rt.alloc(), size, asked)?.as_str(), wanted)?;
     }
     Ok(())
 }
