@@ -1,3 +1,5 @@
+pub mod Lacking
+pub mod Lowest
 pub mod Findings
 pub mod Found
 pub mod Changes

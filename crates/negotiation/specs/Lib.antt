@@ -4,11 +4,17 @@ pub use Rattle.tree_set.specs.Measures
 pub use Rattle.tree_set.specs.Routings
 pub use Rattle.routing_state.specs.States
 pub use Rattle.routing_state.specs.Totals
+pub mod BatchSizes
 pub mod Changes
+pub mod Due
 pub mod Given
+pub mod Lacking
 pub mod Limits
+pub mod LowestLayers
 pub mod Rerouted
 pub mod Searches
 pub mod Settings
+pub mod Spreads
 pub mod Steps
 pub mod Tools
+pub mod Work

@@ -1,6 +1,7 @@
 //! How many nets are in a batch.
 
-ghost use Rattle.std.specs.Prelude.{◌<◌};
+ghost use Rattle.std.specs.Prelude.{◌≡◌, ◌<◌};
+ghost use Rattle.negotiation.specs.BatchSizes.{batch_size, pass_batch, round_batch};
 
 use crate::due::Due;
 
@@ -22,13 +23,16 @@ const BATCHES_OF_ROUND: usize = 16;
 
 /// How many nets are in a batch of a pass over a design with so many nets.
 pub(crate) fn pass_batch(nets: usize) -> usize
-    ensures { 0 < result }
+    ensures some { 0 < result }
+    ensures size { result ≡ pass_batch nets }
 {
     (nets / NETS_PER_PLACE).max(LEAST).min(MOST)
 }
 
 /// How many nets are in a batch of a round in which so many of the nets may be due.
-fn round_batch(nets: usize, may_be_due: usize) -> usize {
+fn round_batch(nets: usize, may_be_due: usize) -> usize
+    ensures { result ≡ round_batch nets may_be_due }
+{
     (may_be_due / BATCHES_OF_ROUND)
         .min(nets / NETS_PER_RIVAL)
         .min(MOST_RIVALS)
@@ -36,7 +40,9 @@ fn round_batch(nets: usize, may_be_due: usize) -> usize {
 }
 
 /// How many nets are in a batch, of so many that may be due.
-pub(crate) fn batch_size(nets: usize, may_be_due: usize, due: Due) -> usize {
+pub(crate) fn batch_size(nets: usize, may_be_due: usize, due: Due) -> usize
+    ensures { result ≡ batch_size nets may_be_due due }
+{
     match due {
         Due::Overfull => round_batch(nets, may_be_due),
         Due::Improvable => pass_batch(nets),

@@ -11,8 +11,15 @@ pub(crate) struct LowestLayers {
 }
 
 impl LowestLayers {
+    ghost use Rattle.std.specs.Prelude.{◌≡◌, min};
+    ghost use Rattle.grid_base.specs.declared.axis.Axis.TheVariants.{X, Y};
+    ghost use Rattle.negotiation.specs.LowestLayers.{IsLowestLayer};
+
     /// Those of a grid.
-    pub fn of(grid: &Grid) -> LowestLayers {
+    pub fn of(grid: &Grid) -> LowestLayers
+        ensures along_x { IsLowestLayer grid.now X result.along_x }
+        ensures along_y { IsLowestLayer grid.now Y result.along_y }
+    {
         let size = grid.size();
         let mut lowest = LowestLayers {
             along_x: size.layers(),
@@ -28,7 +35,10 @@ impl LowestLayers {
     }
 
     /// With an open edge along the axis on this layer.
-    fn with(self, axis: Axis, layer: u32) -> LowestLayers {
+    fn with(self, axis: Axis, layer: u32) -> LowestLayers
+        ensures along_x { axis ≡ X → result ≡ record self { along_x = min self.along_x layer } }
+        ensures along_y { axis ≡ Y → result ≡ record self { along_y = min self.along_y layer } }
+    {
         let LowestLayers { along_x, along_y } = self;
         match axis {
             Axis::X => LowestLayers {

@@ -22,12 +22,14 @@ pub(crate) struct RoundPrices {
 }
 
 impl RoundPrices {
-    ghost use Rattle.std.specs.Prelude.{◌≡◌, IfOk, length};
-    ghost use Rattle.grid_graph.specs.Grids.{edge_numbers};
+    ghost use Rattle.std.specs.Prelude.{◌≡◌, [], IfOk, length};
+    ghost use Rattle.grid_graph.specs.Flat.{tiles};
+    ghost use Rattle.grid_graph.specs.Grids.{edge_numbers, size_of};
 
     /// No edge has a price.
     pub fn none(alloc: Global, grid: &Grid) -> Result<RoundPrices, NoMemory>
         ensures long { IfOk result (λ made. length made.prices.items ≡ edge_numbers grid.now) }
+        ensures landmark { IfOk result (λ made. made.landmark.items ≡ []) }
     {
         let numbers = 2 * grid.size().vertices();
         Ok(RoundPrices {
@@ -44,7 +46,9 @@ impl RoundPrices {
     }
 
     /// The distance of each tile from the first one; none before the first round.
-    pub fn landmark(&self) -> &[u32] {
+    pub fn landmark(&self) -> &[u32]
+        ensures { result.now ≡ self.now.landmark.items }
+    {
         self.landmark.as_slice()
     }
 
@@ -53,6 +57,7 @@ impl RoundPrices {
         requires long { length self.old.prices.items ≡ edge_numbers grid.now }
         requires rooms { length rooms.now ≡ edge_numbers grid.now }
         ensures long { length self.new.prices.items ≡ edge_numbers grid.now }
+        ensures landmark { IfOk result (λ _. length self.new.landmark.items ≡ tiles (size_of grid.now)) }
     {
         move_prices(self.prices.as_mut_slice(), rooms);
         landmark_distances(grid, self.prices.as_slice(), Vertex(0), &mut self.landmark)

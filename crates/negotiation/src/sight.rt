@@ -22,8 +22,10 @@ pub(crate) struct Sight<'a> {
 const WORK_ON_NET: u64 = 8;
 
 impl Sight<'_> {
-    ghost use Rattle.std.specs.Prelude.{◌<◌, IfOk, length};
+    ghost use Rattle.std.specs.Prelude.{◌≡◌, ◌<◌, ◌-◌, ◌^◌, IfOk, length, min};
+    ghost use Rattle.std.specs.List.{sum_by};
     ghost use Rattle.negotiation.specs.Searches.{ArePlaces, IsFoundFor, IsSight};
+    ghost use Rattle.negotiation.specs.Work.{work_on_net};
 
     /// A new set for the net at this place, where one is found. After the start the very set that the net has counts as none:
     /// putting it in would change nothing.
@@ -43,6 +45,7 @@ impl Sight<'_> {
     pub fn work_on(&self, nets: &[u32]) -> u64
         requires sight { IsSight self.now }
         requires nets { ArePlaces self.now.design.now nets.now }
+        ensures { result ≡ min (sum_by (work_on_net self.now) nets.now) (2 ^ 64 - 1) }
     {
         let mut work: u64 = 0;
         for net in nets {
@@ -55,6 +58,7 @@ impl Sight<'_> {
     fn work_on_net(&self, net: u32) -> u64
         requires sight { IsSight self.now }
         requires net { net < length self.now.design.now.nets }
+        ensures { result ≡ min (work_on_net self.now net) (2 ^ 64 - 1) }
     {
         (self.trees[net as usize].pieces().len() as u64).saturating_add(WORK_ON_NET)
     }

@@ -35,10 +35,14 @@ pub(crate) struct Tools {
 }
 
 impl Tools {
-    ghost use Rattle.std.specs.Prelude.{◌≡◌, ◌≤◌, ◌<◌, IfOk, length};
+    ghost use Rattle.std.specs.Prelude.{◌≡◌, ◌≤◌, ◌<◌, ◌↔◌, IfOk, IsTrue, List, length, slice_index_or};
+    ghost use Rattle.grid_base.specs.declared.piece.Piece.{Piece};
     ghost use Rattle.grid_graph.specs.declared.design.Design.{Design as DesignOf};
     ghost use Rattle.grid_graph.specs.Grounds.{AreGrounds};
-    ghost use Rattle.routing_state.specs.States.{IsStateOf};
+    ghost use Rattle.tree_set.specs.Loads.{load};
+    ghost use Rattle.routing_state.specs.States.{IsStateOf, trees_of};
+    ghost use Rattle.negotiation.specs.declared.extent.Extent.{Extent as ExtentOf};
+    ghost use Rattle.negotiation.specs.Due.{IsDue};
     ghost use Rattle.negotiation.specs.Searches.{AreFound, ArePlaces};
     ghost use Rattle.negotiation.specs.Tools.{AreToolsFor};
 
@@ -130,6 +134,8 @@ impl Tools {
         requires tools { AreToolsFor design.now self.now }
         requires state { IsStateOf design.now state.now }
         requires net { net < length design.now.nets }
+        ensures { (tree : List Piece) (extent : ExtentOf) → tree ≡ slice_index_or (trees_of state.now) net tree → extent ≡ slice_index_or self.now.extents.items net extent
+            → IsTrue result ↔ IsDue design.now.grid (load design.now.grid design.now.nets (trees_of state.now)) extent.least due tree }
     {
         due == Due::Improvable && state.trees()[net].pieces().len() as u64 > self.extents[net].least
             || holds_overfull(design, state, net)
