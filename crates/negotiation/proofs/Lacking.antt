@@ -1,5 +1,5 @@
 -- A set that holds an overfull edge has less than no room on a piece, as narrow rooms tell it too.
-use Rattle.std.proofs.Common.{◌≡◌, ℕ, List, Contains, sym, subst, arith, ℤ, pos, negsuc, ◌<ℤ◌, map}
+use Rattle.std.proofs.Common.{ℕ, List, sym, subst, arith, ℤ, pos, negsuc, ◌<ℤ◌, map}
 use Rattle.std.specs.List.{Any}
 use Rattle.std.proofs.lemmas.Int.{ints}
 use Rattle.std.proofs.Math.ListN.{get_or-map}

@@ -1,12 +1,11 @@
 -- How far the terminals of a net are spread, and how far it reaches.
-use Rattle.std.specs.Prelude.{ℕ, ◌≡◌, ◌+◌, ◌-◌, ◌%◌, ◌<◌, ◌↔◌, if◌then◌else◌, leb, ltb, ◌^◌, List, Contains, length, map, max, min, slice_index_or, sum}
+use Rattle.std.specs.Prelude.{ℕ, ◌≡◌, ◌+◌, ◌-◌, ◌↔◌, if◌then◌else◌, leb, ltb, ◌^◌, List, Contains, length, map, max, min, slice_index_or, sum}
 use Rattle.std.specs.List.{fold, range_with_len}
 use Rattle.std.specs.List.Sorted.{IsStrictlyIncreasing}
 use Rattle.grid_base.specs.declared.size.Size.{Size}
 use Rattle.grid_base.specs.declared.vertex.Vertex.{Vertex}
 use Rattle.grid_base.specs.Numbers.{col_of, layer_of, layers, row_of}
 use Rattle.grid_graph.specs.Flat.{tile_of}
-use Rattle.negotiation.specs.declared.extent.Extent.{Extent}
 use Rattle.negotiation.specs.declared.lowest_layers.LowestLayers.{LowestLayers}
 use Rattle.negotiation.specs.declared.spread.Spread.{Spread}
 
