@@ -1,1 +1,4 @@
+pub mod EndPlaces
 pub mod EndSets
+pub mod Merging
+pub mod Numbered

@@ -1,12 +1,17 @@
 -- Nets in bundles.
-use Rattle.std.specs.Prelude.{ℕ, ◌+◌, ◌-◌, ◌*◌, ◌/◌, ◌^◌, ◌==◌, List, [], ◌∷◌, cond, drop, suc}
+use Rattle.std.specs.Prelude.{ℕ, ◌≡◌, ◌≢◌, ◌<◌, ◌+◌, ◌-◌, ◌*◌, ◌/◌, ◌^◌, ◌==◌, List, [], ◌∷◌, cond, drop, slice_index, suc}
 use Rattle.std.specs.List.{sum_by}
 use Rattle.tile_graphs.specs.declared.bundles.Bundle.{Bundle}
+use Rattle.tile_graphs.specs.declared.ends.Ends.{Ends}
 use Rattle.tile_graphs.specs.Fullness.{in_word}
 
 -- stands for no node
 abbrev pub no_end : ℕ
 no_end = 2 ^ 32 - 1
+
+-- each place before this one has a node, which is another one
+abbrev pub AreOthersBefore : List ℕ → ℕ → ℕ → Type 0
+AreOthersBefore nodes node place = (k : ℕ) → k < place → (slice_index nodes k ≢ node) × (slice_index nodes k ≢ no_end)
 
 -- how many nodes stand before the first place of no node
 abbrev pub ends_before_none : List ℕ → ℕ
@@ -20,6 +25,10 @@ sets_of_ends nodes = 2 ^ ends_before_none (drop 1 nodes)
 -- what all bundles use together
 abbrev pub demand_of_bundles : List Bundle → ℕ
 demand_of_bundles bundles = sum_by (λ b. b.demand) bundles
+
+-- whatever a tree costs that joins such ends, the bundles cost together as much as the others do
+abbrev pub CostAlike : List Bundle → List Bundle → Type 0
+CostAlike bundles others = (cost : Ends → ℕ) → sum_by (λ b. cost b.ends * b.demand) bundles ≡ sum_by (λ b. cost b.ends * b.demand) others
 
 -- how often a least tree of a bundle looks at links and at labels of nodes
 abbrev pub looks_of_bundle : ℕ → ℕ → Bundle → ℕ

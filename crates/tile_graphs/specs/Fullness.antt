@@ -1,5 +1,5 @@
 -- How full tile edges are: what their edges carry, and what they can carry. A sum ends at the greatest number of 64 bits.
-use Rattle.std.specs.Prelude.{ℕ, ◌+◌, ◌-◌, ◌*◌, ◌/◌, ◌^◌, ◌&&◌, Bool, ltb, leb, min}
+use Rattle.std.specs.Prelude.{ℕ, ◌+◌, ◌-◌, ◌*◌, ◌/◌, ◌^◌, ◌==◌, ◌&&◌, ◌||◌, Bool, cond, ltb, leb, min}
 use Rattle.tile_graphs.specs.declared.tile_use.TileTotal.{TileTotal}
 
 -- a number of 64 bits: the greatest one in place of each that is greater
@@ -33,3 +33,11 @@ is_above level total = ltb (total.capacity * level) (total.load * just_full)
 -- there is capacity, and it is filled to a level at least
 abbrev pub is_filled_to : ℕ → TileTotal → Bool
 is_filled_to level total = ltb 0 total.capacity && leb level (fullness_of total)
+
+-- the first one is fuller, where one without capacity is less full than each that has some
+abbrev pub is_fuller_than : TileTotal → TileTotal → Bool
+is_fuller_than one other = ltb 0 one.capacity && ((other.capacity == 0) || ltb (fullness_of other) (fullness_of one))
+
+-- the fuller one of two, and the first one where none is
+abbrev pub fuller_of : TileTotal → TileTotal → TileTotal
+fuller_of one other = cond (is_fuller_than other one) other one

@@ -1,5 +1,7 @@
 pub mod Bundles
+pub mod Cuts
 pub mod Fullness
 pub mod Links
 pub mod TileEdges
 pub mod TileNets
+pub mod Uses

@@ -1,8 +1,8 @@
 //! Nets in bundles.
 
-ghost use Rattle.std.specs.Prelude.{◌≡◌, ◌≤◌, All};
+ghost use Rattle.std.specs.Prelude.{◌≡◌, ◌<◌, ◌≤◌, ◌^◌, ℕ, All, IfOk};
 ghost use Rattle.std.specs.List.{sum_by};
-ghost use Rattle.tile_graphs.specs.Bundles.{demand_of_bundles, looks_of_bundle, sets_of_ends};
+ghost use Rattle.tile_graphs.specs.Bundles.{CostAlike, demand_of_bundles, looks_of_bundle, sets_of_ends};
 ghost use Rattle.tile_graphs.specs.Fullness.{in_word};
 
 use crate::ends::Ends;
@@ -32,9 +32,10 @@ pub fn total_demand(bundles: &[Bundle]) -> u64
 
 /// The most sets of ends that a bundle has.
 pub fn most_sets(bundles: &[Bundle]) -> u32
-    ensures { All (λ b. sets_of_ends b.ends.nodes ≤ result) bundles.now }
+    ensures within { All (λ b. sets_of_ends b.ends.nodes ≤ result) bundles.now }
+    ensures least { (n : ℕ) → All (λ b. sets_of_ends b.ends.nodes ≤ n) bundles.now → result ≤ n }
 {
-    let mut most = 0;
+    let mut most: u32 = 0;
     for bundle in bundles {
         most = most.max(bundle.ends.sets());
     }
@@ -57,24 +58,29 @@ pub(crate) fn looks_of(bundles: &[Bundle], links: u64, nodes: u64) -> u64
 }
 
 /// Neighbours with the same ends in one bundle, as long as it is small.
-pub(crate) fn merged(alloc: Global, singles: &[Bundle]) -> Result<Vec<Bundle>, NoMemory> {
+pub(crate) fn merged(alloc: Global, singles: &[Bundle]) -> Result<Vec<Bundle>, NoMemory>
+    ensures { IfOk result (λ bundles. demand_of_bundles singles.now < 2 ^ 64 → CostAlike bundles.items singles.now) }
+{
     let most = total_demand(singles) / PARTS;
     let mut bundles = Vec::new(alloc);
     let mut last: Option<Bundle> = None;
     for single in singles {
-        match last {
-            Some(open) if open.ends == single.ends && open.demand < most => {
-                last = Some(Bundle {
-                    ends: open.ends,
-                    demand: open.demand.saturating_add(single.demand),
-                });
+        last = Some(match last {
+            Some(bundle) if bundle.ends == single.ends && bundle.demand < most => {
+                Bundle {
+                    ends: bundle.ends,
+                    demand: bundle.demand.saturating_add(single.demand),
+                }
             }
-            done => {
-                bundles.extend(done)?;
-                last = Some(*single);
+            Some(bundle) => {
+                bundles.push(bundle)?;
+                *single
             }
-        }
+            None => *single,
+        });
     }
-    bundles.extend(last)?;
+    if let Some(bundle) = last {
+        bundles.push(bundle)?;
+    }
     Ok(bundles)
 }

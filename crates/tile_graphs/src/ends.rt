@@ -1,7 +1,8 @@
 //! The nodes that a net has to join.
 
-ghost use Rattle.std.specs.Prelude.{◌≡◌, ◌≢◌, ◌↔◌, IsTrue, slice_index};
-ghost use Rattle.tile_graphs.specs.Bundles.{no_end, sets_of_ends};
+ghost use Rattle.std.specs.Prelude.{◌≡◌, ◌≢◌, ◌↔◌, ◌<◌, ℕ, IsPermutation, IsTrue, length, slice_index, slice_set};
+ghost use Rattle.std.specs.List.Sorted.{IsNonDecreasing};
+ghost use Rattle.tile_graphs.specs.Bundles.{AreOthersBefore, no_end, sets_of_ends};
 
 /// Stands for no node.
 const NO_NODE: u32 = u32::MAX;
@@ -22,7 +23,15 @@ impl Ends {
     };
 
     /// With one node more, where it is new and there is room.
-    pub fn with(self, node: u32) -> Ends {
+    pub fn with(self, node: u32) -> Ends
+        ensures known { (place : ℕ) → place < length self.nodes → AreOthersBefore self.nodes node place
+            → slice_index self.nodes place ≡ node → result ≡ self }
+        ensures full { AreOthersBefore self.nodes node (length self.nodes) → result ≡ self }
+        ensures new { (place : ℕ) → place < length self.nodes → AreOthersBefore self.nodes node place
+            → slice_index self.nodes place ≡ no_end → node ≢ no_end → IsPermutation (slice_set self.nodes place node) result.nodes }
+        ensures rising { (place : ℕ) → place < length self.nodes → AreOthersBefore self.nodes node place
+            → slice_index self.nodes place ≡ no_end → node ≢ no_end → IsNonDecreasing result.nodes }
+    {
         let mut nodes = self.nodes;
         for place in 0..MOST_ENDS {
             if nodes[place] == node {

@@ -116,7 +116,9 @@ pub(crate) fn touching_regions(
 
 /// The place of the greatest of so many numbers, the first one at a tie.
 fn place_of_greatest(numbers: &[u32], count: u32) -> u32
-    ensures { 0 < count → result < count }
+    ensures within { 0 < count → result < count }
+    ensures greatest { (k : ℕ) → k < count → slice_index numbers.now k ≤ slice_index numbers.now result }
+    ensures first { (k : ℕ) → k < result → slice_index numbers.now k < slice_index numbers.now result }
 {
     let mut place = 0;
     let mut greatest = 0;

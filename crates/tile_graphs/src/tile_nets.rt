@@ -1,7 +1,7 @@
 //! Nets by their tiles.
 
-ghost use Rattle.std.specs.Prelude.{◌≡◌, ◌<◌, ◌≤◌, ◌+◌, All, IfOk, OnOk, length, slice_range};
-ghost use Rattle.tile_graphs.specs.TileNets.{HasTiles};
+ghost use Rattle.std.specs.Prelude.{◌≡◌, ◌<◌, ◌≤◌, ◌+◌, All, IfOk, OnOk, length};
+ghost use Rattle.tile_graphs.specs.TileNets.{HasTiles, listed_tiles};
 
 use grid_base::{Edge, NoMemory};
 use grid_graph::Design;
@@ -47,7 +47,7 @@ impl TileNets {
 
     /// The tiles of a net, each once.
     pub fn tiles_of(&self, net: TileNet) -> &[u32]
-        ensures { HasTiles self.now.tiles.items net → result.now ≡ slice_range self.now.tiles.items net.first net.past }
+        ensures { result.now ≡ listed_tiles self.now.tiles.items net }
     {
         match self.tiles.as_slice().get(net.first..net.past) {
             Some(tiles) => tiles,

@@ -1,9 +1,12 @@
 //! How full tile edges are.
 
-ghost use Rattle.std.specs.Prelude.{◌≡◌, ◌*◌, ◌<◌, ◌≤◌, ◌↔◌, ◌⊎◌, IfOk, IsTrue, SomeIff, length, map};
+ghost use Rattle.std.specs.Prelude.{◌≡◌, ◌*◌, ◌<◌, ◌↔◌, IfOk, IsPermutation, IsTrue, SomeIff, false, fold, length, map, replicate, take};
+ghost use Rattle.std.specs.List.{enumerate_from, flat_map};
+ghost use Rattle.std.specs.List.Sorted.{IsSorted};
 ghost use Rattle.grid_graph.specs.Flat.{tiles};
 ghost use Rattle.grid_graph.specs.Grids as grids;
-ghost use Rattle.tile_graphs.specs.Fullness.{excess_of, fullness_of, is_above, is_filled_to, with_more};
+ghost use Rattle.tile_graphs.specs.Fullness.{excess_of, fuller_of, fullness_of, is_above, is_filled_to, with_more};
+ghost use Rattle.tile_graphs.specs.Uses.{in_turn, most_tile_edges, use_of, with_mark};
 
 use crate::numbers::tile_edges;
 use grid_base::{Edge, NoMemory};
@@ -69,9 +72,7 @@ impl TileTotal {
 
     /// The fuller one of two.
     pub fn fuller(self, other: TileTotal) -> TileTotal
-        ensures one { (result ≡ self) ⊎ (result ≡ other) }
-        ensures first { 0 < self.capacity → 0 < other.capacity → fullness_of self ≤ fullness_of result }
-        ensures second { 0 < self.capacity → 0 < other.capacity → fullness_of other ≤ fullness_of result }
+        ensures { result ≡ fuller_of self other }
     {
         if other.fullness() > self.fullness() {
             other
@@ -132,7 +133,7 @@ pub fn marks_by_count(
     count: usize,
     tile_edges: usize,
 ) -> Result<Vec<bool>, NoMemory>
-    ensures { IfOk result (λ marks. length marks.items ≡ tile_edges) }
+    ensures { IfOk result (λ marks. marks.items ≡ fold with_mark (replicate tile_edges false) (take count uses.now)) }
 {
     let mut marks = vec![in alloc; false; tile_edges]?;
     for used in uses.iter().take(count) {
@@ -144,7 +145,10 @@ pub fn marks_by_count(
 }
 
 /// The open tile edges by what counts for each of them, the fullest first.
-pub fn fullest_first(alloc: Global, totals: &[TileTotal]) -> Result<Vec<TileUse>, NoMemory> {
+pub fn fullest_first(alloc: Global, totals: &[TileTotal]) -> Result<Vec<TileUse>, NoMemory>
+    ensures all { IfOk result (λ uses. IsPermutation (flat_map use_of (enumerate_from 0 (take most_tile_edges totals.now))) uses.items) }
+    ensures sorted { IfOk result (λ uses. IsSorted in_turn uses.items) }
+{
     let mut uses = Vec::new(alloc);
     for (tile_edge, total) in (0..u32::MAX).zip(totals) {
         if let Some(fullness) = total.fullness() {

@@ -1,6 +1,7 @@
-use Rattle.std.proofs.Common.{◌≡◌, length}
+use Rattle.std.proofs.Common.{◌≡◌, false, fold, map, replicate}
+use Rattle.tile_graphs.specs.Uses.{with_mark}
 use Rattle.tile_graphs.proofs.tile_use.marks_by_count.Given as goal
 
--- there is a mark for each tile edge
+-- the tile edges so far are marked
 abbrev pub invariant-loop-used : goal.invariant-loop-used
-invariant-loop-used l = length l.marks.items ≡ l.tile_edges
+invariant-loop-used l = l.marks.items ≡ fold with_mark (replicate l.tile_edges false) (map (λ used. used.now) l.yielded)
