@@ -1,2 +1,4 @@
 pub mod Estimates
+pub mod Labels
 pub mod Offers
+pub mod Trials

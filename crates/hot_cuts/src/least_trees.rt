@@ -1,6 +1,8 @@
 //! Least trees on the graph of regions.
 
-ghost use Rattle.std.specs.Prelude.{◌≡◌, All, IfOk, length};
+ghost use Rattle.std.specs.Prelude.{◌≡◌, ◌-◌, All, IfOk, length, slice_index};
+ghost use Rattle.hot_cuts.specs.Labels.{label_at};
+ghost use Rattle.tile_graphs.specs.Bundles.{sets_of_ends};
 
 use grid_base::NoMemory;
 use std::alloc::Global;
@@ -78,7 +80,9 @@ impl LeastTrees {
     }
 
     /// What joining the ends costs at least at these prices of the links.
-    pub fn cost(&mut self, links: &[Link], prices: &[u64], ends: Ends) -> u64 {
+    pub fn cost(&mut self, links: &[Link], prices: &[u64], ends: Ends) -> u64
+        ensures { result ≡ (label_at self.new.rows.items (sets_of_ends ends.nodes - 1) (slice_index ends.nodes 0)).cost }
+    {
         self.fill_rows(links, prices, ends);
         self.label(ends.sets().saturating_sub(1), ends.nodes[0])
             .cost
@@ -130,7 +134,9 @@ impl LeastTrees {
     }
 
     /// The label of a node for a set of ends.
-    fn label(&self, set: u32, node: u32) -> Label {
+    fn label(&self, set: u32, node: u32) -> Label
+        ensures { result ≡ label_at self.now.rows.items set node }
+    {
         match self.rows.get(set as usize) {
             Some(row) => row.get(node as usize).copied().unwrap_or(Label::FAR),
             None => Label::FAR,

@@ -1,7 +1,8 @@
 //! What is tried on a part.
 
-ghost use Rattle.std.specs.Prelude.{◌≡◌, ◌≤◌, [], IfOk};
+ghost use Rattle.std.specs.Prelude.{◌≡◌, ◌≤◌, [], IfOk, map};
 ghost use Rattle.hot_cuts.specs.Estimates.{proved_excess};
+ghost use Rattle.hot_cuts.specs.Trials.{flat_price};
 
 use crate::market::Market;
 use crate::offers::Offer;
@@ -108,7 +109,9 @@ impl<'a> Trial<'a> {
 }
 
 /// The greatest price in place of each that is a quarter of it at least, and 0 in place of the others.
-fn flattened(alloc: Global, prices: &[u64]) -> Result<Vec<u64>, NoMemory> {
+fn flattened(alloc: Global, prices: &[u64]) -> Result<Vec<u64>, NoMemory>
+    ensures { IfOk result (λ flat. flat.items ≡ map flat_price prices.now) }
+{
     let greatest = u64::from(MAX_PRICE);
     let mut flat = Vec::new(alloc);
     for price in prices {
