@@ -3,14 +3,16 @@
 ghost use Rattle.std.specs.Prelude.{All, IsTrue};
 ghost use Rattle.tree_set.specs.Routings.{ArePieces};
 
+use crate::draws::holds_for;
 use crate::known::are_pieces;
 use crate::piece_sets::{all_pieces, chosen};
 use crate::plain_covering::covers_plainly;
-use grid_base::Size;
+use grid_base::{Piece, Size};
 use grid_graph::{Design, Name};
 use guide_text::{Guide, Rect, Rects, covers, guides_of, is_near};
 use std::alloc::Global;
 use std::test::Fail;
+use test_rows::{number_of, rows_of, two_fields};
 use tree_set::Tree;
 use worked_designs::design_of;
 
@@ -43,6 +45,13 @@ fn is_covered(alloc: Global, design: &Design, tree: &Tree, guide: &Guide) -> Res
     Ok(covers(alloc, design, 0, tree, guide)?)
 }
 
+/// Some rectangles and one more.
+fn with_one(alloc: Global, some: &[Rect], one: Rect) -> Result<Vec<Rect>, Fail> {
+    let mut rects = Vec::from_slice(alloc, some)?;
+    rects.push(one)?;
+    Ok(rects)
+}
+
 /// Whether both ways say the same of a guide with some rectangles and one more.
 fn agree(
     alloc: Global,
@@ -52,14 +61,12 @@ fn agree(
     one: Rect,
 ) -> Result<bool, Fail> {
     let net = design.nets.list().first().ok_or("a net")?;
-    let mut rects = Vec::from_slice(alloc, some)?;
-    rects.push(one)?;
-    let plain = covers_plainly(&design.grid, net, tree, rects.as_slice());
     let guide = Guide {
         name: Name::of(Vec::new(alloc)),
         id: 0,
-        rects: Rects::of(rects),
+        rects: Rects::of(with_one(alloc, some, one)?),
     };
+    let plain = covers_plainly(&design.grid, net, tree, guide.rects.list());
     Ok(is_covered(alloc, design, tree, &guide)? == plain)
 }
 
@@ -97,37 +104,81 @@ fn guide_on(alloc: Global, design: &Design, trees: &[Tree]) -> Result<Guide, Fai
     Ok(guides_of(alloc, design, trees)?.pop().ok_or("a guide")?)
 }
 
-/// Whether the guide of the set covers its route, and both ways say the same of others that come near it.
-fn guides_agree(alloc: Global, design: &Design, tree: Tree, number: u32) -> Result<bool, Fail> {
-    let trees = [tree];
-    let guide = guide_on(alloc, design, &trees)?;
-    let tree = &trees[0];
-    let rects = guide.rects.list();
+/// Whether both ways say the same of guides with the rectangles of a guide, with those but the last one, and with one of 40
+/// others beside these.
+fn near_guides_agree(
+    alloc: Global,
+    design: &Design,
+    tree: &Tree,
+    rects: &[Rect],
+    number: u32,
+) -> Result<bool, Fail> {
     let (last, others) = rects.split_last().ok_or("a rectangle")?;
     Ok(
-        is_covered(alloc, design, tree, &guide)?
-            && agree(alloc, design, tree, others, *last)?
+        agree(alloc, design, tree, others, *last)?
             && agree(alloc, design, tree, rects, *last)?
             && all_agree(alloc, design, tree, rects, number)?
             && all_agree(alloc, design, tree, others, number)?,
     )
 }
 
+/// Whether the guide covers the route of the set, and both ways say the same of others that come near it.
+fn guide_agrees(
+    alloc: Global,
+    design: &Design,
+    tree: &Tree,
+    guide: &Guide,
+    number: u32,
+) -> Result<bool, Fail> {
+    Ok(
+        is_covered(alloc, design, tree, guide)?
+            && near_guides_agree(alloc, design, tree, guide.rects.list(), number)?,
+    )
+}
+
+/// Whether it is so for the guide of a set.
+fn guides_agree(alloc: Global, design: &Design, trees: &[Tree], number: u32) -> Result<bool, Fail> {
+    let guide = guide_on(alloc, design, trees)?;
+    match trees.first() {
+        Some(tree) => guide_agrees(alloc, design, tree, &guide, number),
+        None => Err(Fail::new("no set")),
+    }
+}
+
+/// Whether it is so for the set of a number.
+fn set_agrees(alloc: Global, design: &Design, pieces: &[Piece], number: u32) -> Result<bool, Fail> {
+    let trees = [chosen(alloc, pieces, number)?];
+    guides_agree(alloc, design, &trees, number)
+}
+
+/// Fails where it is not so for some of so many sets of a design's pieces.
+fn sets_agree(alloc: Global, design: &Design, sets: u32, row: &str) -> Result<(), Fail> {
+    let pieces = all_pieces(alloc, design.grid.size())?;
+    for number in 0..sets {
+        holds_for(set_agrees(alloc, design, &pieces, number)?, number, row)?;
+    }
+    Ok(())
+}
+
+/// The same, where a row tells the design and how many sets there are.
+fn row_agrees(alloc: Global, row: &'static str) -> Result<(), Fail> {
+    let (given, sets) = two_fields(row)?;
+    let sets = number_of(sets)?;
+    let design = design_of(alloc, given)?;
+    sets_agree(alloc, &design, sets, row)
+}
+
+/// The row with a second row, the stack with four tiles a layer, and the square, with how many sets their pieces have.
+const DESIGNS: &str = "ROW 7 8 2|128
+STACK 5 8 2 2|4096
+SQUARE|16";
+
 #[test]
 fn every_set_of_pieces_of_small_grids_is_covered_as_it_is_tile_by_tile(
     rt: HostRuntime,
 ) -> Result<(), Fail> {
-    // the row with a second row, the stack with four tiles a layer, and the square, with how many sets their pieces have
-    for (given, sets) in [("ROW 7 8 2", 128), ("STACK 5 8 2 2", 4096), ("SQUARE", 16)] {
-        let design = design_of(rt.alloc(), given)?;
-        let pieces = all_pieces(rt.alloc(), design.grid.size())?;
-        for number in 0..sets {
-            let tree = chosen(rt.alloc(), pieces.as_slice(), number)?;
-            assert!(rt;
-                guides_agree(rt.alloc(), &design, tree, number)?,
-                "set {number} of {given}"
-            );
-        }
+    for row in rows_of(rt.alloc(), DESIGNS)? {
+        row_agrees(rt.alloc(), row)?;
     }
     Ok(())
 }

@@ -26,6 +26,8 @@ mod covering_tests;
 #[cfg(test)]
 mod distance_tests;
 #[cfg(test)]
+mod draws;
+#[cfg(test)]
 mod known;
 #[cfg(test)]
 mod listed;

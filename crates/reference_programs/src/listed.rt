@@ -52,6 +52,15 @@ impl Listed {
     {
         are_positive(self.pieces.as_slice())
     }
+
+    /// What these pieces weigh together, where all of them are in the list.
+    pub(crate) fn weight_of(&self, pieces: &[Piece]) -> Option<u64> {
+        let mut total: u64 = 0;
+        for p in pieces {
+            total = total.wrapping_add(weight_in(self.pieces.as_slice(), *p)?);
+        }
+        Some(total)
+    }
 }
 
 impl Weights for Listed {

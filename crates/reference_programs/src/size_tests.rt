@@ -15,21 +15,33 @@ fn edges_to(alloc: Global, first: u32, end: u32) -> Result<Vec<Piece>, AllocErro
     Ok(edges)
 }
 
+/// Whether what is made of the edges to these tiles has all of them, and its copy too.
+fn are_copied(alloc: Global, first: u32, end: u32) -> Result<bool, Fail> {
+    let edges = edges_to(alloc, first, end)?;
+    let tree = Tree::of(Vec::from_slice(alloc, edges.as_slice())?);
+    let copied = tree.copy()?;
+    Ok(copied.pieces() == edges.as_slice())
+}
+
+/// Whether the edges to these tiles of a row join its ends.
+fn join_the_ends(alloc: Global, size: Size, first: u32, end: u32) -> Result<bool, Fail> {
+    let tree = Tree::of(edges_to(alloc, first, end)?);
+    let ends = [Vertex(0), Vertex(size.vertices() - 1)];
+    if !are_pieces(size, tree.pieces()) || !are_vertices(size, &ends) {
+        return Err(Fail::new("no piece or no vertex"));
+    }
+    Ok(joins(alloc, size, &tree, &ends)?)
+}
+
+/// Whether all edges of a row join its ends, and all but the first one don't.
+fn tell_apart(alloc: Global, size: Size) -> Result<bool, Fail> {
+    let end = size.vertices();
+    Ok(join_the_ends(alloc, size, 1, end)? && !join_the_ends(alloc, size, 2, end)?)
+}
+
 #[test]
 fn thousands_of_pieces_are_joined_and_copied(rt: HostRuntime) -> Result<(), Fail> {
-    let alloc = rt.alloc();
     let size = Size::new(9000, 1, 1).ok_or("size")?;
-    let edges = edges_to(alloc, 1, 9000)?;
-    let ends = [Vertex(0), Vertex(8999)];
-    let tree = Tree::of(Vec::from_slice(alloc, edges.as_slice())?);
-    let broken = Tree::of(edges_to(alloc, 2, 9000)?);
-    let copied = tree.copy()?;
-    assert_eq!(rt; copied.pieces(), edges.as_slice());
-    let known = are_pieces(size, tree.pieces())
-        && are_pieces(size, broken.pieces())
-        && are_vertices(size, ends.as_slice());
-    assert!(rt; known);
-    assert!(rt; joins(alloc, size, &tree, ends.as_slice())?);
-    assert!(rt; !joins(alloc, size, &broken, ends.as_slice())?);
+    assert!(rt; are_copied(rt.alloc(), 1, 9000)? && tell_apart(rt.alloc(), size)?);
     Ok(())
 }

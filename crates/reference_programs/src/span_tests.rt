@@ -7,6 +7,7 @@ ghost use Rattle.grid_graph.specs.Weighed.{IsAllowed};
 ghost use Rattle.shortest_paths.specs.LabelWords.{labels_size};
 
 use crate::distance_tests::drawn;
+use crate::draws::{grid_of, holds_for};
 use crate::known::{are_pieces, are_vertices};
 use crate::listed::Listed;
 use crate::reference_joins::joins_by_merging;
@@ -57,6 +58,12 @@ fn nearest(outside: &[Option<u64>]) -> Option<(usize, u64)> {
     found
 }
 
+/// How far a terminal outside a tree is from it when another one is taken in, from which it has this distance.
+fn nearer(away: u64, distances: &[Option<u64>], terminal: Vertex) -> u64 {
+    let other = distances.get(terminal.0 as usize).copied().flatten();
+    away.min(other.unwrap_or(u64::MAX))
+}
+
 /// How far the terminals outside a tree are from it when the one at this place is taken in.
 fn taken_in(
     alloc: Global,
@@ -67,13 +74,12 @@ fn taken_in(
 ) -> Result<Vec<Option<u64>>, NoMemory> {
     let mut left = Vec::new(alloc);
     for (place, away) in outside.iter().enumerate() {
-        let mut now = None;
-        if let (Some(away), Some(terminal)) = (*away, terminals.get(place)) {
-            if place != taken {
-                let other = distances.get(terminal.0 as usize).copied().flatten();
-                now = Some(away.min(other.unwrap_or(u64::MAX)));
+        let now = match (*away, terminals.get(place)) {
+            (Some(away), Some(terminal)) if place != taken => {
+                Some(nearer(away, distances, *terminal))
             }
-        }
+            _ => None,
+        };
         left.push(now)?;
     }
     Ok(left)
@@ -132,28 +138,42 @@ fn is_light(
     if !are_joined(alloc, weights, size, terminals)? {
         return Ok(true);
     }
-    let (tree, weight) = spanning_tree(weights, terminals, labels)?;
     let limit = reference_spanning_weight(alloc, weights, size, terminals)?;
+    let (tree, weight) = spanning_tree(weights, terminals, labels)?;
     Ok(weight <= limit && is_tree(alloc, weights, size, terminals, &tree, weight)?)
 }
 
-/// Columns, rows and layers.
-const SIZES: [(u32, u32, u32); 5] = [(3, 2, 1), (2, 2, 2), (6, 5, 1), (4, 3, 3), (5, 4, 2)];
+/// Whether it is so for weights and terminals that are drawn by a number.
+fn drawn_is_light(alloc: Global, size: Size, seed: u32, labels: &mut Labels) -> Result<bool, Fail>
+    requires labels { labels_size labels.old ≡ size }
+    ensures labels { labels_size labels.new ≡ size }
+{
+    let weights = drawn(alloc, size, seed, 1)?.ok_or("pieces")?;
+    let terminals = drawn_terminals(alloc, size, seed.wrapping_add(99), 2 + seed % 7)?;
+    is_light(alloc, &weights, size, terminals.as_slice(), labels)
+}
+
+/// Fails where it is not so for some draw on a grid of this size.
+fn all_are_light(alloc: Global, size: Size, labels: &mut Labels, field: &str) -> Result<(), Fail>
+    requires labels { labels_size labels.old ≡ size }
+{
+    for seed in 0..21 {
+        holds_for(drawn_is_light(alloc, size, seed, labels)?, seed, field)?;
+    }
+    Ok(())
+}
+
+/// The same with labels that all draws use one after another.
+fn grid_agrees(alloc: Global, field: &'static str) -> Result<(), Fail> {
+    let size = grid_of(field)?;
+    let mut labels = Labels::new(alloc, size, 1)?;
+    all_are_light(alloc, size, &mut labels, field)
+}
 
 #[test]
 fn no_spanning_tree_by_distances_is_lighter(rt: HostRuntime) -> Result<(), Fail> {
-    for (cols, rows, layers) in SIZES {
-        let size = Size::new(cols, rows, layers).ok_or("size")?;
-        let mut labels = Labels::new(rt.alloc(), size, 1)?;
-        for seed in 0..21 {
-            let weights = drawn(rt.alloc(), size, seed, 1)?.ok_or("pieces")?;
-            let terminals = drawn_terminals(rt.alloc(), size, seed + 99, 2 + seed % 7)?;
-            let at = terminals.as_slice();
-            assert!(rt;
-                is_light(rt.alloc(), &weights, size, at, &mut labels)?,
-                "seed {seed} of {cols} {rows} {layers}"
-            );
-        }
+    for field in "3 2 1,2 2 2,6 5 1,4 3 3,5 4 2".split(',') {
+        grid_agrees(rt.alloc(), field)?;
     }
     Ok(())
 }

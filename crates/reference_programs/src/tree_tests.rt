@@ -8,11 +8,11 @@ ghost use Rattle.steiner_tables.specs.Masks.{few_terminals};
 ghost use Rattle.steiner_exact.specs.TreeLabelWords.{AreTreeLabels};
 
 use crate::distance_tests::{drawn, mixed};
+use crate::draws::{grid_of, holds_for};
 use crate::known::{are_pieces, are_vertices};
 use crate::listed::Listed;
 use crate::reference_weights::reference_least_weight;
 use grid_base::{NoMemory, Size, Vertex};
-use grid_graph::Weights;
 use shortest_paths::Labels;
 use std::alloc::Global;
 use std::test::Fail;
@@ -69,14 +69,25 @@ pub(crate) fn is_tree(
     if !are_pieces(size, tree.pieces()) {
         return Ok(false);
     }
-    let mut total: u64 = 0;
-    for p in tree.pieces() {
-        if !weights.allows(*p) {
-            return Ok(false);
-        }
-        total = total.wrapping_add(weights.weight(*p));
+    Ok(weights.weight_of(tree.pieces()) == Some(weight) && joins(alloc, size, tree, terminals)?)
+}
+
+/// Whether the lightest of all sets weighs so much, where they are tried.
+fn sets_agree(
+    alloc: Global,
+    weights: &Listed,
+    size: Size,
+    terminals: &[Vertex],
+    expected: Option<u64>,
+) -> Result<bool, NoMemory>
+    requires size { weights.now.size ≡ size }
+    requires terminals { All (λ v. IsVertex size v.0) terminals.now }
+{
+    let pieces = weights.pieces();
+    if pieces.len() > FEW {
+        return Ok(true);
     }
-    Ok(total == weight && joins(alloc, size, tree, terminals)?)
+    Ok(reference_least_weight(alloc, size, pieces, terminals)? == expected)
 }
 
 /// Whether a least tree weighs what the table says, and what the lightest of all sets weighs.
@@ -98,8 +109,7 @@ fn agree(
         return Err(Fail::new("a piece weighs nothing"));
     }
     let expected = least_by_table(alloc, weights, size, terminals)?;
-    let pieces = weights.pieces();
-    if pieces.len() <= FEW && reference_least_weight(alloc, size, pieces, terminals)? != expected {
+    if !sets_agree(alloc, weights, size, terminals, expected)? {
         return Ok(false);
     }
     if expected.is_none() {
@@ -109,34 +119,40 @@ fn agree(
     Ok(expected == Some(weight) && is_tree(alloc, weights, size, terminals, &tree, weight)?)
 }
 
+/// Whether it is so for weights and terminals that are drawn by a number.
+fn drawn_agree(alloc: Global, size: Size, seed: u32, labels: &mut TreeLabels) -> Result<bool, Fail>
+    requires labels { AreTreeLabels size labels.old }
+    ensures labels { AreTreeLabels size labels.new }
+{
+    let weights = drawn(alloc, size, seed, 1)?.ok_or("pieces")?;
+    let terminals = drawn_terminals(alloc, size, seed.wrapping_add(99), 2 + seed % 4)?;
+    agree(alloc, &weights, size, terminals.as_slice(), labels)
+}
+
+/// Fails where it is not so for some draw on a grid of this size.
+fn all_agree(alloc: Global, size: Size, labels: &mut TreeLabels, field: &str) -> Result<(), Fail>
+    requires labels { AreTreeLabels size labels.old }
+{
+    for seed in 0..16 {
+        holds_for(drawn_agree(alloc, size, seed, labels)?, seed, field)?;
+    }
+    Ok(())
+}
+
+/// The same with labels that all draws use one after another.
+fn grid_agrees(alloc: Global, field: &'static str) -> Result<(), Fail> {
+    let size = grid_of(field)?;
+    let mut labels = TreeLabels::new(alloc, size)?;
+    all_agree(alloc, size, &mut labels, field)
+}
+
 /// Columns, rows and layers. All sets of the pieces of the first five are tried.
-const SIZES: [(u32, u32, u32); 10] = [
-    (3, 2, 1),
-    (3, 3, 1),
-    (2, 2, 2),
-    (2, 1, 3),
-    (1, 1, 5),
-    (3, 2, 2),
-    (6, 5, 1),
-    (4, 3, 3),
-    (5, 4, 2),
-    (9, 1, 2),
-];
+const SIZES: &str = "3 2 1,3 3 1,2 2 2,2 1 3,1 1 5,3 2 2,6 5 1,4 3 3,5 4 2,9 1 2";
 
 #[test]
 fn least_trees_weigh_what_reference_programs_find(rt: HostRuntime) -> Result<(), Fail> {
-    for (cols, rows, layers) in SIZES {
-        let size = Size::new(cols, rows, layers).ok_or("size")?;
-        let mut labels = TreeLabels::new(rt.alloc(), size)?;
-        for seed in 0..16 {
-            let weights = drawn(rt.alloc(), size, seed, 1)?.ok_or("pieces")?;
-            let terminals = drawn_terminals(rt.alloc(), size, seed + 99, 2 + seed % 4)?;
-            let at = terminals.as_slice();
-            assert!(rt;
-                agree(rt.alloc(), &weights, size, at, &mut labels)?,
-                "seed {seed} of {cols} {rows} {layers}"
-            );
-        }
+    for field in SIZES.split(',') {
+        grid_agrees(rt.alloc(), field)?;
     }
     Ok(())
 }
