@@ -11,6 +11,7 @@ use grid_base::{Piece, Size};
 use grid_graph::{Design, Name};
 use guide_text::{Guide, Rect, Rects, covers, guides_of, is_near};
 use std::alloc::Global;
+use std::slice::from_ref;
 use std::test::Fail;
 use test_rows::{number_of, rows_of, two_fields};
 use tree_set::Tree;
@@ -136,19 +137,11 @@ fn guide_agrees(
     )
 }
 
-/// Whether it is so for the guide of a set.
-fn guides_agree(alloc: Global, design: &Design, trees: &[Tree], number: u32) -> Result<bool, Fail> {
-    let guide = guide_on(alloc, design, trees)?;
-    match trees.first() {
-        Some(tree) => guide_agrees(alloc, design, tree, &guide, number),
-        None => Err(Fail::new("no set")),
-    }
-}
-
-/// Whether it is so for the set of a number.
+/// Whether it is so for the guide of the set of a number.
 fn set_agrees(alloc: Global, design: &Design, pieces: &[Piece], number: u32) -> Result<bool, Fail> {
-    let trees = [chosen(alloc, pieces, number)?];
-    guides_agree(alloc, design, &trees, number)
+    let tree = chosen(alloc, pieces, number)?;
+    let guide = guide_on(alloc, design, from_ref(&tree))?;
+    guide_agrees(alloc, design, &tree, &guide, number)
 }
 
 /// Fails where it is not so for some of so many sets of a design's pieces.
