@@ -2,8 +2,9 @@
 
 ghost use Rattle.std.specs.Prelude.{◌↔◌, All, IsTrue};
 ghost use Rattle.tree_set.specs.Routings.{ArePieces};
+ghost use Rattle.eco_route.specs.EcoStates.{AreSetsOf};
 
-use eco_route::{Eco, EditRefusal, read_edits};
+use eco_route::{Eco, EditFault, EditRefusal, read_edits};
 use grid_base::Size;
 use grid_graph::Design;
 use std::alloc::Global;
@@ -25,36 +26,46 @@ fn all_are_pieces(size: Size, trees: &[Tree]) -> bool
     trees.iter().all(|tree| are_pieces(size, tree))
 }
 
+/// Whether these are sets for the nets of a design, one for each.
+fn are_sets_of(design: &Design, trees: &[Tree]) -> bool
+    ensures { IsTrue result → AreSetsOf design.now.grid design.now.nets trees.now }
+{
+    trees.len() == design.nets.list().len() && all_are_pieces(design.grid.size(), trees)
+}
+
 /// An eco of a design and its sets, one for each net.
 fn opened(alloc: Global, design: Design, trees: Vec<Tree>) -> Result<Eco, Fail> {
-    if trees.len() != design.nets.list().len()
-        || !all_are_pieces(design.grid.size(), trees.as_slice())
-    {
+    if !are_sets_of(&design, trees.as_slice()) {
         return Err(Fail::new("no such sets"));
     }
-    Eco::open(alloc, design, trees).map_err(|_| Fail::new("no memory"))
+    match Eco::open(alloc, design, trees) {
+        Ok(eco) => Ok(eco),
+        Err(_) => Err(Fail::new("no memory")),
+    }
 }
 
 /// The ids of the nets, each behind a blank.
 fn ids_text(alloc: Global, eco: &Eco) -> Result<String, Fail> {
     let mut ids = Vec::new(alloc);
     for net in eco.design().nets.list() {
-        ids.push(u64::from(net.id))?;
+        ids.push(net.id)?;
     }
     Ok(numbers_text(alloc, ids.as_slice())?)
 }
 
 /// What an edit was refused for: its number, its place among the edits, and its field where it has one.
+fn fault_text(alloc: Global, fault: EditFault, index: usize) -> Result<String, Fail> {
+    let number = fault.number();
+    Ok(match fault.field() {
+        Some(field) => format!(in alloc; "{number} {index} {field}")?,
+        None => format!(in alloc; "{number} {index}")?,
+    })
+}
+
 fn refusal_text(alloc: Global, refusal: EditRefusal, index: usize) -> Result<String, Fail> {
     match refusal {
         EditRefusal::NoMemory => Err(Fail::new("no memory")),
-        EditRefusal::Fault(fault) => {
-            let number = fault.number();
-            Ok(match fault.field() {
-                Some(field) => format!(in alloc; "{number} {index} {field}")?,
-                None => format!(in alloc; "{number} {index}")?,
-            })
-        }
+        EditRefusal::Fault(fault) => fault_text(alloc, fault, index),
     }
 }
 
@@ -69,6 +80,16 @@ fn refused_of(alloc: Global, eco: &mut Eco, text: &str) -> Result<String, Fail> 
         }
     }
     Ok(String::from_str(alloc, "done")?)
+}
+
+/// The ids, the sets and the loads, with a slash between two.
+fn state_text(alloc: Global, eco: &Eco) -> Result<String, Fail> {
+    let mut text = ids_text(alloc, eco)?;
+    text.push_str("/")?;
+    text.push_str(sets_text(alloc, eco.trees())?.as_str())?;
+    text.push_str("/")?;
+    text.push_str(numbers_text(alloc, eco.loads())?.as_str())?;
+    Ok(text)
 }
 
 /// A design, the sets of its nets, edits, what the first refused one is refused for, and ids, sets and loads in the end.
@@ -94,21 +115,29 @@ CROWDED_ROW 7 8 2|e0 e2;e0 e2;e0 e2;|edits 1 add d 3 3 1 5 5 1 15 5 1 5 15 1|68 
 CROWDED_ROW 7 8 2|e0 e2;e0 e2;e0 e2;|edits 2 drop 2 change 1 2 1 5 5 1 5 15 1|68 1 1| 0 1/ e0 e2; e0 e2;/ 4 0 4 0 0 0 0 0 0 0 0 0
 CROWDED_ROW|e0 e2;e0 e2;e0 e2;|edits 1 add d 3 2 1022 5 5 1 15 5 1|done| 0 1 2 3/ e0 e2; e0 e2; e0 e2; e0;/ 1029 0 6 0 0 0";
 
+/// Makes the edits of a row, whose design and sets are opened.
+fn edits_agree(
+    alloc: Global,
+    row: &str,
+    eco: &mut Eco,
+    edits: &str,
+    wanted: (&str, &str),
+) -> Result<(), Fail> {
+    agree(row, refused_of(alloc, eco, edits)?.as_str(), wanted.0)?;
+    agree(row, state_text(alloc, eco)?.as_str(), wanted.1)
+}
+
+fn row_agrees(alloc: Global, row: &'static str) -> Result<(), Fail> {
+    let (name, sets, edits, refused, wanted) = five_fields(row)?;
+    let sets = sets_of(alloc, sets)?;
+    let mut eco = opened(alloc, design_of(alloc, name)?, sets)?;
+    edits_agree(alloc, row, &mut eco, edits, (refused, wanted))
+}
+
 #[test]
 fn each_edit_is_made_or_refused(rt: HostRuntime) -> Result<(), Fail> {
-    let alloc = rt.alloc();
-    for row in rows_of(alloc, EDITS)? {
-        let (name, sets, edits, refused, wanted) = five_fields(row)?;
-        let mut eco = opened(alloc, design_of(alloc, name)?, sets_of(alloc, sets)?)?;
-        agree(row, refused_of(alloc, &mut eco, edits)?.as_str(), refused)?;
-        let ids = ids_text(alloc, &eco)?;
-        let sets = sets_text(alloc, eco.trees())?;
-        let loads = numbers_text(alloc, eco.loads())?;
-        agree(
-            row,
-            format!(in alloc; "{ids}/{sets}/{loads}")?.as_str(),
-            wanted,
-        )?;
+    for row in rows_of(rt.alloc(), EDITS)? {
+        row_agrees(rt.alloc(), row)?;
     }
     Ok(())
 }

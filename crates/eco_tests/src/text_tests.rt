@@ -1,53 +1,75 @@
 //! Texts of edits, and what is read of them.
 
-use eco_route::{Edit, EditTextError, Pins, read_edits};
+use eco_route::{Edit, EditTextError, Pin, read_edits};
 use std::alloc::{AllocError, Global};
 use std::rt::HostRuntime;
 use std::test::Fail;
-use test_rows::{agree, rows_of, two_fields};
+use test_rows::{agree, numbers_text, rows_of, two_fields};
 
 /// Pins as a field: x, y and layer of each, and a semicolon behind it.
-fn pins_text(alloc: Global, pins: &Pins) -> Result<String, AllocError> {
+fn pins_text(alloc: Global, pins: &[Pin]) -> Result<String, AllocError> {
     let mut text = String::new(alloc);
-    for pin in pins.list() {
-        let (x, y, layer) = (pin.x, pin.y, pin.layer);
-        text.push_str(format!(in alloc; " {x} {y} {layer};")?.as_str())?;
+    for pin in pins {
+        let numbers = [pin.x, pin.y, pin.layer];
+        text.push_str(numbers_text(alloc, &numbers)?.as_str())?;
+        text.push_str(";")?;
     }
+    Ok(text)
+}
+
+/// A kind of edit, its numbers and its pins.
+fn told(alloc: Global, kind: &str, numbers: &[u64], pins: &[Pin]) -> Result<String, AllocError> {
+    let mut text = String::from_str(alloc, kind)?;
+    text.push_str(numbers_text(alloc, numbers)?.as_str())?;
+    text.push_str(pins_text(alloc, pins)?.as_str())?;
     Ok(text)
 }
 
 fn edit_text(alloc: Global, edit: &Edit) -> Result<String, AllocError> {
     match edit {
-        Edit::Drop { id } => format!(in alloc; "drop {id}"),
+        Edit::Drop { id } => told(alloc, "drop", &[u64::from(*id)], &[]),
         Edit::Add {
             name,
             id,
             width,
             pins,
         } => {
-            let (bytes, pins) = (name.list().len(), pins_text(alloc, pins)?);
-            format!(in alloc; "add {bytes} {id} {width}{pins}")
+            let bytes = name.list().len() as u64;
+            told(
+                alloc,
+                "add",
+                &[bytes, u64::from(*id), u64::from(*width)],
+                pins.list(),
+            )
         }
         Edit::Change { id, width, pins } => {
-            let pins = pins_text(alloc, pins)?;
-            format!(in alloc; "change {id} {width}{pins}")
+            told(
+                alloc,
+                "change",
+                &[u64::from(*id), u64::from(*width)],
+                pins.list(),
+            )
         }
     }
 }
 
-/// What is read of a text: each edit behind a bar-free comma, or the place of its refusal.
-fn read_text(alloc: Global, text: &str) -> Result<String, Fail> {
-    let edits = match read_edits(alloc, text.as_bytes()) {
-        Ok(edits) => edits,
-        Err(EditTextError::Syntax { at }) => return Ok(format!(in alloc; "61 {at}")?),
-        Err(EditTextError::NoMemory) => return Err(Fail::new("no memory")),
-    };
-    let mut found = String::new(alloc);
-    for edit in &edits {
-        found.push_str(edit_text(alloc, edit)?.as_str())?;
-        found.push_str(",")?;
+/// Each edit with a comma behind it.
+fn edits_text(alloc: Global, edits: &[Edit]) -> Result<String, AllocError> {
+    let mut text = String::new(alloc);
+    for edit in edits {
+        text.push_str(edit_text(alloc, edit)?.as_str())?;
+        text.push_str(",")?;
     }
-    Ok(found)
+    Ok(text)
+}
+
+/// What is read of a text: the edits, or the place of its refusal.
+fn read_text(alloc: Global, text: &str) -> Result<String, Fail> {
+    match read_edits(alloc, text.as_bytes()) {
+        Ok(edits) => Ok(edits_text(alloc, &edits)?),
+        Err(EditTextError::Syntax { at }) => Ok(format!(in alloc; "61 {at}")?),
+        Err(EditTextError::NoMemory) => Err(Fail::new("no memory")),
+    }
 }
 
 /// Texts, and the edits or the place of the refusal. A name is told by its length.
@@ -83,12 +105,16 @@ edits 2 drop 1 change 1 1 1024|61 26
 edits 0 drop|61 8
 edits 1 drop 1 2|61 15";
 
+fn row_agrees(alloc: Global, row: &'static str) -> Result<(), Fail> {
+    let (text, wanted) = two_fields(row)?;
+    let found = read_text(alloc, text)?;
+    agree(row, found.as_str(), wanted)
+}
+
 #[test]
 fn each_text_has_its_edits(rt: HostRuntime) -> Result<(), Fail> {
-    let alloc = rt.alloc();
-    for row in rows_of(alloc, TEXTS)? {
-        let (text, wanted) = two_fields(row)?;
-        agree(row, read_text(alloc, text)?.as_str(), wanted)?;
+    for row in rows_of(rt.alloc(), TEXTS)? {
+        row_agrees(rt.alloc(), row)?;
     }
     Ok(())
 }
