@@ -1,5 +1,5 @@
 -- What stands above the maps.
-use Rattle.std.specs.Prelude.{ℕ, ◌+◌, ◌==◌, List, [], ◌∷◌, ◌++◌, codes, cond, decimal, flat_map, ltb}
+use Rattle.std.specs.Prelude.{ℕ, ◌+◌, ◌==◌, ◌&&◌, ◌||◌, List, [], ◌∷◌, ◌++◌, codes, cond, decimal, ltb}
 use Rattle.cert_text.specs.CertText.{fraction_text}
 use Rattle.tree_set.specs.declared.measure.Measure.{Measure}
 use Rattle.congestion_cells.specs.declared.shown_layers.ShownLayers.{ShownLayers}
@@ -9,8 +9,18 @@ abbrev pub escaped_byte : ℕ → List ℕ
 escaped_byte b =
     cond (b == 38) (codes "&amp;") (cond (b == 60) (codes "&lt;") (cond (b == 62) (codes "&gt;") (cond (ltb b 32) (codes " ") (b ∷ []))))
 
+-- a byte of a name behind the two before it: where the three are U+FFFE or U+FFFF in UTF-8, which XML doesn't allow, they become U+FFFD
+abbrev pub allowed_byte : ℕ → ℕ → ℕ → ℕ
+allowed_byte before last b = cond ((before == 239) && (last == 191) && ((b == 190) || (b == 191))) 189 b
+
+-- the rest of a name behind two bytes of it
+abbrev pub escaped_behind : ℕ → ℕ → List ℕ → List ℕ
+escaped_behind before last [] = []
+escaped_behind before last (b ∷ rest) = escaped_byte (allowed_byte before last b) ++ escaped_behind last b rest
+
+-- a name, so that it is text of an XML document
 abbrev pub escaped : List ℕ → List ℕ
-escaped name = flat_map escaped_byte name
+escaped name = escaped_behind 0 0 name
 
 -- a width and a height, each behind a text
 abbrev pub sized : List ℕ → ℕ → List ℕ → ℕ → List ℕ

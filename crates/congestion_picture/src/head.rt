@@ -1,8 +1,8 @@
 //! What stands above the maps: the name, and what is measured of the routes.
 
-ghost use Rattle.std.specs.Prelude.{◌≡◌, ◌<◌, ◌≤◌, ◌+◌, ◌^◌, flat_map};
+ghost use Rattle.std.specs.Prelude.{◌≡◌, ◌<◌, ◌≤◌, ◌+◌, ◌^◌};
 ghost use Rattle.gr_desk.specs.Pens.{Puts, pen_told, HasSameDesk};
-ghost use Rattle.congestion_picture.specs.Heads.{escaped, escaped_byte, facts_text, head_text, side_text, sized};
+ghost use Rattle.congestion_picture.specs.Heads.{allowed_byte, escaped, escaped_byte, facts_text, head_text, side_text, sized};
 
 use cert_text::put_fraction;
 use congestion_cells::ShownLayers;
@@ -27,13 +27,28 @@ fn put_escaped_byte<D: Desk>(pen: &mut Pen<'_, D>, byte: u8)
     }
 }
 
+/// A byte of a name behind the two before it, such as XML allows.
+fn byte_behind(before: u8, last: u8, byte: u8) -> u8
+    ensures value { result ≡ allowed_byte before last byte }
+{
+    if before == 0xef && last == 0xbf && (byte == 0xbe || byte == 0xbf) {
+        0xbd
+    } else {
+        byte
+    }
+}
+
 /// Puts a name.
 fn put_escaped<D: Desk>(pen: &mut Pen<'_, D>, name: &[u8])
     ensures same_desk { HasSameDesk pen.old pen.new }
     ensures puts { Puts (pen_told D.told pen.old) (pen_told D.told pen.new) (escaped name.now) }
 {
+    let mut before = 0;
+    let mut last = 0;
     for byte in name {
-        put_escaped_byte(pen, *byte);
+        put_escaped_byte(pen, byte_behind(before, last, *byte));
+        before = last;
+        last = *byte;
     }
 }
 

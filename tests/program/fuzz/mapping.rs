@@ -136,7 +136,7 @@ pub fn try_map(bench: &mut Bench, random: &mut Random) -> Found {
     texts.write(bench);
     let name = random.choose(&["map.svg", "map.csv"]);
     let out = Output::drawn(random, bench, name, &["in.gr", "in.routes"]);
-    let source = if out.is_free && random.one_in(4) { "a <b> & 'c'\t\"d\" \u{e4}.gr" } else { "in.gr" };
+    let source = if out.is_free && random.one_in(4) { "a <b> & 'c'\t\"d\" \u{e4}\u{fffe}\u{ffff}\u{1fffe}.gr" } else { "in.gr" };
     if let (Some(text), true) = (&texts.design, source != "in.gr") {
         bench.write(source, text);
     }
@@ -225,6 +225,15 @@ fn cut_path(shown: &Shown, cut: &Certificate, side: usize) -> String {
     shown.tile_edges().into_iter().filter(is_priced).map(line).collect()
 }
 
+/// What stands for a sign of a name in a text of XML.
+fn allowed_sign(sign: char) -> char {
+    match sign {
+        '\0'..' ' => ' ',
+        '\u{fffe}' | '\u{ffff}' => '\u{fffd}',
+        _ => sign,
+    }
+}
+
 fn without_entities(text: &str) -> String {
     [("&lt;", "<"), ("&gt;", ">"), ("&quot;", "\""), ("&apos;", "'"), ("&#39;", "'"), ("&amp;", "&")]
         .iter()
@@ -237,8 +246,8 @@ fn between<'a>(text: &'a str, before: &str, after: &str) -> Option<&'a str> {
 
 fn check_picture(shown: &Shown, asked: &AskedMap, picture: &str) -> Found {
     let name = String::from_utf8_lossy(&asked.names[0]).into_owned();
-    let blanked: String = name.chars().map(|sign| if sign.is_control() { ' ' } else { sign }).collect();
-    same("the title", between(picture, "<title>", "</title>").map(without_entities), Some(blanked))?;
+    let allowed: String = name.chars().map(allowed_sign).collect();
+    same("the title", between(picture, "<title>", "</title>").map(without_entities), Some(allowed))?;
     let measure = measure(&shown.accepted.design, &shown.sets, None);
     let numbers = format!(">overflow {}, wirelength {}, peak {}<", measure.overflow, measure.wirelength, said(measure.peak));
     same("the numbers of the picture", picture.contains(&numbers), true)?;

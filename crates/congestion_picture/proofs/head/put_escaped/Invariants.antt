@@ -1,11 +1,10 @@
-use Rattle.std.proofs.Common.{take}
-use Rattle.std.specs.Prelude.{flat_map}
-use Rattle.gr_desk.specs.Pens.{HasSameDesk, Puts, pen_told}
-use Rattle.congestion_picture.specs.Heads.{escaped_byte}
+use Rattle.std.proofs.Common.{drop}
+use Rattle.gr_desk.specs.Pens.{HasSameDesk, PenTold, Puts, pen_told}
+use Rattle.congestion_picture.specs.Heads.{escaped, escaped_behind}
 use Rattle.congestion_picture.proofs.head.put_escaped.Given as goal
 
 abbrev pub invariant-loop-byte : goal.invariant-loop-byte
 invariant-loop-byte g l = record {
   same_desk : HasSameDesk l.fn.pen l.pen;
-  puts : Puts (pen_told g.D.Desk.told l.fn.pen) (pen_told g.D.Desk.told l.pen) (flat_map escaped_byte (take l.byte-index l.name));
+  puts : (later : PenTold) → Puts (pen_told g.D.Desk.told l.pen) later (escaped_behind l.before l.last (drop l.byte-index l.name)) → Puts (pen_told g.D.Desk.told l.fn.pen) later (escaped l.name);
 }
