@@ -855,6 +855,14 @@ expect 'a table of both layers' 0 "$measured" few_exits.gr few_exits.routes few_
 made 'its text' few_exits.csv "$here/few_exits.csv"
 "$program" three_layers.gr examples/three_layers.routes three_layers.svg --greater >"$room/reported"
 made 'a picture of the fuller direction' three_layers.svg "$here/three_layers.svg"
+# U+FFFE and U+FFFF, which XML doesn't allow, and U+1FFFE, which it does
+odd=$(printf 'a\357\277\276<b\357\277\277c\360\237\277\276.gr')
+cp few_exits.gr "$odd"
+expect 'a picture of a design with an odd name' 0 "$measured" "$odd" few_exits.routes odd.svg
+printf '<title>a\357\277\275&lt;b\357\277\275c\360\237\277\276.gr</title>\n' >title
+sed -n '/^<title>/p' odd.svg >odd.title
+made 'its title, which is text of XML' odd.title title
+rm "$odd" odd.svg title
 usage='refused 2
 usage: congestion_map IN ROUTES MAP [--cut CERT] [--layer L] [--layers] [--greater]'
 expect 'no words to congestion_map' 2 "$usage"
