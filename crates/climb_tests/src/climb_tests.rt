@@ -113,25 +113,31 @@ ROW|2 0 2 0 0 0 2|12758 0 12758 0 0 0|1 1 0|1, 31720/44303, 9481 0 9481 0 0 0 an
 ROW|2 0 2 0 0 0 2|0 0 0 0 0 0|3|1, 1/2, 12758 0 12758 0 0 0, e0 e2;, e0 e2;
 STACK|0 0 0 0 0|0 0 0 0|2|0, none, 0 0 0 0, v0;";
 
+/// What a climb on the design that a row gives finds.
+fn found_of<R: Threads + Sync>(
+    rt: &R,
+    alloc: Global,
+    name: &'static str,
+    start: (&'static str, &'static str),
+    turns: &'static str,
+) -> Result<String, Fail> {
+    let (turns, budget) = turns_of(turns)?;
+    let loads = numbers_of(alloc, start.0)?;
+    let prices = numbers_of(alloc, start.1)?;
+    let design = design_of(alloc, name)?;
+    climb_of(rt, alloc, &design, &loads, &prices, budget, turns)
+}
+
+fn row_agrees<R: Threads + Sync>(rt: &R, alloc: Global, row: &'static str) -> Result<(), Fail> {
+    let (name, loads, prices, turns, wanted) = five_fields(row)?;
+    let found = found_of(rt, alloc, name, (loads, prices), turns)?;
+    agree(row, found.as_str(), wanted)
+}
+
 #[test]
 fn climbs_end_at_the_first_greatest_bound(rt: HostRuntime) -> Result<(), Fail> {
-    let alloc = rt.alloc();
-    for row in rows_of(alloc, CLIMBS)? {
-        let (name, loads, prices, turns, wanted) = five_fields(row)?;
-        let design = design_of(alloc, name)?;
-        let loads = numbers_of(alloc, loads)?;
-        let prices = numbers_of(alloc, prices)?;
-        let (turns, budget) = turns_of(turns)?;
-        let found = climb_of(
-            &rt,
-            alloc,
-            &design,
-            loads.as_slice(),
-            prices.as_slice(),
-            budget,
-            turns,
-        )?;
-        agree(row, found.as_str(), wanted)?;
+    for row in rows_of(rt.alloc(), CLIMBS)? {
+        row_agrees(&rt, rt.alloc(), row)?;
     }
     Ok(())
 }

@@ -102,28 +102,47 @@ ROW 135 141 7 3 1|12758|12758|0|0 and no moats
 SIX_IN_A_ROW|12758|12758|0|127580 and moats
 SIX_IN_A_ROW|12758|12757|0|none and moats";
 
+/// What is found of a design's first net, where its open edges have these two prices.
+fn found_at(alloc: Global, design: &Design, at: (u32, u32), piece: u32) -> Result<String, Fail> {
+    let proved = prices_of(alloc, &design.grid, at.0)?;
+    let checked = prices_of(alloc, &design.grid, at.1)?;
+    let asked = Asked {
+        proved: proved.as_slice(),
+        checked: checked.as_slice(),
+        piece,
+    };
+    if design.nets.list().is_empty()
+        || asked.piece > 32768
+        || !are_edge_prices(&design.grid, asked.proved)
+        || !are_edge_prices(&design.grid, asked.checked)
+    {
+        return Err(Fail::new("no net or no such prices"));
+    }
+    found_of_first(alloc, design, &asked)
+}
+
+/// The same for the design that a row gives.
+fn found_of_row(
+    alloc: Global,
+    name: &'static str,
+    at: (u32, u32),
+    piece: u32,
+) -> Result<String, Fail> {
+    let design = design_of(alloc, name)?;
+    found_at(alloc, &design, at, piece)
+}
+
+fn row_agrees(alloc: Global, row: &'static str) -> Result<(), Fail> {
+    let (name, proved, checked, piece, wanted) = five_fields(row)?;
+    let at = (number_of(proved)?, number_of(checked)?);
+    let found = found_of_row(alloc, name, at, number_of(piece)?)?;
+    agree(row, found.as_str(), wanted)
+}
+
 #[test]
 fn proofs_of_net_bounds_are_right_at_their_prices(rt: HostRuntime) -> Result<(), Fail> {
-    let alloc = rt.alloc();
-    for row in rows_of(alloc, PROOFS)? {
-        let (name, proved, checked, piece, wanted) = five_fields(row)?;
-        let design = design_of(alloc, name)?;
-        let proved = prices_of(alloc, &design.grid, number_of(proved)?)?;
-        let checked = prices_of(alloc, &design.grid, number_of(checked)?)?;
-        let asked = Asked {
-            proved: proved.as_slice(),
-            checked: checked.as_slice(),
-            piece: number_of(piece)?,
-        };
-        if design.nets.list().is_empty()
-            || asked.piece > 32768
-            || !are_edge_prices(&design.grid, asked.proved)
-            || !are_edge_prices(&design.grid, asked.checked)
-        {
-            return Err(Fail::new("no net or no such prices"));
-        }
-        let found = found_of_first(alloc, &design, &asked)?;
-        agree(row, found.as_str(), wanted)?;
+    for row in rows_of(rt.alloc(), PROOFS)? {
+        row_agrees(rt.alloc(), row)?;
     }
     Ok(())
 }

@@ -4,6 +4,7 @@ ghost use Rattle.std.specs.Prelude.{◌≤◌};
 
 use crate::few_exits::few_exits;
 use crate::runs::{LEFT_AT, Run, after, are_same, place_of, run_of, text_at, text_read};
+use gr_desk::Fail as FailedCall;
 use routing_stages::OpenGate;
 use run_tables::{Left, failing_call, left_agrees};
 use std::alloc::Global;
@@ -184,8 +185,31 @@ fn is_left_by(told: &Run, whole: &Left, left: &Left, failed: &str) -> bool {
     true
 }
 
-/// Fails where a run ends otherwise than it has to, if each of its calls of this kind at this port fails, one in each run. Then the
-/// desk expects no name behind that of the port, so that a run strays which opens or creates one. Answers how many calls these are.
+/// Fails where a run ends otherwise than it has to, if this call at this port fails. Then the desk expects no name behind that of
+/// the port, so that a run strays which opens or creates one.
+fn call_agrees<R: Threads + Sync>(
+    rt: &R,
+    alloc: Global,
+    told: &Run,
+    whole: &Left,
+    step: usize,
+    failed: (&str, &str, u32),
+) -> Result<(), Fail>
+    requires { 1 ≤ step }
+{
+    let (port, call, nth) = failed;
+    let failing = failing_call(alloc, port, call, nth)?;
+    let names = place_of(told.ports, port).saturating_add(1);
+    let left = after(rt, alloc, told, failing, names, step, &OpenGate)?;
+    agree(told.line, left.status.as_str(), status_of(whole, port))?;
+    if is_left_by(told, whole, &left, port) {
+        Ok(())
+    } else {
+        Err(Fail::new(format_args!("{}: {port} {call} {nth}", told.line)))
+    }
+}
+
+/// The same for each of its calls of this kind at this port, one in each run. Answers how many calls these are.
 fn calls_agree<R: Threads + Sync>(
     rt: &R,
     alloc: Global,
@@ -197,23 +221,55 @@ fn calls_agree<R: Threads + Sync>(
 ) -> Result<u32, Fail>
     requires { 1 ≤ step }
 {
-    let line = told.line;
     let Ok(count) = u32::try_from(calls_in(told, whole, port, call, step)) else {
         return Err(Fail::new("more calls than can be counted"));
     };
     for nth in 0..count {
-        let failing = failing_call(alloc, port, call, nth)?;
-        let names = place_of(told.ports, port).saturating_add(1);
-        let left = after(rt, alloc, told, failing, names, step, &OpenGate)?;
-        agree(line, left.status.as_str(), status_of(whole, port))?;
-        if !is_left_by(told, whole, &left, port) {
-            return Err(Fail::new(format_args!("{line}: {port} {call} {nth}")));
-        }
+        call_agrees(rt, alloc, told, whole, step, (port, call, nth))?;
     }
     Ok(count)
 }
 
-/// Fails where a run ends otherwise than it has to, if one of its calls fails, or if all those fail that would come behind its own.
+/// Fails where a run ends otherwise than it has to, if one of its calls fails. Answers the calls that would come behind its own.
+fn calls_behind<R: Threads + Sync>(
+    rt: &R,
+    alloc: Global,
+    told: &Run,
+    whole: &Left,
+    step: usize,
+) -> Result<Vec<FailedCall>, Fail>
+    requires { 1 ≤ step }
+{
+    let mut behind = Vec::new(alloc);
+    for port in PORTS.split(' ') {
+        for call in CALLS.split(' ') {
+            let count = calls_agree(rt, alloc, told, whole, step, port, call)?;
+            behind.append(&mut failing_call(alloc, port, call, count)?)?;
+        }
+    }
+    Ok(behind)
+}
+
+/// Fails where it does so, or ends otherwise if all calls fail that would come behind its own.
+fn calls_end<R: Threads + Sync>(
+    rt: &R,
+    alloc: Global,
+    told: &Run,
+    whole: &Left,
+    step: usize,
+) -> Result<(), Fail>
+    requires { 1 ≤ step }
+{
+    let behind = calls_behind(rt, alloc, told, whole, step)?;
+    let left = after(rt, alloc, told, behind, usize::MAX, step, &OpenGate)?;
+    if are_same(&left, whole) {
+        Ok(())
+    } else {
+        Err(Fail::new(format_args!("{}: a further call", told.line)))
+    }
+}
+
+/// The same beside what the run leaves where no call fails, which its paragraph tells.
 fn failures_agree<R: Threads + Sync>(
     rt: &R,
     alloc: Global,
@@ -225,27 +281,28 @@ fn failures_agree<R: Threads + Sync>(
     let none = Vec::new(alloc);
     let whole = after(rt, alloc, told, none, usize::MAX, step, &OpenGate)?;
     left_agrees(alloc, told.line, &whole, told.rest)?;
-    let mut behind = Vec::new(alloc);
-    for port in PORTS.split(' ') {
-        for call in CALLS.split(' ') {
-            let count = calls_agree(rt, alloc, told, &whole, step, port, call)?;
-            behind.append(&mut failing_call(alloc, port, call, count)?)?;
-        }
-    }
-    let left = after(rt, alloc, told, behind, usize::MAX, step, &OpenGate)?;
-    if are_same(&left, &whole) {
-        Ok(())
-    } else {
-        Err(Fail::new(format_args!("{}: a further call", told.line)))
-    }
+    calls_end(rt, alloc, told, &whole, step)
+}
+
+/// The same for a desk that moves one byte a call, and one that moves all.
+fn run_agrees<R: Threads + Sync>(rt: &R, alloc: Global, told: &Run) -> Result<(), Fail> {
+    failures_agree(rt, alloc, told, 1)?;
+    failures_agree(rt, alloc, told, 4096)
+}
+
+fn paragraph_agrees<R: Threads + Sync>(
+    rt: &R,
+    alloc: Global,
+    paragraph: &'static str,
+) -> Result<(), Fail> {
+    let told = run_of(alloc, paragraph)?;
+    run_agrees(rt, alloc, &told)
 }
 
 #[test]
 fn every_call_that_fails_ends_its_run(rt: HostRuntime) -> Result<(), Fail> {
     for paragraph in paragraphs_of(rt.alloc(), RUNS)? {
-        let told = run_of(rt.alloc(), paragraph)?;
-        failures_agree(&rt, rt.alloc(), &told, 1)?;
-        failures_agree(&rt, rt.alloc(), &told, 4096)?;
+        paragraph_agrees(&rt, rt.alloc(), paragraph)?;
     }
     Ok(())
 }
@@ -253,6 +310,5 @@ fn every_call_that_fails_ends_its_run(rt: HostRuntime) -> Result<(), Fail> {
 #[test]
 fn every_call_of_the_worked_example_that_fails_ends_its_run(rt: HostRuntime) -> Result<(), Fail> {
     let told = few_exits(rt.alloc())?;
-    failures_agree(&rt, rt.alloc(), &told, 1)?;
-    failures_agree(&rt, rt.alloc(), &told, 4096)
+    run_agrees(&rt, rt.alloc(), &told)
 }

@@ -161,8 +161,25 @@ fn is_left_by(
     Ok(is_left(left, report.as_bytes(), routes.as_bytes()))
 }
 
-/// Fails where the run of which the last text has this length ends otherwise than the row says. If it is to be refused, the desk
-/// expects the names of its inputs alone.
+/// What the run leaves of which the last text has this length. If it is to be refused, the desk expects the names of its inputs
+/// alone.
+fn left_of_cut<R: Threads + Sync>(
+    rt: &R,
+    alloc: Global,
+    told: &Run,
+    kept: usize,
+    status: &str,
+) -> Result<Left, Fail> {
+    let names = if status == "0" {
+        usize::MAX
+    } else {
+        inputs_of(told.ports)
+    };
+    let run = cut_to(told, kept)?;
+    after(rt, alloc, &run, Vec::new(alloc), names, 4096, &OpenGate)
+}
+
+/// Fails where that run ends otherwise than the row says.
 fn cut_agrees<R: Threads + Sync>(
     rt: &R,
     alloc: Global,
@@ -171,13 +188,7 @@ fn cut_agrees<R: Threads + Sync>(
     kept: usize,
     cut: &Cut,
 ) -> Result<(), Fail> {
-    let names = if cut.status == "0" {
-        usize::MAX
-    } else {
-        inputs_of(told.ports)
-    };
-    let run = cut_to(told, kept)?;
-    let left = after(rt, alloc, &run, Vec::new(alloc), names, 4096, &OpenGate)?;
+    let left = left_of_cut(rt, alloc, told, kept, cut.status)?;
     agree(cut.row, left.status.as_str(), cut.status)?;
     if is_left_by(alloc, &left, whole, kept, cut)? {
         Ok(())
@@ -186,41 +197,67 @@ fn cut_agrees<R: Threads + Sync>(
     }
 }
 
-/// Fails where the run on some cut of its last text ends otherwise than the rows say, or where they leave a length out.
-fn cuts_agree<R: Threads + Sync>(rt: &R, alloc: Global, told: &Run) -> Result<(), Fail> {
-    let whole = after(
-        rt,
-        alloc,
-        told,
-        Vec::new(alloc),
-        usize::MAX,
-        4096,
-        &OpenGate,
-    )?;
+/// Fails where the runs on the cuts of a row end otherwise than it says, or where it begins with another length than this. Answers
+/// the length behind its last one.
+fn row_agrees<R: Threads + Sync>(
+    rt: &R,
+    alloc: Global,
+    told: &Run,
+    whole: &Left,
+    first: usize,
+    row: &'static str,
+) -> Result<usize, Fail> {
+    let cut = cut_of(row)?;
+    if cut.from != first {
+        return Err(Fail::new(row));
+    }
+    let next = cut.to.saturating_add(1);
+    for kept in cut.from..next {
+        cut_agrees(rt, alloc, told, whole, kept, &cut)?;
+    }
+    Ok(next)
+}
+
+/// The length behind those of all rows, which follow each other from 0 on.
+fn rows_agree<R: Threads + Sync>(
+    rt: &R,
+    alloc: Global,
+    told: &Run,
+    whole: &Left,
+) -> Result<usize, Fail> {
     let mut next = 0;
     for row in rows_of(alloc, told.rest)? {
-        let cut = cut_of(row)?;
-        if cut.from != next {
-            return Err(Fail::new(row));
-        }
-        next = cut.to.saturating_add(1);
-        for kept in cut.from..next {
-            cut_agrees(rt, alloc, told, &whole, kept, &cut)?;
-        }
+        next = row_agrees(rt, alloc, told, whole, next, row)?;
     }
+    Ok(next)
+}
+
+/// Fails where the run on some cut of its last text ends otherwise than the rows say, or where they leave a length out.
+fn cuts_agree<R: Threads + Sync>(rt: &R, alloc: Global, told: &Run) -> Result<(), Fail> {
     let text = told.texts.last().ok_or("a text")?;
-    if next == text.len().saturating_add(1) {
+    let none = Vec::new(alloc);
+    let whole = after(rt, alloc, told, none, usize::MAX, 4096, &OpenGate)?;
+    if rows_agree(rt, alloc, told, &whole)? == text.len().saturating_add(1) {
         Ok(())
     } else {
         Err(Fail::new("another length"))
     }
 }
 
+/// The same for the run of a paragraph.
+fn paragraph_agrees<R: Threads + Sync>(
+    rt: &R,
+    alloc: Global,
+    paragraph: &'static str,
+) -> Result<(), Fail> {
+    let told = run_of(alloc, paragraph)?;
+    cuts_agree(rt, alloc, &told)
+}
+
 #[test]
 fn texts_that_end_early_are_refused_or_stand_for_others(rt: HostRuntime) -> Result<(), Fail> {
     for paragraph in paragraphs_of(rt.alloc(), CUTS)? {
-        let told = run_of(rt.alloc(), paragraph)?;
-        cuts_agree(&rt, rt.alloc(), &told)?;
+        paragraph_agrees(&rt, rt.alloc(), paragraph)?;
     }
     Ok(())
 }

@@ -5,7 +5,7 @@
 
 ghost use Rattle.std.specs.Prelude.{◌≤◌};
 
-use gr_desk::{Fail as FailedCall, Port};
+use gr_desk::{Fail as FailedCall, MemDesk, Port};
 use router_cli::run;
 use routing_stages::Gate;
 use run_tables::{Left, desk_by_steps, left_of, port_of, told_of, words_of};
@@ -105,6 +105,21 @@ fn names_of(
     Ok(names)
 }
 
+/// What the words of a line leave on a desk.
+fn left_on<R: Threads + Sync, G: Gate>(
+    rt: &R,
+    alloc: Global,
+    line: &'static str,
+    desk: &mut MemDesk,
+    gate: &G,
+) -> Result<Left, Fail> {
+    let status = match line.strip_prefix("unavoidable ") {
+        Some(words) => run_unavoidable(rt, alloc, &words_of(alloc, words)?, desk),
+        None => run(rt, alloc, &words_of(alloc, line)?, desk, gate),
+    };
+    Ok(left_of(alloc, status, desk)?)
+}
+
 /// What a run leaves, on a desk that expects the first so many names and moves at most `step` bytes a call.
 pub fn after<R: Threads + Sync, G: Gate>(
     rt: &R,
@@ -120,11 +135,7 @@ pub fn after<R: Threads + Sync, G: Gate>(
     let names = names_of(alloc, run_told.line, run_told.ports, count)?;
     let texts = run_told.texts.clone()?;
     let mut desk = desk_by_steps(alloc, texts, failing, names.as_slice(), step)?;
-    let status = match run_told.line.strip_prefix("unavoidable ") {
-        Some(words) => run_unavoidable(rt, alloc, &words_of(alloc, words)?, &mut desk),
-        None => run(rt, alloc, &words_of(alloc, run_told.line)?, &mut desk, gate),
-    };
-    Ok(left_of(alloc, status, &desk)?)
+    left_on(rt, alloc, run_told.line, &mut desk, gate)
 }
 
 /// The text that a run left at a port.

@@ -59,6 +59,58 @@ fn gate_of(alloc: Global, order: &str, lasts: &'static str, whole: u64) -> Resul
     Ok(gate.ok_or("fewer workers")?)
 }
 
+/// The run of a line on a design.
+fn run_on(alloc: Global, design: &[u8], line: &'static str) -> Result<Run, Fail> {
+    let mut texts = Vec::new(alloc);
+    texts.push(Vec::from_slice(alloc, design)?)?;
+    Ok(Run {
+        line,
+        ports: "In RoutesOut CertOut",
+        texts,
+        rest: "",
+    })
+}
+
+/// The run of the judge on what a run on a design left.
+fn judge_run(alloc: Global, design: &[u8], left: &Left) -> Result<Run, Fail> {
+    let mut texts = Vec::new(alloc);
+    texts.push(Vec::from_slice(alloc, design)?)?;
+    for port in "RoutesOut CertOut".split(' ') {
+        texts.push(Vec::from_slice(alloc, text_at(left, port))?)?;
+    }
+    Ok(Run {
+        line: "judge a.gr a.routes a.cert",
+        ports: "In RoutesIn CertIn",
+        texts,
+        rest: "",
+    })
+}
+
+/// Fails where the judge didn't say yes.
+fn says_yes(line: &'static str, judged: &Left) -> Result<(), Fail> {
+    agree(line, judged.status.as_str(), "0")?;
+    if text_at(judged, "Report").starts_with(b"yes\n") {
+        Ok(())
+    } else {
+        Err(Fail::new(line))
+    }
+}
+
+/// Fails where a run on a design has another status than 0, or the judge doesn't say yes of what it left.
+fn is_accepted<R: Threads + Sync>(
+    rt: &R,
+    alloc: Global,
+    design: &[u8],
+    line: &'static str,
+    left: &Left,
+) -> Result<(), Fail> {
+    agree(line, left.status.as_str(), "0")?;
+    let run = judge_run(alloc, design, left)?;
+    let none = Vec::new(alloc);
+    let judged = after(rt, alloc, &run, none, usize::MAX, 4096, &OpenGate)?;
+    says_yes(line, &judged)
+}
+
 /// What the words leave of the design, whose workers come to the gate. Fails where the judge doesn't say yes.
 fn routed<R: Threads + Sync>(
     rt: &R,
@@ -67,37 +119,26 @@ fn routed<R: Threads + Sync>(
     line: &'static str,
     gate: &Schedule,
 ) -> Result<Left, Fail> {
-    let mut texts = Vec::new(alloc);
-    texts.push(Vec::from_slice(alloc, design)?)?;
-    let mut run = Run {
-        line,
-        ports: "In RoutesOut CertOut",
-        texts,
-        rest: "",
-    };
+    let run = run_on(alloc, design, line)?;
     let left = after(rt, alloc, &run, Vec::new(alloc), usize::MAX, 4096, gate)?;
-    agree(line, left.status.as_str(), "0")?;
-    for port in "RoutesOut CertOut".split(' ') {
-        run.texts
-            .push(Vec::from_slice(alloc, text_at(&left, port))?)?;
-    }
-    run.line = "judge a.gr a.routes a.cert";
-    run.ports = "In RoutesIn CertIn";
-    let judged = after(
-        rt,
-        alloc,
-        &run,
-        Vec::new(alloc),
-        usize::MAX,
-        4096,
-        &OpenGate,
-    )?;
-    agree(line, judged.status.as_str(), "0")?;
-    if text_at(&judged, "Report").starts_with(b"yes\n") {
-        Ok(left)
+    is_accepted(rt, alloc, design, line, &left)?;
+    Ok(left)
+}
+
+/// Fails with the row, where something doesn't hold of it.
+fn holds_of(row: &str, what: &str, holds: bool) -> Result<(), Fail> {
+    if holds {
+        Ok(())
     } else {
-        Err(Fail::new(line))
+        Err(Fail::new(format_args!("{what}: {row}")))
     }
+}
+
+/// Fails where the turns of the gate are not those of the row, or where there are other parts behind the whole ones than it says.
+fn turns_agree(row: &str, gate: &Schedule, are_more: bool) -> Result<(), Fail> {
+    holds_of(row, "turns in order", gate.was_called_in_turn())?;
+    holds_of(row, "whole parts", gate.has_seen_whole())?;
+    holds_of(row, "parts behind them", gate.has_seen_more() == are_more)
 }
 
 /// How many nets there are, an order, the last turn of each worker in a phase, and the words. Two workers route the design of 101
@@ -122,26 +163,54 @@ fn number_behind(report: &str, name: &'static str) -> Result<u64, Fail> {
     }
 }
 
+/// Fails where a report tells of no round, or of none that took overflow away where two workers route.
+fn repair_agrees(row: &str, report: &[u8], nets: &str) -> Result<(), Fail> {
+    let report = str::from_utf8(report)?;
+    holds_of(row, "rounds", !report.contains("\nrounds 0\n"))?;
+    let repaired = number_behind(report, "\noverflow ")? < number_behind(report, "\nrounded ")?;
+    holds_of(row, "less overflow", repaired || nets == "201")
+}
+
+/// Fails where the run of a row ends otherwise than it has to. Answers whether some worker was kept.
+fn schedule_agrees<R: Threads + Sync>(
+    rt: &R,
+    alloc: Global,
+    row: &'static str,
+    crowded: &[u8],
+    roomy: &[u8],
+) -> Result<bool, Fail> {
+    let (nets, order, lasts, words) = four_fields(row)?;
+    let gate = gate_of(alloc, order, lasts, PHASES)?;
+    let design = if nets == "101" { roomy } else { crowded };
+    let left = routed(rt, alloc, design, words, &gate)?;
+    repair_agrees(row, text_at(&left, "Report"), nets)?;
+    turns_agree(row, &gate, true)?;
+    Ok(gate.was_kept())
+}
+
+/// The same for all rows.
+fn schedules_agree<R: Threads + Sync>(
+    rt: &R,
+    alloc: Global,
+    crowded: &[u8],
+    roomy: &[u8],
+) -> Result<bool, Fail> {
+    let mut was_kept = false;
+    for row in rows_of(alloc, SCHEDULES)? {
+        if schedule_agrees(rt, alloc, row, crowded, roomy)? {
+            was_kept = true;
+        }
+    }
+    Ok(was_kept)
+}
+
 /// There is repair in each of these runs. With two workers it takes overflow away, so what the judge accepts was repaired. On a
 /// machine that is full of other work a worker may run out of looks in all turns of a run, so not each run has one that was kept.
 #[test]
 fn whatever_workers_wait_for_the_routes_are_accepted(rt: HostRuntime) -> Result<(), Fail> {
     let crowded = drawn(&rt, rt.alloc(), CROWDED)?;
     let roomy = drawn(&rt, rt.alloc(), ROOMY)?;
-    let mut was_kept = false;
-    for row in rows_of(rt.alloc(), SCHEDULES)? {
-        let (nets, order, lasts, words) = four_fields(row)?;
-        let design = if nets == "101" { &roomy } else { &crowded };
-        let gate = gate_of(rt.alloc(), order, lasts, PHASES)?;
-        let left = routed(&rt, rt.alloc(), design.as_slice(), words, &gate)?;
-        let report = str::from_utf8(text_at(&left, "Report"))?;
-        was_kept = was_kept || gate.was_kept();
-        assert!(rt; gate.was_called_in_turn(), "{row}");
-        assert!(rt; gate.has_seen_whole() && gate.has_seen_more(), "{row}");
-        assert!(rt; !report.contains("\nrounds 0\n"), "{row}");
-        let repaired = number_behind(report, "\noverflow ")? < number_behind(report, "\nrounded ")?;
-        assert!(rt; repaired || nets == "201", "{row}");
-    }
+    let was_kept = schedules_agree(&rt, rt.alloc(), &crowded, &roomy)?;
     assert!(rt; was_kept);
     Ok(())
 }
@@ -155,22 +224,27 @@ const PARTS: &str = "201|49 49 49 50|3|route a.gr a.routes a.cert --workers 4 --
 201|99 100|2|route a.gr a.routes a.cert --workers 2 --phases 2 --rounds 2
 201|49 49 49 50|0|route a.gr a.routes a.cert --workers 4 --phases 2 --rounds 0";
 
+/// Fails where the workers of a row don't meet, or have other turns than it says.
+fn parts_agree<R: Threads + Sync>(rt: &R, alloc: Global, row: &'static str) -> Result<(), Fail> {
+    let (nets, lasts, rounds, words) = four_fields(row)?;
+    let rounds: u64 = number_of(rounds)?;
+    let gate = gate_of(alloc, "together", lasts, PHASES.wrapping_add(rounds))?;
+    let design = crowded(alloc, number_of(nets)?)?;
+    routed(rt, alloc, design.as_slice(), words, &gate)?;
+    holds_of(row, "meetings in phases", gate.met_in_phases())?;
+    holds_of(
+        row,
+        "meetings in rounds",
+        gate.met_in_rounds() == (rounds > 0),
+    )?;
+    turns_agree(row, &gate, false)
+}
+
 /// All workers are in their turns at once, in the phases and in the rounds, and each has its own turns, which count from 0.
 #[test]
 fn all_workers_meet_and_count_their_turns(rt: HostRuntime) -> Result<(), Fail> {
     for row in rows_of(rt.alloc(), PARTS)? {
-        let (nets, lasts, rounds, words) = four_fields(row)?;
-        let design = crowded(rt.alloc(), number_of(nets)?)?;
-        let rounds: u64 = number_of(rounds)?;
-        let whole = PHASES.wrapping_add(rounds);
-        let gate = gate_of(rt.alloc(), "together", lasts, whole)?;
-        routed(&rt, rt.alloc(), design.as_slice(), words, &gate)?;
-        assert!(rt;
-            gate.met_in_phases() && gate.met_in_rounds() == (rounds > 0),
-            "{row}"
-        );
-        assert!(rt; gate.was_called_in_turn(), "{row}");
-        assert!(rt; gate.has_seen_whole() && !gate.has_seen_more(), "{row}");
+        parts_agree(&rt, rt.alloc(), row)?;
     }
     Ok(())
 }

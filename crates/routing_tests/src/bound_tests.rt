@@ -62,7 +62,7 @@ fn bound_at<R: Threads + Sync>(
     of_open: &'static str,
     budget: Option<Budget>,
 ) -> Result<String, Fail> {
-    let grounds = design.grounds().map_err(|_| Fail::new("grounds"))?;
+    let grounds = design.grounds()?;
     let prices = prices_of(alloc, &design.grid, of_open)?;
     if !are_edge_prices(&design.grid, prices.as_slice()) || !is_within_limits(budget) {
         return Err(Fail::new("no such prices"));
@@ -107,11 +107,11 @@ STACK||1|1/1";
 const PIN_IN_EACH_TILE: &str =
     "ROW 0 144 grid 5 5 1;vertical capacity 4;horizontal capacity 4;minimum width 1;minimum spacing 1;via spacing 1;0 0 10 10;num net 1;a 0 25 1;5 5 1;15 5 1;25 5 1;35 5 1;45 5 1;5 15 1;15 15 1;25 15 1;35 15 1;45 15 1;5 25 1;15 25 1;25 25 1;35 25 1;45 25 1;5 35 1;15 35 1;25 35 1;35 35 1;45 35 1;5 45 1;15 45 1;25 45 1;35 45 1;45 45 1;0;";
 
-/// The prices of its open edges, and the bound. Halves of 25 terminals are more than what five of them cost. Where the edges
+/// The prices of its open edges, no price of the wirelength, and the bound. Halves of 25 terminals are more than what five of them cost. Where the edges
 /// out of the tile in the middle alone have a price, the five that are spread have one in the middle, and half of what it
 /// costs is less.
-const BOUNDS_OF_MANY_PINS: &str = "1|5/32
-0 0 0 0 0 0 0 0 0 0 0 0 0 0 1 0 0 0 0 0 1 0 1 1 0|1/8";
+const BOUNDS_OF_MANY_PINS: &str = "1||5/32
+0 0 0 0 0 0 0 0 0 0 0 0 0 0 1 0 0 0 0 0 1 0 1 1 0||1/8";
 
 /// The same pins on two layers like the fields of a chessboard.
 const PIN_IN_EACH_FIELD: &str =
@@ -122,26 +122,49 @@ const PIN_IN_EACH_FIELD: &str =
 const BOUNDS_OF_FIELDS: &str = "0|2|25/1
 1|2|75/322";
 
+/// The bound of the design that a row gives.
+fn bound_of<R: Threads + Sync>(
+    rt: &R,
+    alloc: Global,
+    given: &'static str,
+    of_open: &'static str,
+    budget: &'static str,
+) -> Result<String, Fail> {
+    let budget = budget_of(budget)?;
+    let design = design_of(alloc, given)?;
+    bound_at(rt, alloc, &design, of_open, budget)
+}
+
+fn row_agrees<R: Threads + Sync>(rt: &R, alloc: Global, row: &'static str) -> Result<(), Fail> {
+    let (given, of_open, budget, wanted) = four_fields(row)?;
+    let found = bound_of(rt, alloc, given, of_open, budget)?;
+    agree(row, found.as_str(), wanted)
+}
+
 #[test]
 fn designs_have_the_bounds_that_were_worked_out(rt: HostRuntime) -> Result<(), Fail> {
-    let alloc = rt.alloc();
-    for row in rows_of(alloc, BOUNDS)? {
-        let (given, of_open, budget, wanted) = four_fields(row)?;
-        let design = design_of(alloc, given)?;
-        let found = bound_at(&rt, alloc, &design, of_open, budget_of(budget)?)?;
-        agree(row, found.as_str(), wanted)?;
+    for row in rows_of(rt.alloc(), BOUNDS)? {
+        row_agrees(&rt, rt.alloc(), row)?;
     }
     Ok(())
 }
 
+/// The same for a row without a design, of the one with so many pins.
+fn bound_agrees<R: Threads + Sync>(
+    rt: &R,
+    alloc: Global,
+    pins: &'static str,
+    row: &'static str,
+) -> Result<(), Fail> {
+    let (of_open, budget, wanted) = three_fields(row)?;
+    let found = bound_of(rt, alloc, pins, of_open, budget)?;
+    agree(row, found.as_str(), wanted)
+}
+
 #[test]
 fn a_net_of_many_pins_has_the_greater_of_two_bounds(rt: HostRuntime) -> Result<(), Fail> {
-    let alloc = rt.alloc();
-    let design = design_of(alloc, PIN_IN_EACH_TILE)?;
-    for row in rows_of(alloc, BOUNDS_OF_MANY_PINS)? {
-        let (of_open, wanted) = two_fields(row)?;
-        let found = bound_at(&rt, alloc, &design, of_open, None)?;
-        agree(row, found.as_str(), wanted)?;
+    for row in rows_of(rt.alloc(), BOUNDS_OF_MANY_PINS)? {
+        bound_agrees(&rt, rt.alloc(), PIN_IN_EACH_TILE, row)?;
     }
     Ok(())
 }
@@ -150,12 +173,8 @@ fn a_net_of_many_pins_has_the_greater_of_two_bounds(rt: HostRuntime) -> Result<(
 fn a_net_of_many_pins_has_the_greater_of_two_bounds_with_a_budget(
     rt: HostRuntime,
 ) -> Result<(), Fail> {
-    let alloc = rt.alloc();
-    let design = design_of(alloc, PIN_IN_EACH_FIELD)?;
-    for row in rows_of(alloc, BOUNDS_OF_FIELDS)? {
-        let (of_open, budget, wanted) = three_fields(row)?;
-        let found = bound_at(&rt, alloc, &design, of_open, budget_of(budget)?)?;
-        agree(row, found.as_str(), wanted)?;
+    for row in rows_of(rt.alloc(), BOUNDS_OF_FIELDS)? {
+        bound_agrees(&rt, rt.alloc(), PIN_IN_EACH_FIELD, row)?;
     }
     Ok(())
 }
@@ -261,7 +280,7 @@ fn least_of_design(
     least_width: u32,
     per_piece: u32,
 ) -> Result<u128, Fail> {
-    let grounds = design.grounds().map_err(|_| Fail::new("grounds"))?;
+    let grounds = design.grounds()?;
     let mut sum: u128 = 0;
     for (net, over) in design.nets.list().iter().zip(grounds.iter()) {
         let demand = net.width.max(least_width).wrapping_add(1);
@@ -282,7 +301,7 @@ fn all_sets_agree<R: Threads + Sync>(
     seed: u32,
     per_piece: u32,
 ) -> Result<bool, Fail> {
-    let grounds = design.grounds().map_err(|_| Fail::new("grounds"))?;
+    let grounds = design.grounds()?;
     let (prices, capacities) = drawn_prices(alloc, &design.grid, seed)?;
     let budget = Some(Budget {
         most: 1,
@@ -317,20 +336,33 @@ ROW 0 144 grid 2 2 2;vertical capacity 4 4;horizontal capacity 4 4;minimum width
 ROW 0 144 grid 2 2 2;vertical capacity 4 4;horizontal capacity 4 4;minimum width 1 1;minimum spacing 1 1;via spacing 1 1;0 0 10 10;num net 4;a 0 2 3;15 5 1;5 15 2;b 1 2 1;5 5 1;15 15 2;c 2 3 2;15 5 2;15 15 1;5 15 1;d 3 2 3;15 15 1;15 5 1;4;0 0 1 1 0 1 0;0 0 1 0 1 1 0;0 0 2 1 0 2 0;0 0 2 0 1 2 0;|1
 ROW 0 144 grid 2 2 2;vertical capacity 4 4;horizontal capacity 4 4;minimum width 4 4;minimum spacing 1 1;via spacing 1 1;0 0 10 10;num net 3;a 0 2 1;5 5 1;15 15 2;b 1 5 6;15 5 1;5 15 2;5 5 2;15 15 1;15 5 2;c 2 3 3;15 5 2;15 15 1;5 5 1;0;|4";
 
+/// Fails where the bound of a design is another one at some of nine prices.
+fn all_prices_agree<R: Threads + Sync>(
+    rt: &R,
+    alloc: Global,
+    design: &Design,
+    least_width: u32,
+    row: &str,
+) -> Result<(), Fail> {
+    for draw in 0..9 {
+        if !all_sets_agree(rt, alloc, design, least_width, draw / 3, draw % 3)? {
+            return Err(Fail::new(format_args!("seed and price {draw} of {row}")));
+        }
+    }
+    Ok(())
+}
+
+fn cube_agrees<R: Threads + Sync>(rt: &R, alloc: Global, row: &'static str) -> Result<(), Fail> {
+    let (given, least_width) = two_fields(row)?;
+    let least_width = number_of(least_width)?;
+    let design = design_of(alloc, given)?;
+    all_prices_agree(rt, alloc, &design, least_width, row)
+}
+
 #[test]
 fn bounds_are_those_over_all_sets_of_pieces(rt: HostRuntime) -> Result<(), Fail> {
     for row in rows_of(rt.alloc(), CUBES)? {
-        let (given, least_width) = two_fields(row)?;
-        let design = design_of(rt.alloc(), given)?;
-        let least_width = number_of(least_width)?;
-        for seed in 0..3 {
-            for per_piece in 0..3 {
-                assert!(rt;
-                    all_sets_agree(&rt, rt.alloc(), &design, least_width, seed, per_piece)?,
-                    "seed {seed} and price {per_piece} with {given}"
-                );
-            }
-        }
+        cube_agrees(&rt, rt.alloc(), row)?;
     }
     Ok(())
 }

@@ -72,17 +72,26 @@ const BROUGHT: &str = "0 2 4|yes
 4 0|yes
 0 5|no";
 
-#[test]
-fn tables_and_moats_hold_up_to_the_distance(rt: HostRuntime) -> Result<(), Fail> {
-    let alloc = rt.alloc();
-    let design = design_of(alloc, "ROW")?;
+fn row_agrees(alloc: Global, design: &Design, row: &'static str) -> Result<(), Fail>
+    requires { 0 < length design.now.nets }
+{
+    let (numbers, wanted) = two_fields(row)?;
+    let hold = hold_for_first(alloc, design, numbers_of(alloc, numbers)?)?;
+    agree(row, if hold { "yes" } else { "no" }, wanted)
+}
+
+fn rows_agree(alloc: Global, design: &Design) -> Result<(), Fail> {
     if design.nets.list().is_empty() {
         return Err(Fail::new("no net"));
     }
     for row in rows_of(alloc, BROUGHT)? {
-        let (numbers, wanted) = two_fields(row)?;
-        let hold = hold_for_first(alloc, &design, numbers_of(alloc, numbers)?)?;
-        agree(row, if hold { "yes" } else { "no" }, wanted)?;
+        row_agrees(alloc, design, row)?;
     }
     Ok(())
+}
+
+#[test]
+fn tables_and_moats_hold_up_to_the_distance(rt: HostRuntime) -> Result<(), Fail> {
+    let design = design_of(rt.alloc(), "ROW")?;
+    rows_agree(rt.alloc(), &design)
 }

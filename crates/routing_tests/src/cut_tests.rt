@@ -10,7 +10,7 @@ use dual_bound::bound;
 use grid_base::Edge;
 use grid_graph::{Design, Ground};
 use hot_cuts::hot_cuts;
-use std::alloc::Global;
+use std::alloc::{AllocError, Global};
 use std::test::Fail;
 use std::thread::Threads;
 use test_rows::{agree, fraction_text, rows_of, three_fields, two_numbers};
@@ -34,15 +34,25 @@ ROW 0 144 grid 3 3 1;vertical capacity 20;horizontal capacity 20;minimum width 1
 # there is no open edge
 STACK||none 0";
 
+/// Puts the load of an edge in its place.
+fn put_load(loads: &mut [u64], pair: &'static str) -> Result<(), Fail> {
+    let (e, load) = two_numbers::<u64>(pair)?;
+    match loads.get_mut(e as usize) {
+        Some(place) => {
+            *place = load;
+            Ok(())
+        }
+        None => Err(Fail::new("an edge")),
+    }
+}
+
 /// The loads of all edge numbers, of which a field has those that are not 0, each behind its edge.
 fn loads_of(alloc: Global, design: &Design, field: &'static str) -> Result<Vec<u64>, Fail> {
     let mut loads = vec![in alloc; 0; 2 * design.grid.size().vertices() as usize]?;
-    if field == "" {
-        return Ok(loads);
-    }
-    for pair in field.split(',') {
-        let (e, load) = two_numbers::<u64>(pair)?;
-        *loads.get_mut(e as usize).ok_or("an edge")? = load;
+    if field != "" {
+        for pair in field.split(',') {
+            put_load(loads.as_mut_slice(), pair)?;
+        }
     }
     Ok(loads)
 }
@@ -90,36 +100,70 @@ fn evidence_of_prices<R: Threads + Sync>(
 }
 
 /// What the two lists prove: the first one's bound, and the second one's overflow.
-fn evidence_text<R: Threads + Sync>(
+fn evidence_of_lists<R: Threads + Sync>(
+    rt: &R,
+    alloc: Global,
+    design: &Design,
+    for_bound: &[u32],
+    for_overflow: &[u32],
+) -> Result<(Option<Fraction>, u128), Fail>
+    requires for_bound { AreEdgePrices design.now.grid for_bound.now }
+    requires for_overflow { AreEdgePrices design.now.grid for_overflow.now }
+{
+    let grounds = design.grounds()?;
+    let (found, _) = evidence_of_prices(rt, alloc, design, grounds.as_slice(), for_bound)?;
+    let (_, overflow) = evidence_of_prices(rt, alloc, design, grounds.as_slice(), for_overflow)?;
+    Ok((found, overflow))
+}
+
+/// What the cuts of a design with these loads prove.
+fn evidence_of<R: Threads + Sync>(
     rt: &R,
     alloc: Global,
     design: &Design,
     loads: &[u64],
-) -> Result<String, Fail> {
-    let grounds = design.grounds().map_err(|_| Fail::new("grounds"))?;
+) -> Result<(Option<Fraction>, u128), Fail> {
     let cuts = hot_cuts(alloc, design, loads, 20)?;
-    let grounds = grounds.as_slice();
-    let (found, _) = evidence_of_prices(rt, alloc, design, grounds, cuts.for_bound.as_slice())?;
-    let (_, overflow) = evidence_of_prices(
+    evidence_of_lists(
         rt,
         alloc,
         design,
-        grounds,
+        cuts.for_bound.as_slice(),
         cuts.for_overflow.as_slice(),
-    )?;
+    )
+}
+
+fn evidence_text(
+    alloc: Global,
+    found: Option<Fraction>,
+    overflow: u128,
+) -> Result<String, AllocError> {
     let found = fraction_text(alloc, found)?;
-    Ok(format!(in alloc; "{found} {overflow}")?)
+    format!(in alloc; "{found} {overflow}")
+}
+
+/// What is proved of the design that a row gives.
+fn proved_of<R: Threads + Sync>(
+    rt: &R,
+    alloc: Global,
+    given: &'static str,
+    loads: &'static str,
+) -> Result<(Option<Fraction>, u128), Fail> {
+    let design = design_of(alloc, given)?;
+    let loads = loads_of(alloc, &design, loads)?;
+    evidence_of(rt, alloc, &design, loads.as_slice())
+}
+
+fn row_agrees<R: Threads + Sync>(rt: &R, alloc: Global, row: &'static str) -> Result<(), Fail> {
+    let (given, loads, wanted) = three_fields(row)?;
+    let (found, overflow) = proved_of(rt, alloc, given, loads)?;
+    agree(row, evidence_text(alloc, found, overflow)?.as_str(), wanted)
 }
 
 #[test]
 fn cuts_prove_what_can_be_proved_on_paper(rt: HostRuntime) -> Result<(), Fail> {
-    let alloc = rt.alloc();
-    for row in rows_of(alloc, CUTS)? {
-        let (given, loads, wanted) = three_fields(row)?;
-        let design = design_of(alloc, given)?;
-        let loads = loads_of(alloc, &design, loads)?;
-        let found = evidence_text(&rt, alloc, &design, loads.as_slice())?;
-        agree(row, found.as_str(), wanted)?;
+    for row in rows_of(rt.alloc(), CUTS)? {
+        row_agrees(&rt, rt.alloc(), row)?;
     }
     Ok(())
 }

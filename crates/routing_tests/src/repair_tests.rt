@@ -27,7 +27,7 @@ fn repaired_by<R: Threads + Sync, G: Gate>(
 ) -> Result<(Routed, u64), Fail>
     requires { AreSettings settings.now }
 {
-    let grounds = design.grounds().map_err(|_| Fail::new("grounds"))?;
+    let grounds = design.grounds()?;
     let shared = share(rt, alloc, design, grounds.as_slice(), settings, &OpenGate)?;
     let chosen = round(design, shared, settings.seed);
     let routed = repair(
@@ -122,23 +122,43 @@ fn overflows_text(alloc: Global, routed: &Routed, overflow: u64) -> Result<Strin
     format!(in alloc; "{rounded} {rounds} {overflow}")
 }
 
+/// The design that a field names, repaired with the settings of another one.
+fn repaired_of<R: Threads + Sync, G: Gate>(
+    rt: &R,
+    alloc: Global,
+    given: &'static str,
+    settings: &'static str,
+    gate: &G,
+) -> Result<(Routed, u64), Fail> {
+    let settings = settings_of(settings)?;
+    let design = design_of(alloc, field_of_design(given))?;
+    repaired_by(rt, alloc, &design, &settings, gate)
+}
+
+/// Fails where the sets and their overflow are not those of the row.
+fn routed_agrees(
+    alloc: Global,
+    row: &str,
+    found: (&Routed, u64),
+    overflows: &str,
+    wanted: (&str, &str),
+) -> Result<(), Fail> {
+    let (routed, overflow) = found;
+    let text = overflows_text(alloc, routed, overflow)?;
+    agree(row, text.as_str(), overflows)?;
+    routing_agrees(alloc, row, routed.trees.list(), &routed.loads, wanted)
+}
+
+fn row_agrees<R: Threads + Sync>(rt: &R, alloc: Global, row: &'static str) -> Result<(), Fail> {
+    let (given, settings, overflows, sets, loads) = five_fields(row)?;
+    let (routed, overflow) = repaired_of(rt, alloc, given, settings, &OpenGate)?;
+    routed_agrees(alloc, row, (&routed, overflow), overflows, (sets, loads))
+}
+
 #[test]
 fn the_first_routing_of_least_overflow_is_the_result(rt: HostRuntime) -> Result<(), Fail> {
-    let alloc = rt.alloc();
-    for row in rows_of(alloc, REPAIRED)? {
-        let (given, settings, overflows, sets, loads) = five_fields(row)?;
-        let design = design_of(alloc, field_of_design(given))?;
-        let settings = settings_of(settings)?;
-        let (routed, overflow) = repaired_by(&rt, alloc, &design, &settings, &OpenGate)?;
-        let found = overflows_text(alloc, &routed, overflow)?;
-        agree(row, found.as_str(), overflows)?;
-        routing_agrees(
-            alloc,
-            row,
-            routed.trees.list(),
-            &routed.loads,
-            (sets, loads),
-        )?;
+    for row in rows_of(rt.alloc(), REPAIRED)? {
+        row_agrees(&rt, rt.alloc(), row)?;
     }
     Ok(())
 }
@@ -146,9 +166,7 @@ fn the_first_routing_of_least_overflow_is_the_result(rt: HostRuntime) -> Result<
 #[test]
 fn two_workers_repair_at_once(rt: HostRuntime) -> Result<(), Fail> {
     let gate = Meeting::in_turn(0);
-    let design = design_of(rt.alloc(), "CROWDED_ROW")?;
-    let settings = settings_of("2 1 1 0")?;
-    let (routed, _) = repaired_by(&rt, rt.alloc(), &design, &settings, &gate)?;
+    let (routed, _) = repaired_of(&rt, rt.alloc(), "CROWDED_ROW", "2 1 1 0", &gate)?;
     assert!(rt; gate.was_held() && routed.rounded == 4 && routed.rounds == 1);
     Ok(())
 }

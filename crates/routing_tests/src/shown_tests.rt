@@ -44,6 +44,18 @@ CUT||0 0
 # there is no open edge
 STACK||0 0";
 
+/// Puts the price of a tile edge in its place.
+fn put_price(prices: &mut [u32], pair: &'static str) -> Result<(), Fail> {
+    let (e, price) = two_numbers::<u32>(pair)?;
+    match prices.get_mut(e as usize) {
+        Some(place) => {
+            *place = price.min(MAX_PRICE);
+            Ok(())
+        }
+        None => Err(Fail::new("a tile edge")),
+    }
+}
+
 /// The price list of tile edges' prices, each behind its edge's number.
 fn prices_of(alloc: Global, grid: &Grid, field: &'static str) -> Result<Vec<u32>, Fail>
     ensures { IfOk result (λ prices. AreEdgePrices grid.now prices.items) }
@@ -51,8 +63,7 @@ fn prices_of(alloc: Global, grid: &Grid, field: &'static str) -> Result<Vec<u32>
     let mut tile_prices = vec![in alloc; 0u32; 64]?;
     if field != "" {
         for pair in field.split(',') {
-            let (e, price) = two_numbers::<u32>(pair)?;
-            *tile_prices.get_mut(e as usize).ok_or("a tile edge")? = price.min(MAX_PRICE);
+            put_price(tile_prices.as_mut_slice(), pair)?;
         }
     }
     Ok(price_list(alloc, grid, tile_prices.as_slice())?)
@@ -74,16 +85,28 @@ fn shown_text<R: Threads + Sync>(
     Ok(format!(in alloc; "{by_bounds} {by_trees}")?)
 }
 
+/// What prices show of the design that a row gives.
+fn shown_of<R: Threads + Sync>(
+    rt: &R,
+    alloc: Global,
+    given: &'static str,
+    prices: &'static str,
+) -> Result<String, Fail> {
+    let design = design_of(alloc, given)?;
+    let grounds = design.grounds()?;
+    let prices = prices_of(alloc, &design.grid, prices)?;
+    shown_text(rt, alloc, &design, grounds.as_slice(), prices.as_slice())
+}
+
+fn row_agrees<R: Threads + Sync>(rt: &R, alloc: Global, row: &'static str) -> Result<(), Fail> {
+    let (given, prices, wanted) = three_fields(row)?;
+    agree(row, shown_of(rt, alloc, given, prices)?.as_str(), wanted)
+}
+
 #[test]
 fn prices_show_what_can_be_shown_on_paper(rt: HostRuntime) -> Result<(), Fail> {
-    let alloc = rt.alloc();
-    for row in rows_of(alloc, SHOWN)? {
-        let (given, prices, wanted) = three_fields(row)?;
-        let design = design_of(alloc, given)?;
-        let grounds = design.grounds().map_err(|_| Fail::new("grounds"))?;
-        let prices = prices_of(alloc, &design.grid, prices)?;
-        let found = shown_text(&rt, alloc, &design, grounds.as_slice(), prices.as_slice())?;
-        agree(row, found.as_str(), wanted)?;
+    for row in rows_of(rt.alloc(), SHOWN)? {
+        row_agrees(&rt, rt.alloc(), row)?;
     }
     Ok(())
 }

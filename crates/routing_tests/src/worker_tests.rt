@@ -100,28 +100,39 @@ const ROUTED: &str = "ROW| e0 e2;| 2 0 2 0 0 0 2
 CROWDED_ROW| e0 e2; e0 e2; e0 e2;| 6 0 6 0 0 0 6
 WIDE_WIRES| e8 e10 e12 v0 v3;| 0 0 0 0 0 0 0 0 3 0 3 0 3 0 0 0 5";
 
+/// The same for the design that a field names.
+fn routed_of(alloc: Global, given: &'static str) -> Result<(Vec<Tree>, Vec<u64>), Fail> {
+    let design = design_of(alloc, given)?;
+    let grounds = design.grounds()?;
+    routed(alloc, &design, grounds.as_slice())
+}
+
+fn routed_agrees(alloc: Global, row: &'static str) -> Result<(), Fail> {
+    let (given, sets, wanted) = three_fields(row)?;
+    let (trees, loads) = routed_of(alloc, given)?;
+    routing_agrees(alloc, row, &trees, &loads, (sets, wanted))
+}
+
 #[test]
 fn workers_give_each_net_its_set_and_put_its_load_on_the_table(
     rt: HostRuntime,
 ) -> Result<(), Fail> {
-    let alloc = rt.alloc();
-    for row in rows_of(alloc, ROUTED)? {
-        let (given, sets, wanted) = three_fields(row)?;
-        let design = design_of(alloc, given)?;
-        let grounds = design.grounds()?;
-        let (trees, loads) = routed(alloc, &design, grounds.as_slice())?;
-        routing_agrees(alloc, row, &trees, &loads, (sets, wanted))?;
+    for row in rows_of(rt.alloc(), ROUTED)? {
+        routed_agrees(rt.alloc(), row)?;
     }
     Ok(())
+}
+
+/// The loads of a design whose nets are routed, as a field.
+fn loads_text(alloc: Global, given: &'static str) -> Result<String, Fail> {
+    let (_, loads) = routed_of(alloc, given)?;
+    Ok(numbers_text(alloc, loads.as_slice())?)
 }
 
 /// Two ways are as short, so either may be taken.
 #[test]
 fn a_worker_takes_a_shortest_way_round_the_square(rt: HostRuntime) -> Result<(), Fail> {
-    let design = design_of(rt.alloc(), "SQUARE")?;
-    let grounds = design.grounds()?;
-    let (_, loads) = routed(rt.alloc(), &design, grounds.as_slice())?;
-    let text = numbers_text(rt.alloc(), loads.as_slice())?;
+    let text = loads_text(rt.alloc(), "SQUARE")?;
     let found = text.as_str();
     assert!(rt; found == " 2 0 0 2 0 0 0 0 2" || found == " 0 2 0 0 2 0 0 0 2");
     Ok(())
@@ -249,16 +260,30 @@ CROWDED_ROW| e0 e2| 6 0 6 0 0 0 6| e0 e2;| 6 0 6 0 0 0 6
 # a wire of the upper layer uses less
 WIDE_WIRES| e0 e2 e4| 4 0 4 0 4 0 0 0 0 0 0 0 0 0 0 0 3| e8 e10 e12 v0 v3;| 0 0 0 0 0 0 0 0 3 0 3 0 3 0 0 0 5";
 
+/// The same for the design, the set and the loads that fields give.
+fn repaired_of(
+    alloc: Global,
+    given: &'static str,
+    set: &'static str,
+    loads: &'static str,
+) -> Result<(Vec<Tree>, Vec<u64>), Fail> {
+    let loads = numbers_of(alloc, loads)?;
+    let design = design_of(alloc, given)?;
+    let grounds = design.grounds()?;
+    let tree = set_of(alloc, set)?;
+    repaired(alloc, &design, grounds.as_slice(), tree, loads.as_slice())
+}
+
+fn repaired_agrees(alloc: Global, row: &'static str) -> Result<(), Fail> {
+    let (given, set, loads, sets, wanted) = five_fields(row)?;
+    let (trees, loads) = repaired_of(alloc, given, set, loads)?;
+    routing_agrees(alloc, row, &trees, &loads, (sets, wanted))
+}
+
 #[test]
 fn repair_takes_out_the_old_set_of_a_net_and_puts_a_new_one(rt: HostRuntime) -> Result<(), Fail> {
-    let alloc = rt.alloc();
-    for row in rows_of(alloc, REPAIRED)? {
-        let (given, set, loads, sets, wanted) = five_fields(row)?;
-        let design = design_of(alloc, given)?;
-        let grounds = design.grounds()?;
-        let (tree, loads) = (set_of(alloc, set)?, numbers_of(alloc, loads)?);
-        let (trees, loads) = repaired(alloc, &design, grounds.as_slice(), tree, loads.as_slice())?;
-        routing_agrees(alloc, row, &trees, &loads, (sets, wanted))?;
+    for row in rows_of(rt.alloc(), REPAIRED)? {
+        repaired_agrees(rt.alloc(), row)?;
     }
     Ok(())
 }
