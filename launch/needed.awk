@@ -1,4 +1,4 @@
-# The lines of crates.txt of the programs and of all crates that they stand on.
+# The lines of crates.txt of a program, -v program=NAME, and of all crates that it stands on.
 /^[a-z]/ {
     name = $1
     sub(/:$/, "", name)
@@ -14,9 +14,6 @@ function need(name,    words, many, at) {
 }
 
 END {
-    need("grouter")
-    need("unavoidable")
-    need("reroute")
-    need("congestion_map")
+    need(program)
     for (at = 1; at <= count; at++) if (names[at] in needed) print line[names[at]]
 }

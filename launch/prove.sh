@@ -1,9 +1,9 @@
 #!/bin/sh
-# Proves and builds all programs, and says on standard error how far it is:
-#   launch/prove.sh NAME, where NAME is who asks
+# Proves and builds one of the programs, and says on standard error how far it is:
+#   launch/prove.sh grouter|reroute|unavoidable|congestion_map
 #
 # The toolchain's gate proves crates side by side that don't stand on each other. It runs on a copy that has only the crates
-# which the programs stand on, and not their must-fail edits: those are the repository's own gate's (.ci/run). What either gate
+# which the program stands on, and not their must-fail edits: those are the repository's own gate's (.ci/run). What either gate
 # proved the other takes over, as long as the text is the same.
 set -eu
 
@@ -36,7 +36,7 @@ trap 'leave 143' TERM
 # the copy; the gate wants the top of a repository
 mkdir "$room/.git" "$room/crates"
 cp "$top/HANDLES" "$room"
-awk -f "$top/launch/needed.awk" "$top/crates.txt" >"$room/crates.txt"
+awk -v program="$name" -f "$top/launch/needed.awk" "$top/crates.txt" >"$room/crates.txt"
 crates=$(sed 's/:.*//' "$room/crates.txt")
 for crate in $crates; do
     mkdir "$room/crates/$crate"
@@ -57,7 +57,7 @@ far() {
         "$top/docs/AUDIT.md" "$room/crates.txt" "$room/log"
 }
 
-say "proving and building all programs on $processors processors; later starts are immediate"
+say "proving and building it on $processors processors; later starts are immediate"
 (cd "$room" && exec rt ci) >"$room/log" 2>&1 </dev/null &
 prover=$!
 [ -t 2 ] || say "$(far now=1)"
@@ -85,7 +85,7 @@ if [ "$status" -ne 0 ]; then
     # what was said of each crate that failed, or else the last lines
     awk '/^== / { part = "" } { part = part $0 "\n" } /^rt: .* NOT PROVED$/ { printf "%s", part; part = ""; many++ } END { exit !many }' \
         "$room/log" >&2 || tail -n 20 "$room/log" >&2
-    say "the programs could not be proved or built"
+    say "the program could not be proved or built"
     if [ "$found" = "$wanted" ]; then
         say "the toolchain is the one that proved this text. A changed crate has to be mended as the lines above say; else look for want of memory or disk"
     else
@@ -95,11 +95,10 @@ if [ "$status" -ne 0 ]; then
 fi
 
 # As old as the copy, so that a change that came meanwhile counts as newer; and put in place whole, since the old one may be running.
-for made in grouter reroute unavoidable congestion_map; do
-    mkdir -p "$top/crates/$made/out"
-    cp "$room/crates/$made/out/$made" "$top/crates/$made/out/$made.new"
-    touch -r "$room/crates.txt" "$top/crates/$made/out/$made.new"
-    mv "$top/crates/$made/out/$made.new" "$top/crates/$made/out/$made"
-done
+out=$top/crates/$name/out
+mkdir -p "$out"
+cp "$room/crates/$name/out/$name" "$out/$name.new"
+touch -r "$room/crates.txt" "$out/$name.new"
+mv "$out/$name.new" "$out/$name"
 say "proved and built in $((($(date +%s) - begin + 59) / 60)) min"
 leave 0

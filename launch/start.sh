@@ -1,7 +1,7 @@
 #!/bin/sh
-# Starts one of the programs on the words given, and has all of them proved and built first where that is still to do:
+# Starts one of the programs on the words given, and has it proved and built first where that is still to do:
 #   launch/start.sh grouter|reroute|unavoidable|congestion_map WORD..
-# Its own statuses are 0 for --help, 126 where the programs could not be proved or built, and 127 without a toolchain.
+# Its own statuses are 0 for --help, 126 where the program could not be proved or built, and 127 without a toolchain.
 set -eu
 
 top=$(CDPATH='' cd -- "$(dirname -- "$0")/.." && pwd)
@@ -21,7 +21,7 @@ done
 is_new() {
     [ -x "$program" ] || return 1
     set -- "$top/crates.txt"
-    for crate in $(awk -f "$top/launch/needed.awk" "$top/crates.txt" | sed 's/:.*//'); do
+    for crate in $(awk -v program="$name" -f "$top/launch/needed.awk" "$top/crates.txt" | sed 's/:.*//'); do
         set -- "$@" "$top/crates/$crate"
     done
     [ -z "$(find "$@" \( -name out -o -name must-fail \) -prune -o -type f -newer "$program" -print)" ]

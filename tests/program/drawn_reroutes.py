@@ -1,7 +1,7 @@
 #!/usr/bin/env python3
 """Runs the built `reroute` on drawn designs, and looks at all that it writes with plain counting.
 
-    tests/program/drawn_reroutes.py [COUNT [SEED [REROUTE [GROUTER]]]]
+    tests/program/drawn_reroutes.py [--room] [COUNT [SEED [REROUTE [GROUTER]]]]
 
 By hand, outside the gate: 200 designs take some minutes. Without words it draws 200 designs from seed 1, and takes the programs
 that `rt run` left in crates/*/out. Of each design it asks that
@@ -14,11 +14,13 @@ that `rt run` left in crates/*/out. Of each design it asks that
   overflow and wirelength.
 
 Designs are drawn with widths from 1 to 4, choked edges and nets that are forced over them, one layer, one row, nets of many pins,
-and 16 layers. It prints a line for each design that fails, then how the processor time is spread: for each piece of wirelength,
+and 16 layers. Most have so little room that nets are routed again in many rounds. With --room they are larger, and an edge has room
+for eight times what the nets need on average, so that what the kinds alone cost shows. It prints a line for each design that fails, then how the processor time is spread: for each piece of wirelength,
 apart for designs that end without overflow and for the others; and for each piece in each turn, since a run goes through the nets
 once for their first sets, in up to 60 rounds and in up to ten passes. Of each it prints the mean and the greatest by kind of
 design and over all, and whether none is above twice the mean. It fails where one design failed."""
 
+import math
 import os
 import random
 import resource
@@ -32,6 +34,8 @@ KINDS = ["plain", "widths", "choked", "one_layer", "one_row", "many_pins", "laye
 FEWEST_PIECES = 1000
 # the turns of a run beside its rounds: the first sets, and the most passes of descent
 OTHER_TURNS = 11
+# how many times what its nets need on average an edge of a design with room has
+ROOM = 8
 
 
 class Design:
@@ -46,20 +50,24 @@ class Design:
         if kind == "layers":
             layers = 16
         self.layers = layers
-        both = kind in ("one_layer", "one_row")
-        level = rng.choice([8, 16, 24])
-        self.along_x = [level if both or l % 2 == 0 else 0 for l in range(layers)]
-        self.along_y = [level if both or l % 2 == 1 else 0 for l in range(layers)]
-        wide = kind == "widths"
-        self.widths = [rng.randint(1, 3) if wide else 1 for _ in range(layers)]
-        self.spacings = [rng.randint(0, 2) if wide else 1 for _ in range(layers)]
+        self.both = kind in ("one_layer", "one_row")
+        self.set_level(rng.choice([8, 16, 24]))
+        self.draw_wires(kind, rng)
         self.capacities = {}
-        self.nets = self.draw_nets(kind, rng)
+        self.nets = self.draw_nets(kind, rng, rng.randint(40, 250))
         self.draw_adjustments(kind, rng)
 
-    def draw_nets(self, kind, rng):
+    def set_level(self, level):
+        self.along_x = [level if self.both or l % 2 == 0 else 0 for l in range(self.layers)]
+        self.along_y = [level if self.both or l % 2 == 1 else 0 for l in range(self.layers)]
+
+    def draw_wires(self, kind, rng):
+        wide = kind == "widths"
+        self.widths = [rng.randint(1, 3) if wide else 1 for _ in range(self.layers)]
+        self.spacings = [rng.randint(0, 2) if wide else 1 for _ in range(self.layers)]
+
+    def draw_nets(self, kind, rng, count):
         nets = []
-        count = rng.randint(40, 250)
         for net in range(count):
             width = rng.randint(1, 4) if kind == "widths" else 1
             pins = rng.choice([2, 2, 2, 3, 3, 4, 5, 8, 15])
@@ -133,6 +141,47 @@ class Design:
             elif line:
                 net = int(line.split()[1])
         return sum(max(0, load - self.capacity(edge)) for edge, load in loads.items()), pieces
+
+
+class RoomyDesign(Design):
+    """A larger design, whose edges have room for its nets."""
+
+    def __init__(self, kind, rng):
+        self.cols, self.rows, layers = rng.randint(40, 100), rng.randint(40, 100), rng.randint(2, 6)
+        if kind == "one_row":
+            self.cols, self.rows, layers = rng.randint(1000, 4000), 1, rng.randint(1, 3)
+        self.layers = {"one_layer": 1, "layers": 16}.get(kind, layers)
+        self.both = kind in ("one_layer", "one_row")
+        self.draw_wires(kind, rng)
+        self.nets = self.draw_nets(kind, rng, rng.randint(1000, 4000))
+        self.level = self.level_for(kind)
+        self.set_level(self.level)
+        self.capacities = {}
+        self.draw_adjustments(kind, rng)
+
+    def level_for(self, kind):
+        """ROOM times what the nets need of an edge on average, and at least four times what the widest needs."""
+        widest = max(4 if kind == "widths" else 1, *self.widths) + max(self.spacings)
+        needed = 0
+        for _, width, places in self.nets:
+            spans = sum(max(at) - min(at) for at in list(zip(*places))[:2])
+            needed += (max(width, *self.widths) + max(self.spacings)) * max(1.0, math.sqrt(len(places)) / 2) * spans
+        edges = self.cols * self.rows * self.layers * (2 if self.both else 1)
+        return max(math.ceil(ROOM * needed / edges), 4 * widest)
+
+    def draw_adjustments(self, kind, rng):
+        """Three edges of a hundred have half of the room. In a design with choked edges these have none, and neither have those round
+        the first net's first tile."""
+        self.adjusted = []
+        level = 0 if kind == "choked" else self.level // 2
+        edges = [(col, row, layer, axis) for layer in range(self.layers) for row in range(self.rows) for col in range(self.cols)
+                 for axis in "xy" if rng.random() < 0.03]
+        if kind == "choked":
+            col, row = self.nets[0][2][0][:2]
+            sides = [(col, row, "x"), (col, row, "y"), (col - 1, row, "x"), (col, row - 1, "y")]
+            edges += [(c, r, layer, axis) for layer in range(self.layers) for c, r, axis in sides if c >= 0 and r >= 0]
+        for col, row, layer, axis in dict.fromkeys(edges):
+            self.adjust(col, row, layer, axis, level)
 
 
 def pieces_of(segment):
@@ -219,12 +268,15 @@ def built(name):
     return f"{TOP}/crates/{name}/out/{name}"
 
 
-def main(count=200, seed=1, reroute=built("reroute"), grouter=built("grouter")):
+def main(*words):
+    draw = RoomyDesign if "--room" in words else Design
+    words = [word for word in words if word != "--room"]
+    count, seed, reroute, grouter = [*words, *[200, 1, built("reroute"), built("grouter")][len(words):]]
     failed, forced, fitting, overfull, turns = 0, 0, [], [], []
     with tempfile.TemporaryDirectory() as room:
         for number in range(int(count)):
             kind = KINDS[number % len(KINDS)]
-            design = Design(kind, random.Random(f"{seed} {number}"))
+            design = draw(kind, random.Random(f"{seed} {number}"))
             try:
                 (overflow, pieces), seconds, rounds, over = try_design(design, room, reroute, grouter)
             except AssertionError as fault:

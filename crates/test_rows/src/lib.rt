@@ -1,10 +1,17 @@
 //! Tables of tests, each one text: a row is a line, bars part its fields, and a line that begins with `#` is a comment.
 //!
 //! ```text
-//! for row in rows_of(alloc, TABLE)? {
-//!     let (pieces, wanted) = two_fields(row)?;
-//!     let found = set_text(alloc, &set_of(alloc, pieces)?)?;
-//!     agree(row, found.as_str(), wanted)?;
+//! struct Sets;
+//!
+//! impl Answers for Sets {
+//!     fn answer(&self, alloc: Global, given: &'static str) -> Result<String, Fail> {
+//!         Ok(set_text(alloc, &set_of(alloc, given)?)?)
+//!     }
+//! }
+//!
+//! #[test]
+//! fn sets_are_written_as_they_are_read(rt: HostRuntime) -> Result<(), Fail> {
+//!     check_rows(rt.alloc(), TABLE, &Sets)
 //! }
 //! ```
 //!
@@ -21,6 +28,7 @@ mod fault;
 mod numbers;
 mod rows;
 mod shapes;
+mod tables;
 
 pub use fault::RowFault;
 pub use numbers::{number_of, numbers_of, numbers_text, three_numbers, two_numbers};
@@ -31,3 +39,4 @@ pub use rows::{
 pub use shapes::{
     fraction_text, piece_of, piece_text, set_of, set_text, sets_of, sets_text, size_of, vertices_of,
 };
+pub use tables::{Answers, check_rows};

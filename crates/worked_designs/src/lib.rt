@@ -5,8 +5,8 @@
 //! let without_nets = design_of(alloc, "ROW 119 144 0;0;")?;
 //! ```
 //!
-//! It stands on `ispd_reader`, `grid_graph` and `test_rows`. The tests of `design_tests`, `judge_tests`, `routing_tests` and
-//! `unavoidable_tests` stand on it, and nothing that a run uses.
+//! It stands on `ispd_reader`, `grid_graph` and `test_rows`. Crates of tests stand on it, `run_tables`
+//! among them, and nothing that a run uses.
 //!
 //! Promised: nothing. The texts are what they are, and the tests say what is read of them.
 

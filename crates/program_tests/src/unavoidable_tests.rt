@@ -1,10 +1,11 @@
 //! What is found of routes that the judge accepts, with a certificate and without.
 
-use crate::runs::{after_run, runs_agree};
+use crate::programs::Unavoidable;
+use crate::runs::{run_agrees, runs_agree};
 use command_words::JudgeRequest;
 use gr_desk::Port;
 use judge_cli::judge;
-use run_tables::{Left, Told, desk_of, left_agrees, left_of, told_of};
+use run_tables::{Left, Told, desk_of, left_of, told_of};
 use std::alloc::Global;
 use std::test::Fail;
 use std::thread::Threads;
@@ -223,16 +224,20 @@ fn judged<R: Threads + Sync>(rt: &R, alloc: Global, told: Told, left: &Left) -> 
     Ok(left_of(alloc, status, &desk)?)
 }
 
+/// Whether the judge said yes.
+fn is_accepted(judged: &Left) -> bool {
+    match judged.texts.first() {
+        Some(said) => judged.status.as_str() == "0" && said.starts_with(b"yes\n"),
+        None => false,
+    }
+}
+
 /// Fails where a run of the table leaves something else, or a certificate that the judge doesn't accept.
 fn finds_agree<R: Threads + Sync>(rt: &R, alloc: Global, table: &'static str) -> Result<(), Fail> {
     for paragraph in paragraphs_of(alloc, table)? {
-        let told = told_of(alloc, paragraph)?;
-        let wanted = told.wanted;
-        let left = after_run(rt, alloc, told)?;
-        left_agrees(alloc, paragraph, &left, wanted)?;
+        let left = run_agrees(&Unavoidable, rt, alloc, paragraph)?;
         let judged = judged(rt, alloc, told_of(alloc, paragraph)?, &left)?;
-        let said = judged.texts.first().ok_or("a report")?.as_slice();
-        if judged.status.as_str() != "0" || !said.starts_with(b"yes\n") {
+        if !is_accepted(&judged) {
             return Err(Fail::new(paragraph));
         }
     }
@@ -274,5 +279,5 @@ refused 7;";
 
 #[test]
 fn what_is_found_is_cut_short_where_a_write_fails(rt: HostRuntime) -> Result<(), Fail> {
-    runs_agree(&rt, rt.alloc(), CUT_SHORT)
+    runs_agree(&Unavoidable, &rt, rt.alloc(), CUT_SHORT)
 }

@@ -1,7 +1,8 @@
 //! What becomes of nets. All routes were worked out by hand: in each case no others have so little overflow and, with this
 //! overflow, so little wirelength.
 
-use crate::runs::{FROM_NONE, WITH_ROUTES, runs_agree};
+use crate::programs::{FROM_NONE, WITH_ROUTES};
+use crate::runs::runs_agree;
 use std::test::Fail;
 
 /// Three nets go over two edges with room for one each, so one has an overflow of 2. The shortest way of each is one edge.
@@ -35,7 +36,7 @@ a 0;!;";
 
 #[test]
 fn nets_without_routes_get_them(rt: HostRuntime) -> Result<(), Fail> {
-    runs_agree(&rt, rt.alloc(), FROM_NONE, NONE_GIVEN)
+    runs_agree(&FROM_NONE, &rt, rt.alloc(), NONE_GIVEN)
 }
 
 const GIVEN: &str =
@@ -76,7 +77,7 @@ a 0;(5,5,1)-(25,5,1);!;b 1;(5,15,1)-(25,15,1);(5,5,1)-(5,15,1);(25,5,1)-(25,15,1
 
 #[test]
 fn given_routes_are_never_made_worse(rt: HostRuntime) -> Result<(), Fail> {
-    runs_agree(&rt, rt.alloc(), WITH_ROUTES, GIVEN)
+    runs_agree(&WITH_ROUTES, &rt, rt.alloc(), GIVEN)
 }
 
 /// The first of these runs, where a call fails.
@@ -98,5 +99,5 @@ a 0;(5,5,1)-(15,5,1);!;b 1;(5,5,1)-(15,5,1);!;";
 
 #[test]
 fn new_routes_are_cut_short_where_a_write_fails(rt: HostRuntime) -> Result<(), Fail> {
-    runs_agree(&rt, rt.alloc(), WITH_ROUTES, CUT_SHORT)
+    runs_agree(&WITH_ROUTES, &rt, rt.alloc(), CUT_SHORT)
 }
