@@ -1,11 +1,13 @@
 //! Worked examples of the events of `load_core`.
 
+ghost use Rattle.std.specs.Prelude.{◌<◌, ◌^◌, length};
 ghost use Rattle.load_core.specs.Events.{IsFit};
 
+use grid_base::NoMemory;
 use load_core::{Amounts, Core, Event, Party};
 use std::alloc::{AllocError, Global};
 use std::test::Fail;
-use test_rows::{agree, number_of, numbers_text, rows_of, three_fields, two_fields, two_numbers};
+use test_rows::{Answers, check_rows, number_of, numbers_text, three_fields, two_numbers};
 
 /// A split, of which nothing of so many words is given.
 fn split(alloc: Global, party: u32, allot: u64, words: usize) -> Result<Event, AllocError> {
@@ -89,67 +91,94 @@ fn state_text(alloc: Global, made: u32, core: &Core) -> Result<String, AllocErro
     Ok(text)
 }
 
-/// What is known after one more event.
-fn step_text(alloc: Global, core: &mut Core, field: &'static str) -> Result<String, Fail>
+/// Makes each of some events that is lawful, and answers whether the last one is.
+fn step_by_step(core: &mut Core, events: &[Event]) -> Result<bool, NoMemory>
     requires { IsFit core.old }
     ensures { IsFit core.new }
 {
-    let made = core.step(&event_of(alloc, field, 1)?)?;
-    Ok(state_text(alloc, u32::from(made), core)?)
+    let mut made = false;
+    for event in events {
+        made = core.step(event)?;
+    }
+    Ok(made)
 }
 
-/// An event on a core of one word, and what is known behind it. Half of the allotment goes to party 1, which adds 5; party 0
-/// loads, takes away what it hasn't, and takes party 1 in.
-const STEPS: &str =
-    "split 0 2305843009213693952|1 0; 1 2305843009213693952 0 0; 1 2305843009213693952 0 0
-add 1 0 5|1 5; 1 2305843009213693952 0 0; 1 2305843009213693952 5 0
-load 0 0|1 5; 1 2305843009213693952 0 5 5; 1 2305843009213693952 5 0
-sub 0 0 1|0 5; 1 2305843009213693952 0 5 5; 1 2305843009213693952 5 0
-join 0 1|1 5; 1 4611686018427387904 5 5 5; 0 0 0 0";
+/// How many values the last party loaded.
+fn last_loads(core: &Core) -> usize {
+    match core.parties.list().last() {
+        Some(party) => party.history.list().len(),
+        None => 0,
+    }
+}
+
+/// What is asked for, how many words and events there are, the events, and what is known behind them.
+///
+/// A run makes those before the first that is not lawful. In steps only the unlawful one is left out, and the number is that of
+/// the last. Many events are those of `many_events`: how many of them are made, and how many values the last party loaded.
+const EVENTS: &str =
+    "# half of the allotment goes to party 1, which adds 5; party 0 loads, takes away what it hasn't, and takes party 1 in
+steps|1 1|split 0 2305843009213693952|1 0; 1 2305843009213693952 0 0; 1 2305843009213693952 0 0
+steps|1 2|split 0 2305843009213693952;add 1 0 5|1 5; 1 2305843009213693952 0 0; 1 2305843009213693952 5 0
+steps|1 3|split 0 2305843009213693952;add 1 0 5;load 0 0|1 5; 1 2305843009213693952 0 5 5; 1 2305843009213693952 5 0
+steps|1 4|split 0 2305843009213693952;add 1 0 5;load 0 0;sub 0 0 1|0 5; 1 2305843009213693952 0 5 5; 1 2305843009213693952 5 0
+steps|1 5|split 0 2305843009213693952;add 1 0 5;load 0 0;sub 0 0 1;join 0 1|1 5; 1 4611686018427387904 5 5 5; 0 0 0 0
+# the fourth of these is not lawful, nor is the last one on a party that was taken in; a join appends the history and leaves nothing
+run|1 5|split 0 2305843009213693952;add 1 0 5;load 0 0;sub 0 0 1;join 0 1|3 5; 1 2305843009213693952 0 5 5; 1 2305843009213693952 5 0
+run|2 7|split 0 7;add 1 1 7;load 1 1;sub 1 1 3;load 0 1;join 0 1;load 1 0|6 0 4; 1 4611686018427387904 0 4 0 4 4 7; 0 0 0 0 0 7
+many|5000 5002||5002 5000";
+
+struct Known;
+
+impl Answers for Known {
+    fn answer(&self, alloc: Global, given: &'static str) -> Result<String, Fail> {
+        let (kind, sizes, events) = three_fields(given)?;
+        let (words, count) = two_numbers(sizes)?;
+        let events = match kind {
+            "many" => many_events(alloc, words)?,
+            _ => events_of(alloc, events, words as usize)?,
+        };
+        known_behind(alloc, kind, words, count, &events)
+    }
+}
 
 #[test]
-fn words_and_shares_move_together_step_by_step(rt: HostRuntime) -> Result<(), Fail> {
-    let alloc = rt.alloc();
-    let mut core = Core::new(alloc, 1)?;
-    for row in rows_of(alloc, STEPS)? {
-        let (event, wanted) = two_fields(row)?;
-        agree(row, step_text(alloc, &mut core, event)?.as_str(), wanted)?;
-    }
-    Ok(())
+fn words_and_shares_move_together(rt: HostRuntime) -> Result<(), Fail> {
+    check_rows(rt.alloc(), EVENTS, &Known)
 }
 
-/// The core of so many words behind those of the events that are made, and how many these are, of so many events.
-fn ran(alloc: Global, words: u32, count: u32, events: &[Event]) -> Result<(Core, u32), Fail> {
+/// What is known of so many words behind so many events.
+fn known_behind(
+    alloc: Global,
+    kind: &str,
+    words: u32,
+    count: u32,
+    events: &[Event],
+) -> Result<String, Fail> {
     if events.len() != count as usize {
         return Err(Fail::new("another number of events"));
     }
     let mut core = Core::new(alloc, words)?;
-    let made = core.run(events)?;
-    Ok((core, made))
+    known_text(alloc, kind, &mut core, events)
 }
 
-/// What is known behind those of so many events that are made.
-fn run_text(alloc: Global, words: u32, count: u32, field: &'static str) -> Result<String, Fail> {
-    let events = events_of(alloc, field, words as usize)?;
-    let (core, made) = ran(alloc, words, count, &events)?;
-    Ok(state_text(alloc, made, &core)?)
-}
-
-/// How many words and events there are, the events, and what is known behind those before the first that is not lawful: the
-/// fourth of the steps above, and the last on a party that was taken in. A join appends the history and leaves nothing.
-const RUNS: &str =
-    "1 5|split 0 2305843009213693952;add 1 0 5;load 0 0;sub 0 0 1;join 0 1|3 5; 1 2305843009213693952 0 5 5; 1 2305843009213693952 5 0
-2 7|split 0 7;add 1 1 7;load 1 1;sub 1 1 3;load 0 1;join 0 1;load 1 0|6 0 4; 1 4611686018427387904 0 4 0 4 4 7; 0 0 0 0 0 7";
-
-#[test]
-fn a_run_stops_before_the_first_event_that_is_not_lawful(rt: HostRuntime) -> Result<(), Fail> {
-    for row in rows_of(rt.alloc(), RUNS)? {
-        let (sizes, events, wanted) = three_fields(row)?;
-        let (words, count) = two_numbers(sizes)?;
-        let found = run_text(rt.alloc(), words, count, events)?;
-        agree(row, found.as_str(), wanted)?;
+fn known_text(alloc: Global, kind: &str, core: &mut Core, events: &[Event]) -> Result<String, Fail>
+    requires fit { IsFit core.old }
+    requires few { length events.now < 2 ^ 32 }
+{
+    match kind {
+        "steps" => {
+            let made = step_by_step(core, events)?;
+            Ok(state_text(alloc, u32::from(made), core)?)
+        }
+        "run" => {
+            let made = core.run(events)?;
+            Ok(state_text(alloc, made, core)?)
+        }
+        _ => {
+            let made = core.run(events)?;
+            Ok(format!(in alloc; "{made} {}", last_loads(core))?)
+        }
     }
-    Ok(())
 }
 
 /// A load of each word, a split, and a join by which the new party takes the first one in.
@@ -161,20 +190,4 @@ fn many_events(alloc: Global, words: u32) -> Result<Vec<Event>, Fail> {
     events.push(split(alloc, 0, 7, words as usize)?)?;
     events.push(Event::Join { into: 1, from: 0 })?;
     Ok(events)
-}
-
-/// How many values the last party loaded.
-fn last_loads(core: &Core) -> usize {
-    match core.parties.list().last() {
-        Some(party) => party.history.list().len(),
-        None => 0,
-    }
-}
-
-#[test]
-fn thousands_of_words_are_loaded_split_and_joined(rt: HostRuntime) -> Result<(), Fail> {
-    let events = many_events(rt.alloc(), 5000)?;
-    let (core, made) = ran(rt.alloc(), 5000, 5002, &events)?;
-    assert!(rt; made == 5002 && last_loads(&core) == 5000);
-    Ok(())
 }

@@ -12,14 +12,10 @@ fn a_share_finds_what_another_added(rt: HostRuntime) -> Result<(), Fail> {
     let (table, mut share) = LoadTable::open(rt.alloc(), 1)?;
     let mut other = share.split(&table, 1 << 61, &[0])?;
     other.add(&table, 0, 5);
-    let found = share.load(&table, 0);
-    assert_eq!(rt; (found, share.last_of(0), share.share_of(0)), (5, 5, 0));
+    let apart = (share.load(&table, 0), share.last_of(0), share.share_of(0));
     share.join(&table, other);
-    let word = share.load(&table, 0);
-    assert_eq!(rt;
-        (word, share.share_of(0), share.allotment()),
-        (5, 5, 1u64 << 62)
-    );
+    let joined = (share.load(&table, 0), share.share_of(0), share.allotment());
+    assert!(rt; (apart, joined) == ((5, 5, 0), (5, 5, 1u64 << 62)));
     Ok(())
 }
 
@@ -59,12 +55,12 @@ fn two_threads_at_once_leave_the_sums(rt: HostRuntime) -> Result<(), Fail> {
             ensures { result.table ≡ table }
         { work(other, &table, 4) },
     );
-    assert_eq!(rt; (share.share_of(0), other.share_of(0)), (3004, 4003));
+    let apart = (share.share_of(0), other.share_of(0));
     share.join(&table, other);
     let words = (share.load(&table, 0), share.load(&table, 1));
-    assert_eq!(rt; words, (7007, 5000));
-    assert_eq!(rt; (share.share_of(0), share.share_of(1)), (7007, 5000));
-    assert_eq!(rt; share.allotment(), 1u64 << 62);
+    let joined = (share.share_of(0), share.share_of(1), share.allotment());
+    let wanted = ((3004, 4003), (7007, 5000), (7007, 5000, 1u64 << 62));
+    assert!(rt; (apart, words, joined) == wanted);
     Ok(())
 }
 
@@ -82,6 +78,6 @@ fn thousands_of_words_are_split_and_joined(rt: HostRuntime) -> Result<(), Fail> 
     let mut other = share.split(&table, 1 << 61, &given)?;
     other.add(&table, 4999, 5);
     share.join(&table, other);
-    assert_eq!(rt; (share.load(&table, 4999), share.share_of(4999)), (5, 5));
+    assert!(rt; (share.load(&table, 4999), share.share_of(4999)) == (5, 5));
     Ok(())
 }

@@ -3,63 +3,141 @@
 ghost use Rattle.std.specs.Prelude.{◌≡◌, ◌≤◌, IsTrue, IfOk, IfSome};
 ghost use Rattle.grid_graph.specs.Flat.{tiles};
 ghost use Rattle.grid_graph.specs.Grids.{size_of, IsNetWidth};
+ghost use Rattle.grid_graph.specs.Limits.{max_capacity};
 ghost use Rattle.edge_prices.specs.KeptLists.{grid_of, IsRenewed};
 ghost use Rattle.edge_prices.specs.Limits.{IsBudget};
 ghost use Rattle.edge_prices.specs.Vectors.{IsLoadList};
 
 use edge_prices::{
-    Costing, KeptPrices, LAST_INDEX, MAX_LOAD, Weighing, are_edge_prices, index_at, price_at,
-    price_from, prices,
+    Costing, KeptPrices, LAST_INDEX, MAX_LOAD, MAX_SCALE, Weighing, are_edge_prices, index_at,
+    price_at, price_from, prices,
 };
-use grid_base::{Edge, NoMemory, Piece, Size, Via};
+use grid_base::{Edge, NoMemory, Piece, Size};
 use grid_graph::{FlooredWeights, Floors, Grid, GridParts, Ground, MAX_DEMAND, Weights};
-use std::alloc::Global;
+use std::alloc::{AllocError, Global};
 use std::test::Fail;
-use test_rows::{agree, numbers_text, rows_of, two_numbers};
+use test_rows::{
+    Answers, check_rows, number_of, numbers_text, piece_of, three_numbers, two_numbers,
+};
 
-/// Some places in the table of prices, and the price there.
-const ENTRIES: &str = "0 1
-39 40
-59 80
-73 122
-83 162
-98 244
-117 402
-135 640
-155 1063
-170 1548
-180 1986
-190 2548
-200 3266
-220 5363
-240 8802
-247 10468
-253 12142
-255 12758";
+/// What is asked for, and what is found: the price at a place of the table, the index of a capacity, a load and a scale, the
+/// price of an index where another one is the greatest, or something of the grid of `three_edges`.
+///
+/// Of the grid it is what a piece costs where edges 0 and 8 have the prices 5 and 7, the prices where edges 0, 2 and 4 and the
+/// wirelength have loads, or what is kept after so many changes of loads that are 0 at first. The prices are those of the open
+/// edges 0, 2 and 8, of the choked one and of the wirelength. Kept are the prices, lists of these lengths, the floors along x,
+/// along y and of a via, and what pieces weigh: an edge four times its price for each unit that a wire of width 2 uses, and 1.
+const ASKED: &str = "# some places in the table of prices
+place 0|1
+place 39|40
+place 59|80
+place 73|122
+place 83|162
+place 98|244
+place 117|402
+place 135|640
+place 155|1063
+place 170|1548
+place 180|1986
+place 190|2548
+place 200|3266
+place 220|5363
+place 240|8802
+place 247|10468
+place 253|12142
+place 255|12758
+# an index counts eighths, and a price falls with the distance to the top
+index 4 8 1|16
+index 3 1 1|2
+from 8 16|10468
+from 0 300|1
+# prices follow the greatest index of all resources, without a budget and with one of 1
+loaded free| 12758 10468 8587 0 0
+loaded bound| 3885 3186 2612 0 12758
+# the greatest index rises to 16, an entry rises below it, and the greatest index falls to 8
+kept 0 prices| 12758 12758 12758 0 0
+kept 1 prices| 12758 8587 8587 0 0
+kept 2 prices| 12758 10468 8587 0 0
+kept 3 prices| 10468 12758 10468 0 0
+kept 3 lengths| 17 17
+# edge 4 is choked, edge 10 is a wall, and there is no via 4
+kept 1 floors| 103045 393217 1
+kept 1 open e2|103045
+kept 1 open e4|none
+kept 1 open e10|none
+kept 1 open v3|1
+kept 1 open v4|none
+kept 1 forced e0|153097
+kept 1 forced e2|103045
+kept 1 forced e8|137393
+kept 1 forced e4|274877906944
+kept 1 forced e10|none
+kept 1 forced v0|1
+kept 1 forced v3|1
+kept 1 forced v4|none
+# only open edges cost
+cost e0|15
+cost e8|28
+cost e4|0
+cost v0|0";
 
-#[test]
-fn the_table_has_its_entries(rt: HostRuntime) -> Result<(), Fail> {
-    for row in rows_of(rt.alloc(), ENTRIES)? {
-        let (place, price) = two_numbers(row)?;
-        assert!(rt; place <= LAST_INDEX && price_at(place) == price, "{row}");
+struct Prices;
+
+impl Answers for Prices {
+    fn answer(&self, alloc: Global, given: &'static str) -> Result<String, Fail> {
+        let (kind, asked) = given.split_once(' ').ok_or("what is asked")?;
+        match kind {
+            "place" => at_place(alloc, number_of(asked)?),
+            "index" => index_of(alloc, asked),
+            "from" => from_index(alloc, asked),
+            _ => of_three_edges(alloc, kind, asked),
+        }
     }
-    Ok(())
 }
 
 #[test]
-fn an_index_counts_eighths_and_a_price_falls_with_the_distance_to_the_top(rt: HostRuntime) {
-    assert!(rt; index_at(4, 8, 1) == 16 && index_at(3, 1, 1) == 2);
-    assert!(rt; price_from(8, 16) == 10468 && price_from(0, 300) == 1);
+fn prices_and_weights_are_those_that_were_worked_out(rt: HostRuntime) -> Result<(), Fail> {
+    check_rows(rt.alloc(), ASKED, &Prices)
+}
+
+fn at_place(alloc: Global, place: u32) -> Result<String, Fail> {
+    if place > LAST_INDEX {
+        return Err(Fail::new("no place"));
+    }
+    Ok(price_at(place).to_string(alloc)?)
+}
+
+fn index_of(alloc: Global, numbers: &'static str) -> Result<String, Fail> {
+    let (capacity, load, scale) = three_numbers::<u32>(numbers)?;
+    let load = u64::from(load);
+    if capacity == 0 || load > MAX_LOAD || scale == 0 || scale > MAX_SCALE {
+        return Err(Fail::new("no index"));
+    }
+    Ok(index_at(u64::from(capacity), load, scale).to_string(alloc)?)
+}
+
+fn from_index(alloc: Global, numbers: &'static str) -> Result<String, Fail> {
+    let (index, top) = two_numbers::<u128>(numbers)?;
+    if index > top {
+        return Err(Fail::new("no greatest index"));
+    }
+    Ok(price_from(index, top).to_string(alloc)?)
+}
+
+/// Makes the capacity of an edge another one.
+fn set_level(grid: &mut Grid, e: u32, level: u32)
+    requires { level ≤ max_capacity }
+{
+    if grid.size().is_piece(Piece::Edge(Edge(e))) {
+        grid.adjust(Edge(e), level);
+    }
 }
 
 /// Four tiles in a row on two layers. Edges 0, 2 and 8 are open, with capacities 4, 8 and 4. Edge 4 is choked, and edges 10
 /// and 12 are walls. A wire of a net of width 2 uses 3 of an edge of the lower layer, and 4 of the upper one.
-fn three_edges(alloc: Global) -> Result<Option<Grid>, NoMemory> {
-    let Some(size) = Size::new(4, 1, 2) else {
-        return Ok(None);
-    };
+fn three_edges(alloc: Global) -> Result<Grid, Fail> {
     let parts = GridParts {
-        size,
+        size: Size::new(4, 1, 2).ok_or("size")?,
         vertical: [0, 0].to_vec(alloc)?,
         horizontal: [4, 0].to_vec(alloc)?,
         widths: [1, 3].to_vec(alloc)?,
@@ -67,22 +145,41 @@ fn three_edges(alloc: Global) -> Result<Option<Grid>, NoMemory> {
         origin: (0, 0),
         tile: (10, 10),
     };
-    let mut grid = Grid::new(alloc, parts).map_err(|_| NoMemory)?;
-    for (e, level) in [(2, 8), (4, 0), (8, 4)] {
-        if grid.size().is_piece(Piece::Edge(Edge(e))) {
-            grid.adjust(Edge(e), level);
-        }
+    let mut grid = Grid::new(alloc, parts)?;
+    set_level(&mut grid, 2, 8);
+    set_level(&mut grid, 4, 0);
+    set_level(&mut grid, 8, 4);
+    Ok(grid)
+}
+
+fn of_three_edges(alloc: Global, kind: &str, asked: &'static str) -> Result<String, Fail> {
+    let grid = three_edges(alloc)?;
+    of_grid(alloc, &grid, kind, asked)
+}
+
+fn of_grid(alloc: Global, grid: &Grid, kind: &str, asked: &'static str) -> Result<String, Fail> {
+    match kind {
+        "loaded" => loaded_text(alloc, grid, asked),
+        "kept" => kept_text(alloc, grid, asked),
+        "cost" => cost_text(alloc, grid, piece_of(asked)?),
+        _ => Err(Fail::new("nothing that can be asked")),
     }
-    Ok(Some(grid))
+}
+
+/// The price at a place of a list, 0 behind its end.
+fn price_in(prices: &[u32], place: usize) -> u32 {
+    prices.get(place).copied().unwrap_or(0)
 }
 
 /// The prices of the open edges, of the choked one and of the wirelength.
-fn at_places(prices: &[u32]) -> [u64; 5] {
-    let mut found = [0; 5];
-    for (i, place) in [0, 2, 8, 4, 16].iter().enumerate() {
-        found[i] = u64::from(prices.get(*place).copied().unwrap_or(0));
-    }
-    found
+fn at_places(prices: &[u32]) -> [u32; 5] {
+    [
+        price_in(prices, 0),
+        price_in(prices, 2),
+        price_in(prices, 8),
+        price_in(prices, 4),
+        price_in(prices, 16),
+    ]
 }
 
 fn are_loads(grid: &Grid, loads: &[u64]) -> bool
@@ -92,7 +189,7 @@ fn are_loads(grid: &Grid, loads: &[u64]) -> bool
         && loads.iter().all(|load| *load <= MAX_LOAD)
 }
 
-fn priced(grid: &Grid, budget: Option<u64>) -> [u64; 5]
+fn priced(grid: &Grid, budget: Option<u64>) -> [u32; 5]
     requires { IsBudget budget }
 {
     let loads = [8, 0, 8, 0, 100, 0, 0, 0, 0, 0, 0, 0, 0, 0, 0, 0, 8];
@@ -103,13 +200,13 @@ fn priced(grid: &Grid, budget: Option<u64>) -> [u64; 5]
     at_places(out.as_slice())
 }
 
-#[test]
-fn prices_follow_the_greatest_index_of_all_resources(rt: HostRuntime) -> Result<(), Fail> {
-    let grid = three_edges(rt.alloc())?.ok_or("size")?;
-    let free = numbers_text(rt.alloc(), &priced(&grid, None))?;
-    agree("without a budget", free.as_str(), " 12758 10468 8587 0 0")?;
-    let bound = numbers_text(rt.alloc(), &priced(&grid, Some(1)))?;
-    agree("with a budget", bound.as_str(), " 3885 3186 2612 0 12758")
+fn loaded_text(alloc: Global, grid: &Grid, budget: &str) -> Result<String, Fail> {
+    let found = match budget {
+        "free" => priced(grid, None),
+        "bound" => priced(grid, Some(1)),
+        _ => return Err(Fail::new("no budget")),
+    };
+    Ok(numbers_text(alloc, &found)?)
 }
 
 /// Whether a layer has four vertices.
@@ -147,40 +244,98 @@ fn changed<'a>(grid: &'a Grid, mut kept: KeptPrices<'a>, entry: u32, load: u64) 
     kept
 }
 
-/// The prices as loads change: the greatest index rises to 16, an entry rises below it, and the greatest index falls to 8.
-fn kept_steps(grid: &Grid, kept: KeptPrices<'_>) -> ([[u64; 5]; 4], [usize; 2])
+/// The keeper after so many of three changes.
+fn changed_often<'a>(grid: &'a Grid, kept: KeptPrices<'a>, count: u32) -> KeptPrices<'a>
     requires grid { grid_of kept ≡ grid.now }
     requires renewed { IsRenewed kept }
+    ensures grid { grid_of result ≡ grid.entry.now }
+    ensures renewed { IsRenewed result }
 {
-    let first = at_places(kept.prices());
-    let kept = changed(grid, kept, 0, 8);
-    let risen = at_places(kept.prices());
-    let kept = changed(grid, kept, 2, 8);
-    let below = at_places(kept.prices());
-    let kept = changed(grid, kept, 0, 0);
-    let fallen = at_places(kept.prices());
-    let (loads, prices) = kept.into_lists();
-    ([first, risen, below, fallen], [loads.len(), prices.len()])
+    if count == 0 {
+        return kept;
+    }
+    let risen = changed(grid, kept, 0, 8);
+    if count == 1 {
+        return risen;
+    }
+    let below = changed(grid, risen, 2, 8);
+    if count == 2 {
+        return below;
+    }
+    changed(grid, below, 0, 0)
 }
 
-/// The prices of the open edges, of the choked one and of the wirelength, a row for each of these steps.
-const STEPS: &str = " 12758 12758 12758 0 0
- 12758 8587 8587 0 0
- 12758 10468 8587 0 0
- 10468 12758 10468 0 0";
-
-#[test]
-fn kept_prices_follow_each_load(rt: HostRuntime) -> Result<(), Fail> {
-    let grid = three_edges(rt.alloc())?.ok_or("size")?;
-    let kept = kept_at_zero(rt.alloc(), &grid)?.ok_or("size")?;
-    let (steps, lengths) = kept_steps(&grid, kept);
-    assert!(rt; lengths[0] == 17 && lengths[1] == 17);
-    let rows = rows_of(rt.alloc(), STEPS)?;
-    assert!(rt; rows.len() == steps.len());
-    for (step, row) in steps.iter().zip(rows) {
-        agree(row, numbers_text(rt.alloc(), step)?.as_str(), row)?;
+fn kept_text(alloc: Global, grid: &Grid, asked: &'static str) -> Result<String, Fail> {
+    let (count, what) = asked.split_once(' ').ok_or("a count")?;
+    let count = number_of(count)?;
+    let first = kept_at_zero(alloc, grid)?.ok_or("size")?;
+    let kept = changed_often(grid, first, count);
+    match what {
+        "lengths" => lengths_text(alloc, kept),
+        _ => kept_part(alloc, grid, &kept, what),
     }
-    Ok(())
+}
+
+fn lengths_text(alloc: Global, kept: KeptPrices<'_>) -> Result<String, Fail> {
+    let (loads, prices) = kept.into_lists();
+    Ok(numbers_text(alloc, &[loads.len(), prices.len()])?)
+}
+
+/// The prices, the floors, or what a piece weighs.
+fn kept_part(
+    alloc: Global,
+    grid: &Grid,
+    kept: &KeptPrices<'_>,
+    what: &'static str,
+) -> Result<String, Fail>
+    requires grid { grid_of kept.now ≡ grid.now }
+    requires renewed { IsRenewed kept.now }
+{
+    if !fits_width(grid, 2) {
+        return Err(Fail::new("width"));
+    }
+    match what {
+        "prices" => Ok(numbers_text(alloc, &at_places(kept.prices()))?),
+        "floors" => floors_text(alloc, kept.weighing(2, Ground::Open).floors()),
+        _ => piece_weight(alloc, grid, kept, what),
+    }
+}
+
+fn floors_text(alloc: Global, floors: Floors) -> Result<String, Fail> {
+    let numbers = [floors.along_x, floors.along_y, floors.via];
+    Ok(numbers_text(alloc, &numbers)?)
+}
+
+/// What a piece weighs for a net that keeps to open edges, or one that is forced.
+fn piece_weight(
+    alloc: Global,
+    grid: &Grid,
+    kept: &KeptPrices<'_>,
+    what: &'static str,
+) -> Result<String, Fail>
+    requires grid { grid_of kept.now ≡ grid.now }
+    requires renewed { IsRenewed kept.now }
+    requires width { IsNetWidth grid.now 2 }
+{
+    let (ground, piece) = what.split_once(' ').ok_or("a ground")?;
+    let piece = piece_of(piece)?;
+    Ok(match ground {
+        "open" => weight_text(alloc, &kept.weighing(2, Ground::Open), piece)?,
+        "forced" => {
+            let forced = Weighing::new(grid, 2, Ground::WithChoked, kept.prices());
+            weight_text(alloc, &forced, piece)?
+        }
+        _ => return Err(Fail::new("no ground")),
+    })
+}
+
+/// The weight of a piece, or that it isn't allowed.
+fn weight_text<W: Weights>(alloc: Global, w: &W, piece: Piece) -> Result<String, AllocError> {
+    if w.allows(piece) {
+        w.weight(piece).to_string(alloc)
+    } else {
+        String::from_str(alloc, "none")
+    }
 }
 
 fn fits_width(grid: &Grid, width: u32) -> bool
@@ -195,53 +350,11 @@ fn fits_width(grid: &Grid, width: u32) -> bool
     true
 }
 
-/// What an edge of each layer, the choked edge and a via weigh.
-fn weights_of<W: Weights>(w: &W) -> [u64; 4] {
-    [
-        w.weight(Piece::Edge(Edge(0))),
-        w.weight(Piece::Edge(Edge(8))),
-        w.weight(Piece::Edge(Edge(4))),
-        w.weight(Piece::Via(Via(0))),
-    ]
-}
-
-/// Whether an open edge, the choked edge, a wall, a via and a number that is no via are allowed.
-fn allowed_by<W: Weights>(w: &W) -> [bool; 5] {
-    [
-        w.allows(Piece::Edge(Edge(2))),
-        w.allows(Piece::Edge(Edge(4))),
-        w.allows(Piece::Edge(Edge(10))),
-        w.allows(Piece::Via(Via(3))),
-        w.allows(Piece::Via(Via(4))),
-    ]
-}
-
-#[test]
-fn pieces_weigh_what_their_price_and_demand_say(rt: HostRuntime) -> Result<(), Fail> {
-    let grid = three_edges(rt.alloc())?.ok_or("size")?;
-    let kept = kept_at_zero(rt.alloc(), &grid)?.ok_or("size")?;
-    let kept = changed(&grid, kept, 0, 8);
-    assert!(rt; fits_width(&grid, 2));
-    let open = kept.weighing(2, Ground::Open);
-    let forced = Weighing::new(&grid, 2, Ground::WithChoked, kept.prices());
-    let floors = Floors {
-        along_x: 4 * 8587 * 3 + 1,
-        along_y: 4 * 32768 * 3 + 1,
-        via: 1,
-    };
-    assert!(rt; open.floors() == floors);
-    assert!(rt; weights_of(&forced) == [4 * 12758 * 3 + 1, 4 * 8587 * 4 + 1, 1 << 38, 1]);
-    assert!(rt; allowed_by(&open) == [true, false, false, true, false]);
-    assert!(rt; allowed_by(&forced) == [true, true, false, true, false]);
-    Ok(())
-}
-
-#[test]
-fn only_open_edges_cost(rt: HostRuntime) -> Result<(), Fail> {
-    let grid = three_edges(rt.alloc())?.ok_or("size")?;
+fn cost_text(alloc: Global, grid: &Grid, piece: Piece) -> Result<String, Fail> {
     let prices = [5, 0, 0, 0, 0, 0, 0, 0, 7, 0, 0, 0, 0, 0, 0, 0];
-    assert!(rt; are_edge_prices(&grid, prices.as_slice()) && fits_width(&grid, 2));
-    let costing = Costing::new(&grid, 2, Ground::WithChoked, prices.as_slice());
-    assert!(rt; weights_of(&costing) == [15, 28, 0, 0]);
-    Ok(())
+    if !are_edge_prices(grid, prices.as_slice()) || !fits_width(grid, 2) {
+        return Err(Fail::new("prices or width"));
+    }
+    let costing = Costing::new(grid, 2, Ground::WithChoked, prices.as_slice());
+    Ok(weight_text(alloc, &costing, piece)?)
 }

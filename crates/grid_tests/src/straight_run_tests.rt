@@ -8,7 +8,7 @@ use grid_base::{Piece, Size, Vertex};
 use std::alloc::Global;
 use std::test::Fail;
 use straight_runs::{Direction, LoadSums, Run, joins_surely, merged, piece_count, set_of_runs};
-use test_rows::{agree, numbers_text, rows_of, three_fields, two_numbers, vertices_of};
+use test_rows::{Answers, check_rows, numbers_text, three_fields, two_numbers, vertices_of};
 use tree_set::joins;
 
 /// Whether a run has a piece, and all that it names are pieces of the grid.
@@ -63,132 +63,135 @@ fn are_joined(alloc: Global, size: Size, runs: &[Run], terminals: &[Vertex]) -> 
     Ok(joins_surely(alloc, size, &runs, terminals)?)
 }
 
-fn run(direction: Direction, first: u32, count: u32) -> Run {
-    Run {
-        direction,
-        first: Vertex(first),
-        count,
-    }
-}
-
-fn east(first: u32, count: u32) -> Run {
-    run(Direction::East, first, count)
-}
-
-fn north(first: u32, count: u32) -> Run {
-    run(Direction::North, first, count)
-}
-
 /// The run that a word stands for: its direction, its first vertex and how many pieces it has.
 fn run_of(word: &'static str) -> Result<Run, Fail> {
     let (direction, numbers) = word.split_once(' ').ok_or("a direction")?;
     let (first, count) = two_numbers(numbers)?;
-    match direction {
-        "east" => Ok(east(first, count)),
-        "north" => Ok(north(first, count)),
-        "up" => Ok(run(Direction::Up, first, count)),
-        _ => Err(Fail::new("no direction")),
-    }
+    let direction = match direction {
+        "east" => Direction::East,
+        "north" => Direction::North,
+        "up" => Direction::Up,
+        _ => return Err(Fail::new("no direction")),
+    };
+    Ok(Run {
+        direction,
+        first: Vertex(first),
+        count,
+    })
 }
 
+/// All rows and all columns of the lower layer, each in two parts that overlap.
+const LATTICE: &str =
+    "east 2 5;north 0 3;east 0 4;north 16 5;east 10 5;north 1 3;east 8 4;north 17 5;east 18 5;north 2 3;east 16 4;north 18 5;east 26 5;north 3 3;east 24 4;north 19 5;east 34 5;north 4 3;east 32 4;north 20 5;east 42 5;north 5 3;east 40 4;north 21 5;east 50 5;north 6 3;east 48 4;north 22 5;east 58 5;north 7 3;east 56 4;north 23 5";
+
+/// The runs that a field lists, or those of the lattice.
 fn runs_of(alloc: Global, field: &'static str) -> Result<Vec<Run>, Fail> {
+    let listed = if field == "lattice" { LATTICE } else { field };
     let mut runs = Vec::new(alloc);
-    for word in field.split(';') {
+    for word in listed.split(';') {
         runs.push(run_of(word)?)?;
     }
     Ok(runs)
 }
 
-/// Runs on a grid of eight columns, eight rows and two layers, vertices, and whether the runs join them.
-const JOINED: &str = "# a cross: row 3 and column 4
-east 24 7;north 4 7|24 60|joined
+/// What is asked for, runs on a grid of eight columns, eight rows and two layers, vertices, and what is found: whether the runs
+/// join the vertices; how many there are after merging and of how many pieces, the first and the last of them; or the loads
+/// of the edges to the east and to the north from the vertices of row 1, where the first run has a load of 2 and each further
+/// one a load that is greater by 1.
+const ASKED: &str = "# a cross: row 3 and column 4
+joined|east 24 7;north 4 7|24 60|joined
 # a T: a column that ends at row 3
-east 24 7;north 4 3|31 4|joined
+joined|east 24 7;north 4 3|31 4|joined
 # a corner: the row begins where the column ends
-east 27 4;north 3 3|3 31|joined
+joined|east 27 4;north 3 3|3 31|joined
 # a column that ends one row before
-east 24 7;north 4 2|31 4|apart
+joined|east 24 7;north 4 2|31 4|apart
 # a row that ends one column before
-east 24 3;north 4 7|24 60|apart
+joined|east 24 3;north 4 7|24 60|apart
 # two rows
-east 24 7;east 32 7|24 32|apart
+joined|east 24 7;east 32 7|24 32|apart
 # one row in two parts that meet, and that don't
-east 24 3;east 27 4|24 31|joined
-east 24 3;east 28 3|24 31|apart
+joined|east 24 3;east 27 4|24 31|joined
+joined|east 24 3;east 28 3|24 31|apart
 # a via at the end of a row, and one beside it
-east 24 3;up 27 1|24 91|joined
-east 24 3;up 28 1|24 92|apart
+joined|east 24 3;up 27 1|24 91|joined
+joined|east 24 3;up 28 1|24 92|apart
 # a terminal on no run
-east 24 7;north 4 7|24 0|apart
+joined|east 24 7;north 4 7|24 0|apart
 # one terminal twice
-east 24 7;north 4 7|0 0|joined
+joined|east 24 7;north 4 7|0 0|joined
 # two lines on two layers, with a via and without it
-east 8 7;east 72 7;up 13 1|8 79|joined
-east 8 7;east 72 7|8 79|apart
+joined|east 8 7;east 72 7;up 13 1|8 79|joined
+joined|east 8 7;east 72 7|8 79|apart
 # columns 1 and 5 are joined in row 0; column 3 begins in row 2, and row 6 ends there or before
-east 1 4;north 1 7;north 5 7;north 19 5|57 61|joined
-east 1 4;north 1 7;north 5 7;north 19 5|57 61 59|apart
-east 1 4;north 1 7;north 5 7;north 19 5;east 49 1|57 61 59|apart
-east 1 4;north 1 7;north 5 7;north 19 5;east 49 2|57 61 59|joined
-east 1 4;north 1 7;north 5 7;north 19 5;east 52 3|57 61 59|apart
-east 1 4;north 1 7;north 5 7;north 19 5;east 51 2|57 61 59|joined";
+joined|east 1 4;north 1 7;north 5 7;north 19 5|57 61|joined
+joined|east 1 4;north 1 7;north 5 7;north 19 5|57 61 59|apart
+joined|east 1 4;north 1 7;north 5 7;north 19 5;east 49 1|57 61 59|apart
+joined|east 1 4;north 1 7;north 5 7;north 19 5;east 49 2|57 61 59|joined
+joined|east 1 4;north 1 7;north 5 7;north 19 5;east 52 3|57 61 59|apart
+joined|east 1 4;north 1 7;north 5 7;north 19 5;east 51 2|57 61 59|joined
+# a lattice has as many runs as lines
+joined|lattice|0 7 56 63 27|joined
+merged|lattice||16 112 Some(Run { direction: East, first: Vertex(0), count: 7 }) Some(Run { direction: North, first: Vertex(7), count: 7 })
+# loads stand on the edges of the added runs
+loads|east 8 3;east 10 5;up 8 1|| 2 0 2 0 5 0 3 0 3 0 3 0 3 0 0 0";
 
-#[test]
-fn runs_that_share_a_vertex_are_joined(rt: HostRuntime) -> Result<(), Fail> {
-    let alloc = rt.alloc();
-    let size = Size::new(8, 8, 2).ok_or("size")?;
-    for row in rows_of(alloc, JOINED)? {
-        let (runs, ends, wanted) = three_fields(row)?;
-        let runs = runs_of(alloc, runs)?;
+struct Found;
+
+impl Answers for Found {
+    fn answer(&self, alloc: Global, given: &'static str) -> Result<String, Fail> {
+        let (kind, runs, ends) = three_fields(given)?;
+        let size = Size::new(8, 8, 2).ok_or("size")?;
         let ends = vertices_of(alloc, ends)?;
-        let joined = are_joined(alloc, size, runs.as_slice(), ends.as_slice())?;
-        agree(row, if joined { "joined" } else { "apart" }, wanted)?;
+        let runs = runs_of(alloc, runs)?;
+        match kind {
+            "joined" => joined_text(alloc, size, &runs, &ends),
+            "merged" => merged_text(alloc, size, &runs),
+            _ => loads_text(alloc, size, &runs),
+        }
     }
-    Ok(())
-}
-
-/// All rows and all columns of the lower layer, each in two parts that overlap.
-fn lattice(alloc: Global) -> Result<Vec<Run>, Fail> {
-    let mut runs = Vec::new(alloc);
-    for i in 0u32..8 {
-        runs.push(east(8 * i + 2, 5))?;
-        runs.push(north(i, 3))?;
-        runs.push(east(8 * i, 4))?;
-        runs.push(north(i + 16, 5))?;
-    }
-    Ok(runs)
 }
 
 #[test]
-fn a_lattice_has_as_many_runs_as_lines(rt: HostRuntime) -> Result<(), Fail> {
-    let size = Size::new(8, 8, 2).ok_or("size")?;
-    let runs = lattice(rt.alloc())?;
-    let ends = [Vertex(0), Vertex(7), Vertex(56), Vertex(63), Vertex(27)];
-    assert!(rt; are_joined(rt.alloc(), size, &runs, ends.as_slice())?);
-    assert!(rt; are_runs(size, &runs));
-    let lines = merged(rt.alloc(), size, runs)?;
-    assert!(rt; lines.len() == 16 && piece_count(size, &lines) == 112);
-    assert!(rt; lines[0] == east(0, 7) && lines[15] == north(7, 7));
-    Ok(())
+fn runs_are_joined_merged_and_loaded_as_was_drawn(rt: HostRuntime) -> Result<(), Fail> {
+    check_rows(rt.alloc(), ASKED, &Found)
 }
 
-#[test]
-fn loads_stand_on_the_edges_of_the_added_runs(rt: HostRuntime) -> Result<(), Fail> {
-    let size = Size::new(8, 8, 2).ok_or("size")?;
-    let runs = [east(8, 3), east(10, 5), run(Direction::Up, 8, 1)];
-    let mut sums = LoadSums::none(rt.alloc(), size)?;
-    for (number, run) in runs.iter().enumerate() {
-        assert!(rt; is_run(sums.size, *run));
-        sums.add(*run, 2 + number as u32);
+fn joined_text(alloc: Global, size: Size, runs: &[Run], ends: &[Vertex]) -> Result<String, Fail> {
+    let joined = are_joined(alloc, size, runs, ends)?;
+    Ok(String::from_str(alloc, if joined { "joined" } else { "apart" })?)
+}
+
+fn merged_text(alloc: Global, size: Size, runs: &[Run]) -> Result<String, Fail> {
+    if !are_runs(size, runs) {
+        return Err(Fail::new("no run"));
     }
-    let loads = sums.finish();
-    assert!(rt; loads.len() == 256);
-    let found = numbers_text(rt.alloc(), &loads[16..32])?;
-    agree(
-        "the edges to the east and to the north from the vertices of row 1",
-        found.as_str(),
-        " 2 0 2 0 5 0 3 0 3 0 3 0 3 0 0 0",
-    )
+    let lines = merged(alloc, size, runs.to_vec(alloc)?)?;
+    let (count, pieces) = (lines.len(), piece_count(size, &lines));
+    let (first, last) = (lines.first(), lines.last());
+    Ok(format!(in alloc; "{count} {pieces} {first:?} {last:?}")?)
+}
+
+/// The sums where each run has a load.
+fn sums_of(alloc: Global, size: Size, runs: &[Run]) -> Result<LoadSums, Fail> {
+    let mut sums = LoadSums::none(alloc, size)?;
+    let mut demand = 2u32;
+    for run in runs {
+        if !is_run(sums.size, *run) {
+            return Err(Fail::new("no run"));
+        }
+        sums.add(*run, demand);
+        demand = demand.wrapping_add(1);
+    }
+    Ok(sums)
+}
+
+fn loads_text(alloc: Global, size: Size, runs: &[Run]) -> Result<String, Fail> {
+    let loads = sums_of(alloc, size, runs)?.finish();
+    if loads.len() != 256 {
+        return Err(Fail::new("another number of loads"));
+    }
+    Ok(numbers_text(alloc, &loads[16..32])?)
 }
 
 /// The next of some numbers that look drawn (Knuth, The Art of Computer Programming, volume 2, 1997), below a limit.
@@ -208,12 +211,40 @@ fn drawn_runs(alloc: Global, size: Size, state: &mut u64) -> Result<Vec<Run>, Fa
             1 => Direction::North,
             _ => Direction::Up,
         };
-        let run = run(direction, drawn(state, 60), 1 + drawn(state, 4) % 4);
+        let run = Run {
+            direction,
+            first: Vertex(drawn(state, 60)),
+            count: 1 + drawn(state, 4) % 4,
+        };
         if is_run(size, run) {
             runs.push(run)?;
         }
     }
     Ok(runs)
+}
+
+/// What a flood over the pieces of runs says.
+fn flood_says(alloc: Global, size: Size, runs: &[Run], terminals: &[Vertex]) -> Result<bool, Fail> {
+    if !are_runs(size, runs) || !are_vertices(size, terminals) {
+        return Err(Fail::new("no run or no vertex"));
+    }
+    let tree = set_of_runs(alloc, size, runs)?;
+    if !are_pieces(size, tree.pieces()) {
+        return Err(Fail::new("no piece"));
+    }
+    Ok(joins(alloc, size, &tree, terminals)?)
+}
+
+/// Whether drawn runs join two drawn vertices. Fails where a flood says something else.
+fn drawn_are_joined(alloc: Global, size: Size, state: &mut u64) -> Result<bool, Fail> {
+    let runs = drawn_runs(alloc, size, state)?;
+    let ends = [Vertex(drawn(state, 60)), Vertex(drawn(state, 60))];
+    let sure = are_joined(alloc, size, &runs, &ends)?;
+    if flood_says(alloc, size, &runs, &ends)? == sure {
+        Ok(sure)
+    } else {
+        Err(Fail::new("a flood says something else"))
+    }
 }
 
 #[test]
@@ -223,13 +254,7 @@ fn drawn_runs_are_joined_where_a_flood_says_so(rt: HostRuntime) -> Result<(), Fa
     let mut some_yes = false;
     let mut some_no = false;
     for _ in 0..500 {
-        let runs = drawn_runs(rt.alloc(), size, &mut state)?;
-        let ends = [Vertex(drawn(&mut state, 60)), Vertex(drawn(&mut state, 60))];
-        let sure = are_joined(rt.alloc(), size, &runs, ends.as_slice())?;
-        assert!(rt; are_runs(size, &runs) && are_vertices(size, ends.as_slice()));
-        let tree = set_of_runs(rt.alloc(), size, &runs)?;
-        assert!(rt; are_pieces(size, tree.pieces()));
-        assert!(rt; sure == joins(rt.alloc(), size, &tree, ends.as_slice())?);
+        let sure = drawn_are_joined(rt.alloc(), size, &mut state)?;
         some_yes |= sure;
         some_no |= !sure;
     }
