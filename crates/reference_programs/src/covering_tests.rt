@@ -1,21 +1,81 @@
-//! Marking and the plain way find the same routes covered, for all sets of pieces of small grids.
+//! Marking beside the plain way to find a route covered, for sets of pieces of a grid.
 
 ghost use Rattle.std.specs.Prelude.{All, IsTrue};
 ghost use Rattle.tree_set.specs.Routings.{ArePieces};
 
-use crate::draws::holds_for;
-use crate::known::are_pieces;
-use crate::piece_sets::{all_pieces, chosen};
-use crate::plain_covering::covers_plainly;
-use grid_base::{Piece, Size};
-use grid_graph::{Design, Name};
+use crate::piece_sets::{are_pieces, numbered_set};
+use grid_base::{Piece, Size, Vertex};
+use grid_graph::{Design, Grid, Name, NetSpec};
 use guide_text::{Guide, Rect, Rects, covers, guides_of, is_near};
-use std::alloc::Global;
+use std::alloc::{AllocError, Global};
 use std::slice::from_ref;
 use std::test::Fail;
-use test_rows::{number_of, rows_of, two_fields};
 use tree_set::Tree;
 use worked_designs::design_of;
+
+/// Whether the tile is an end of the piece.
+fn is_end(size: Size, piece: Piece, tile: u32) -> bool {
+    if !size.is_piece(piece) {
+        return false;
+    }
+    let (start, end) = size.ends_of(piece);
+    start.0 == tile || end.0 == tile
+}
+
+/// Whether the tile is one of the route's.
+fn is_on_route(size: Size, net: &NetSpec, tree: &Tree, tile: u32) -> bool {
+    net.terminals
+        .list()
+        .iter()
+        .any(|terminal| terminal.0 == tile)
+        || tree.pieces().iter().any(|piece| is_end(size, *piece, tile))
+}
+
+/// Whether the whole tile lies inside the rectangle.
+fn holds(grid: &Grid, rect: Rect, tile: u32) -> bool {
+    let size = grid.size();
+    if tile >= size.vertices() {
+        return false;
+    }
+    let place = size.place_of(Vertex(tile));
+    let (origin, extent) = (grid.origin(), grid.tile());
+    let x = origin
+        .0
+        .wrapping_add(i64::from(place.col).wrapping_mul(extent.0));
+    let y = origin
+        .1
+        .wrapping_add(i64::from(place.row).wrapping_mul(extent.1));
+    rect.layer == i64::from(place.layer) + 1
+        && rect.x1 <= x
+        && rect.y1 <= y
+        && x.wrapping_add(extent.0) <= rect.x2
+        && y.wrapping_add(extent.1) <= rect.y2
+}
+
+/// Whether the rectangle is as large as the tiles inside it.
+fn is_filled(grid: &Grid, rect: Rect) -> bool {
+    let extent = grid.tile();
+    let mut area: i64 = 0;
+    for tile in 0..grid.size().vertices() {
+        if holds(grid, rect, tile) {
+            area = area.wrapping_add(extent.0.wrapping_mul(extent.1));
+        }
+    }
+    let width = rect.x2.wrapping_sub(rect.x1);
+    let height = rect.y2.wrapping_sub(rect.y1);
+    rect.x1 < rect.x2 && rect.y1 < rect.y2 && width.wrapping_mul(height) == area
+}
+
+/// Whether each rectangle is filled by tiles, and each tile of the grid lies inside one of them just where it is one of the route's.
+fn covers_plainly(grid: &Grid, net: &NetSpec, tree: &Tree, rects: &[Rect]) -> bool {
+    for tile in 0..grid.size().vertices() {
+        let is_covered = rects.iter().any(|rect| holds(grid, *rect, tile));
+        if is_on_route(grid.size(), net, tree, tile) != is_covered {
+            return false;
+        }
+    }
+    rects.iter().all(|rect| is_filled(grid, *rect))
+}
 
 /// The rectangle of a number: corners on borders, behind the grid and in the middle of a tile, in any order, and layers from 0 on.
 fn numbered_rect(number: u32) -> Rect {
@@ -29,13 +89,8 @@ fn numbered_rect(number: u32) -> Rect {
 }
 
 fn border(number: u32) -> i64 {
-    match number % 5 {
-        0 => 0,
-        1 => 10,
-        2 => 20,
-        3 => 30,
-        _ => 15,
-    }
+    let place = i64::from(number % 5);
+    if place < 4 { place * 10 } else { 15 }
 }
 
 /// Whether the guide covers the route of the first net.
@@ -46,14 +101,25 @@ fn is_covered(alloc: Global, design: &Design, tree: &Tree, guide: &Guide) -> Res
     Ok(covers(alloc, design, 0, tree, guide)?)
 }
 
-/// Some rectangles and one more.
-fn with_one(alloc: Global, some: &[Rect], one: Rect) -> Result<Vec<Rect>, Fail> {
-    let mut rects = Vec::from_slice(alloc, some)?;
-    rects.push(one)?;
-    Ok(rects)
+/// Whether both ways say the same of a guide.
+fn ways_agree(alloc: Global, design: &Design, tree: &Tree, guide: &Guide) -> Result<bool, Fail> {
+    let net = design.nets.list().first().ok_or("a net")?;
+    let plain = covers_plainly(&design.grid, net, tree, guide.rects.list());
+    Ok(is_covered(alloc, design, tree, guide)? == plain)
 }
 
-/// Whether both ways say the same of a guide with some rectangles and one more.
+/// A guide with some rectangles and one more.
+fn guide_with(alloc: Global, some: &[Rect], one: Rect) -> Result<Guide, AllocError> {
+    let mut rects = Vec::from_slice(alloc, some)?;
+    rects.push(one)?;
+    Ok(Guide {
+        name: Name::of(Vec::new(alloc)),
+        id: 0,
+        rects: Rects::of(rects),
+    })
+}
+
+/// Whether both ways say the same of such a guide.
 fn agree(
     alloc: Global,
     design: &Design,
@@ -61,27 +127,30 @@ fn agree(
     some: &[Rect],
     one: Rect,
 ) -> Result<bool, Fail> {
-    let net = design.nets.list().first().ok_or("a net")?;
-    let guide = Guide {
-        name: Name::of(Vec::new(alloc)),
-        id: 0,
-        rects: Rects::of(with_one(alloc, some, one)?),
-    };
-    let plain = covers_plainly(&design.grid, net, tree, guide.rects.list());
-    Ok(is_covered(alloc, design, tree, &guide)? == plain)
+    let guide = guide_with(alloc, some, one)?;
+    ways_agree(alloc, design, tree, &guide)
 }
 
-/// Whether both ways say the same of guides with these rectangles and one of 40 others, and with one of these others alone.
-fn all_agree(
+/// Whether both ways say the same of guides with the last of these rectangles or one of 40 others: alone, with all of these, and
+/// with all but the last.
+fn near_guides_agree(
     alloc: Global,
     design: &Design,
     tree: &Tree,
     rects: &[Rect],
-    first: u32,
+    number: u32,
 ) -> Result<bool, Fail> {
-    for k in 0..40 {
-        let other = numbered_rect(first.wrapping_mul(7).wrapping_add(k * 61) % 2500);
-        if !agree(alloc, design, tree, rects, other)? || !agree(alloc, design, tree, &[], other)? {
+    let (last, others) = rects.split_last().ok_or("a rectangle")?;
+    for k in 0..41 {
+        let one = if k < 40 {
+            numbered_rect(number.wrapping_mul(7).wrapping_add(k * 61) % 2500)
+        } else {
+            *last
+        };
+        if !agree(alloc, design, tree, rects, one)?
+            || !agree(alloc, design, tree, others, one)?
+            || !agree(alloc, design, tree, &[], one)?
+        {
             return Ok(false);
         }
     }
@@ -94,84 +163,46 @@ fn all_are_pieces(size: Size, trees: &[Tree]) -> bool
     trees.iter().all(|tree| are_pieces(size, tree.pieces()))
 }
 
-/// The guide of the design's one net, whose set is the only one of these.
-fn guide_on(alloc: Global, design: &Design, trees: &[Tree]) -> Result<Guide, Fail> {
+/// The guides of a design, one for each of these sets.
+fn guides_on(alloc: Global, design: &Design, trees: &[Tree]) -> Result<Vec<Guide>, Fail> {
     if !is_near(&design.grid)
         || trees.len() != design.nets.list().len()
         || !all_are_pieces(design.grid.size(), trees)
     {
         return Err(Fail::new("no such sets"));
     }
-    Ok(guides_of(alloc, design, trees)?.pop().ok_or("a guide")?)
+    Ok(guides_of(alloc, design, trees)?)
 }
 
-/// Whether both ways say the same of guides with the rectangles of a guide, with those but the last one, and with one of 40
-/// others beside these.
-fn near_guides_agree(
-    alloc: Global,
-    design: &Design,
-    tree: &Tree,
-    rects: &[Rect],
-    number: u32,
-) -> Result<bool, Fail> {
-    let (last, others) = rects.split_last().ok_or("a rectangle")?;
-    Ok(
-        agree(alloc, design, tree, others, *last)?
-            && agree(alloc, design, tree, rects, *last)?
-            && all_agree(alloc, design, tree, rects, number)?
-            && all_agree(alloc, design, tree, others, number)?,
-    )
-}
-
-/// Whether the guide covers the route of the set, and both ways say the same of others that come near it.
+/// Whether the first guide covers the route of the set, and both ways say the same of others that come near it.
 fn guide_agrees(
     alloc: Global,
     design: &Design,
     tree: &Tree,
-    guide: &Guide,
+    guides: &[Guide],
     number: u32,
 ) -> Result<bool, Fail> {
+    let guide = guides.first().ok_or("a guide")?;
     Ok(
         is_covered(alloc, design, tree, guide)?
             && near_guides_agree(alloc, design, tree, guide.rects.list(), number)?,
     )
 }
 
-/// Whether it is so for the guide of the set of a number.
-fn set_agrees(alloc: Global, design: &Design, pieces: &[Piece], number: u32) -> Result<bool, Fail> {
-    let tree = chosen(alloc, pieces, number)?;
-    let guide = guide_on(alloc, design, from_ref(&tree))?;
-    guide_agrees(alloc, design, &tree, &guide, number)
+/// Whether it is so for the guide of the set of a number, which is that of the design's one net.
+fn set_agrees(alloc: Global, design: &Design, size: Size, number: u32) -> Result<bool, Fail> {
+    let tree = numbered_set(alloc, size, number)?;
+    let guides = guides_on(alloc, design, from_ref(&tree))?;
+    guide_agrees(alloc, design, &tree, &guides, number)
 }
 
-/// Fails where it is not so for some of so many sets of a design's pieces.
-fn sets_agree(alloc: Global, design: &Design, sets: u32, row: &str) -> Result<(), Fail> {
-    let pieces = all_pieces(alloc, design.grid.size())?;
-    for number in 0..sets {
-        holds_for(set_agrees(alloc, design, &pieces, number)?, number, row)?;
-    }
-    Ok(())
-}
-
-/// The same, where a row tells the design and how many sets there are.
-fn row_agrees(alloc: Global, row: &'static str) -> Result<(), Fail> {
-    let (given, sets) = two_fields(row)?;
-    let sets = number_of(sets)?;
+/// The same, where a field gives the design.
+pub(crate) fn covering_agrees(
+    alloc: Global,
+    given: &'static str,
+    size: Size,
+    number: u32,
+) -> Result<bool, Fail> {
     let design = design_of(alloc, given)?;
-    sets_agree(alloc, &design, sets, row)
-}
-
-/// The row with a second row, the stack with four tiles a layer, and the square, with how many sets their pieces have.
-const DESIGNS: &str = "ROW 7 8 2|128
-STACK 5 8 2 2|4096
-SQUARE|16";
-
-#[test]
-fn every_set_of_pieces_of_small_grids_is_covered_as_it_is_tile_by_tile(
-    rt: HostRuntime,
-) -> Result<(), Fail> {
-    for row in rows_of(rt.alloc(), DESIGNS)? {
-        row_agrees(rt.alloc(), row)?;
-    }
-    Ok(())
+    set_agrees(alloc, &design, size, number)
 }

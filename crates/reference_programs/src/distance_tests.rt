@@ -1,14 +1,14 @@
 //! Distances on small grids, beside a reference program that lowers numbers as long as a piece lowers one.
 
 ghost use Rattle.std.specs.Prelude.{◌≡◌, ◌≤◌, IfOk, IfSome};
-ghost use Rattle.grid_base.specs.Numbers.{IsVertex, vertices};
+ghost use Rattle.grid_base.specs.Numbers.{IsVertex};
 ghost use Rattle.label_search.specs.Paths.{NoneWeighsNothing};
 ghost use Rattle.shortest_paths.specs.LabelWords.{labels_size};
 
-use crate::draws::{grid_of, holds_for};
 use crate::listed::Listed;
+use crate::piece_sets::numbered_piece;
 use crate::reference_paths::reference_distances;
-use grid_base::{Edge, NoMemory, Piece, Size, Vertex, Via};
+use grid_base::{NoMemory, Size, Vertex};
 use grid_graph::FlooredWeights;
 use shortest_paths::{FloorBound, Labels};
 use std::alloc::Global;
@@ -46,17 +46,11 @@ pub(crate) fn drawn(
     ensures { IfOk result (λ found. IfSome found (λ x. x.size ≡ size)) }
 {
     let mut pieces = Vec::new(alloc);
-    for v in 0..size.vertices() {
-        let at = [
-            Piece::Edge(Edge(2 * v)),
-            Piece::Edge(Edge(2 * v + 1)),
-            Piece::Via(Via(v)),
-        ];
-        for (i, p) in at.iter().enumerate() {
-            if let Some(weight) = drawn_weight(mixed(seed, 3 * v + i as u32), least) {
-                if size.is_piece(*p) {
-                    pieces.push((*p, weight))?;
-                }
+    for number in 0..3 * size.vertices() {
+        let piece = numbered_piece(number);
+        if let Some(weight) = drawn_weight(mixed(seed, number), least) {
+            if size.is_piece(piece) {
+                pieces.push((piece, weight))?;
             }
         }
     }
@@ -75,30 +69,14 @@ fn are_distances(wanted: &[Option<u64>], labels: &Labels, size: Size) -> bool
     true
 }
 
-/// Whether the labels answer for each vertex what the reference program does.
-fn agree(alloc: Global, weights: &Listed, size: Size, source: Vertex) -> Result<bool, NoMemory>
-    requires size { weights.now.size ≡ size }
-    requires source { IsVertex size source.0 }
+/// Whether the labels answer for each vertex what the reference program does, from the first one.
+pub(crate) fn distances_agree(alloc: Global, weights: &Listed, size: Size) -> Result<bool, NoMemory>
+    requires { weights.now.size ≡ size }
 {
-    let wanted = reference_distances(alloc, size, weights.pieces(), source)?;
+    let wanted = reference_distances(alloc, size, weights.pieces(), Vertex(0))?;
     let mut labels = Labels::new(alloc, size, 1)?;
-    labels.distances(weights, source, &[]);
+    labels.distances(weights, Vertex(0), &[]);
     Ok(are_distances(wanted.as_slice(), &labels, size))
-}
-
-/// What the reference program says of one vertex.
-fn wanted_at(
-    alloc: Global,
-    weights: &Listed,
-    size: Size,
-    source: Vertex,
-    goal: Vertex,
-) -> Result<Option<Option<u64>>, NoMemory>
-    requires size { weights.now.size ≡ size }
-    requires source { IsVertex size source.0 }
-{
-    let wanted = reference_distances(alloc, size, weights.pieces(), source)?;
-    Ok(wanted.get(goal.0 as usize).copied())
 }
 
 /// Whether a search that is led to the goal finds the wanted distance, and a path of that weight between the two.
@@ -125,104 +103,16 @@ fn led_search_agrees(
     Ok(weights.weight_of(path.as_slice()) == Some(distance) && wanted == Some(Some(distance)))
 }
 
-/// Whether it does so between two vertices, beside the reference program.
-fn path_agrees(
-    alloc: Global,
-    weights: &Listed,
-    size: Size,
-    source: Vertex,
-    goal: Vertex,
-) -> Result<bool, NoMemory>
-    requires size { weights.now.size ≡ size }
-    requires source { IsVertex size source.0 }
-    requires goal { IsVertex size goal.0 }
+/// Whether it does so between two corners of a grid, beside the reference program.
+pub(crate) fn path_agrees(alloc: Global, weights: &Listed, size: Size) -> Result<bool, Fail>
+    requires { weights.now.size ≡ size }
 {
     if !weights.is_positive() {
-        return Ok(false);
+        return Err(Fail::new("a piece weighs nothing"));
     }
-    let wanted = wanted_at(alloc, weights, size, source, goal)?;
+    let (source, goal) = (Vertex(0), Vertex(size.vertices() - 1));
+    let distances = reference_distances(alloc, size, weights.pieces(), source)?;
+    let wanted = distances.get(goal.0 as usize).copied();
     let mut labels = Labels::new(alloc, size, 15)?;
-    led_search_agrees(weights, size, source, goal, wanted, &mut labels)
-}
-
-/// Whether it does so between two corners of a grid, at weights that are drawn by a number.
-fn drawn_path_agrees(alloc: Global, size: Size, seed: u32) -> Result<bool, Fail> {
-    let weights = drawn(alloc, size, seed, 1)?.ok_or("pieces")?;
-    let last = Vertex(size.vertices() - 1);
-    Ok(path_agrees(alloc, &weights, size, Vertex(0), last)?)
-}
-
-#[test]
-fn a_path_weighs_as_much_as_the_distance(rt: HostRuntime) -> Result<(), Fail> {
-    let grid = "5 4 2";
-    let size = grid_of(grid)?;
-    for seed in 0..6 {
-        holds_for(drawn_path_agrees(rt.alloc(), size, seed)?, seed, grid)?;
-    }
-    Ok(())
-}
-
-/// Whether the distances from the first vertex agree, at weights that are drawn by a number.
-fn drawn_agree(alloc: Global, size: Size, seed: u32) -> Result<bool, Fail> {
-    let weights = drawn(alloc, size, seed, 0)?.ok_or("pieces")?;
-    Ok(agree(alloc, &weights, size, Vertex(0))?)
-}
-
-/// Fails where they don't for some draw on a grid.
-fn all_agree(alloc: Global, field: &'static str) -> Result<(), Fail> {
-    let size = grid_of(field)?;
-    for seed in 0..4 {
-        holds_for(drawn_agree(alloc, size, seed)?, seed, field)?;
-    }
-    Ok(())
-}
-
-#[test]
-fn distances_are_those_of_a_reference_program(rt: HostRuntime) -> Result<(), Fail> {
-    for field in "6 5 1,4 3 3,1 1 5,9 1 2".split(',') {
-        all_agree(rt.alloc(), field)?;
-    }
-    Ok(())
-}
-
-/// All edges of a grid, each of which weighs 1.
-fn edges_of(alloc: Global, size: Size) -> Result<Option<Listed>, NoMemory>
-    ensures { IfOk result (λ found. IfSome found (λ x. x.size ≡ size)) }
-{
-    let mut pieces = Vec::new(alloc);
-    for e in 0..2 * size.vertices() {
-        if size.is_piece(Piece::Edge(Edge(e))) {
-            pieces.push((Piece::Edge(Edge(e)), 1))?;
-        }
-    }
-    Ok(Listed::of(size, pieces))
-}
-
-/// Six labels of the tiles in the middle of the four sides of nine tiles, each by a set of these ends and a tile.
-fn labels_of_a_plus(alloc: Global, size: Size) -> Result<[Option<u64>; 6], Fail>
-    requires { vertices size ≡ 9 }
-{
-    let weights = edges_of(alloc, size)?.ok_or("pieces")?;
-    let ends = [Vertex(1), Vertex(3), Vertex(5), Vertex(7)];
-    let mut labels = Labels::new(alloc, size, 7)?;
-    labels.subsets(&weights, &ends);
-    Ok([
-        labels.label(1, Vertex(1)),
-        labels.label(1, Vertex(7)),
-        labels.label(3, Vertex(4)),
-        labels.label(6, Vertex(1)),
-        labels.label(7, Vertex(7)),
-        labels.label(7, Vertex(8)),
-    ])
-}
-
-#[test]
-fn labels_of_a_plus_are_those_worked_out_by_hand(rt: HostRuntime) -> Result<(), Fail> {
-    let size = Size::new(3, 3, 1).ok_or("size")?;
-    let found = labels_of_a_plus(rt.alloc(), size)?;
-    assert_eq!(rt;
-        found,
-        [Some(0), Some(2), Some(2), Some(3), Some(4), Some(4)]
-    );
-    Ok(())
+    Ok(led_search_agrees(weights, size, source, goal, wanted, &mut labels)?)
 }

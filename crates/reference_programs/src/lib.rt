@@ -26,19 +26,13 @@ mod covering_tests;
 #[cfg(test)]
 mod distance_tests;
 #[cfg(test)]
-mod draws;
-#[cfg(test)]
-mod known;
+mod draw_tests;
 #[cfg(test)]
 mod listed;
 #[cfg(test)]
 mod listing;
 #[cfg(test)]
-mod lows;
-#[cfg(test)]
 mod piece_sets;
-#[cfg(test)]
-mod plain_covering;
 #[cfg(test)]
 mod reference_joins;
 #[cfg(test)]

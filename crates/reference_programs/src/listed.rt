@@ -4,8 +4,9 @@ ghost use Rattle.grid_graph.specs.Flat.{AreLeastOver};
 ghost use Rattle.grid_graph.specs.Weighed.{NoPieceTwice, WeighsOnlyPieces, AreWithinLimit};
 ghost use Rattle.reference_programs.specs.LeastOver.{least_over};
 
-use crate::listing::{are_different, are_light_pieces, are_positive, weight_in};
-use crate::lows::{least_over, least_weight};
+use crate::listing::{
+    are_different, are_light_pieces, are_positive, least_over, least_weight, weight_in,
+};
 use grid_base::{Edge, Piece, Size};
 use grid_graph::{FlooredWeights, Floors, Weights};
 

@@ -1,34 +1,46 @@
-//! All sets of pieces of a small grid.
+//! All sets of pieces of a small grid, and what the programs ask of pieces and vertices, tested.
 
-use grid_base::{Edge, Piece, Size, Via};
+ghost use Rattle.std.specs.Prelude.{◌↔◌, All, IsTrue};
+ghost use Rattle.grid_base.specs.Numbers.{IsVertex, IsPiece};
+
+use grid_base::{Edge, Piece, Size, Vertex, Via};
 use std::alloc::{AllocError, Global};
 use tree_set::Tree;
 
-/// All pieces of the size.
-pub fn all_pieces(alloc: Global, size: Size) -> Result<Vec<Piece>, AllocError> {
-    let mut pieces = Vec::new(alloc);
-    for e in 0..2 * size.vertices() {
-        if size.is_piece(Piece::Edge(Edge(e))) {
-            pieces.push(Piece::Edge(Edge(e)))?;
-        }
+/// The piece of a number, of which each tile has three: its two edges and its via. Some are no pieces of a grid.
+pub(crate) fn numbered_piece(number: u32) -> Piece {
+    let v = number / 3;
+    match number % 3 {
+        0 => Piece::Edge(Edge(2 * v)),
+        1 => Piece::Edge(Edge(2 * v + 1)),
+        _ => Piece::Via(Via(v)),
     }
-    for v in 0..size.vertices() {
-        if size.is_piece(Piece::Via(Via(v))) {
-            pieces.push(Piece::Via(Via(v)))?;
-        }
-    }
-    Ok(pieces)
 }
 
-/// The pieces whose bits are set in the number.
-pub fn chosen(alloc: Global, pieces: &[Piece], number: u32) -> Result<Tree, AllocError> {
-    let mut kept = Vec::new(alloc);
+/// The pieces of a grid whose bits are set in the number.
+pub(crate) fn numbered_set(alloc: Global, size: Size, number: u32) -> Result<Tree, AllocError> {
+    let mut pieces = Vec::new(alloc);
     let mut rest = number;
-    for p in pieces {
-        if rest % 2 == 1 {
-            kept.push(*p)?;
+    for at in 0..3 * size.vertices() {
+        let piece = numbered_piece(at);
+        if size.is_piece(piece) {
+            if rest % 2 == 1 {
+                pieces.push(piece)?;
+            }
+            rest /= 2;
         }
-        rest /= 2;
     }
-    Ok(Tree::of(kept))
+    Ok(Tree::of(pieces))
+}
+
+pub(crate) fn are_pieces(size: Size, pieces: &[Piece]) -> bool
+    ensures { IsTrue result ↔ All (IsPiece size) pieces.now }
+{
+    pieces.iter().all(|p| size.is_piece(*p))
+}
+
+pub(crate) fn are_vertices(size: Size, terminals: &[Vertex]) -> bool
+    ensures { IsTrue result ↔ All (λ t. IsVertex size t.0) terminals.now }
+{
+    terminals.iter().all(|t| t.0 < size.vertices())
 }

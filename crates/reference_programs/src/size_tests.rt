@@ -1,6 +1,6 @@
 //! Memory suffices for sizes that a user meets, and what is answered then is right.
 
-use crate::known::{are_pieces, are_vertices};
+use crate::piece_sets::{are_pieces, are_vertices};
 use grid_base::{Edge, Piece, Size, Vertex};
 use std::alloc::{AllocError, Global};
 use std::test::Fail;
@@ -33,15 +33,12 @@ fn join_the_ends(alloc: Global, size: Size, first: u32, end: u32) -> Result<bool
     Ok(joins(alloc, size, &tree, &ends)?)
 }
 
-/// Whether all edges of a row join its ends, and all but the first one don't.
-fn tell_apart(alloc: Global, size: Size) -> Result<bool, Fail> {
+/// Whether all edges of a row are copied and join its ends, and all but the first one don't join them.
+pub(crate) fn row_agrees(alloc: Global, size: Size) -> Result<bool, Fail> {
     let end = size.vertices();
-    Ok(join_the_ends(alloc, size, 1, end)? && !join_the_ends(alloc, size, 2, end)?)
-}
-
-#[test]
-fn thousands_of_pieces_are_joined_and_copied(rt: HostRuntime) -> Result<(), Fail> {
-    let size = Size::new(9000, 1, 1).ok_or("size")?;
-    assert!(rt; are_copied(rt.alloc(), 1, 9000)? && tell_apart(rt.alloc(), size)?);
-    Ok(())
+    Ok(
+        are_copied(alloc, 1, end)?
+            && join_the_ends(alloc, size, 1, end)?
+            && !join_the_ends(alloc, size, 2, end)?,
+    )
 }

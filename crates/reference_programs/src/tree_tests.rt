@@ -7,10 +7,9 @@ ghost use Rattle.grid_graph.specs.Weighed.{IsAllowed};
 ghost use Rattle.steiner_tables.specs.Masks.{few_terminals};
 ghost use Rattle.steiner_exact.specs.TreeLabelWords.{AreTreeLabels};
 
-use crate::distance_tests::{drawn, mixed};
-use crate::draws::{grid_of, holds_for};
-use crate::known::{are_pieces, are_vertices};
+use crate::distance_tests::mixed;
 use crate::listed::Listed;
+use crate::piece_sets::{are_pieces, are_vertices};
 use crate::reference_weights::reference_least_weight;
 use grid_base::{NoMemory, Size, Vertex};
 use shortest_paths::Labels;
@@ -91,7 +90,7 @@ fn sets_agree(
 }
 
 /// Whether a least tree weighs what the table says, and what the lightest of all sets weighs.
-fn agree(
+pub(crate) fn tree_agrees(
     alloc: Global,
     weights: &Listed,
     size: Size,
@@ -117,42 +116,4 @@ fn agree(
     }
     let (tree, weight) = least_tree(alloc, weights, terminals, labels)?;
     Ok(expected == Some(weight) && is_tree(alloc, weights, size, terminals, &tree, weight)?)
-}
-
-/// Whether it is so for weights and terminals that are drawn by a number.
-fn drawn_agree(alloc: Global, size: Size, seed: u32, labels: &mut TreeLabels) -> Result<bool, Fail>
-    requires labels { AreTreeLabels size labels.old }
-    ensures labels { AreTreeLabels size labels.new }
-{
-    let weights = drawn(alloc, size, seed, 1)?.ok_or("pieces")?;
-    let terminals = drawn_terminals(alloc, size, seed.wrapping_add(99), 2 + seed % 4)?;
-    agree(alloc, &weights, size, terminals.as_slice(), labels)
-}
-
-/// Fails where it is not so for some draw on a grid of this size.
-fn all_agree(alloc: Global, size: Size, labels: &mut TreeLabels, field: &str) -> Result<(), Fail>
-    requires labels { AreTreeLabels size labels.old }
-{
-    for seed in 0..16 {
-        holds_for(drawn_agree(alloc, size, seed, labels)?, seed, field)?;
-    }
-    Ok(())
-}
-
-/// The same with labels that all draws use one after another.
-fn grid_agrees(alloc: Global, field: &'static str) -> Result<(), Fail> {
-    let size = grid_of(field)?;
-    let mut labels = TreeLabels::new(alloc, size)?;
-    all_agree(alloc, size, &mut labels, field)
-}
-
-/// Columns, rows and layers. All sets of the pieces of the first five are tried.
-const SIZES: &str = "3 2 1,3 3 1,2 2 2,2 1 3,1 1 5,3 2 2,6 5 1,4 3 3,5 4 2,9 1 2";
-
-#[test]
-fn least_trees_weigh_what_reference_programs_find(rt: HostRuntime) -> Result<(), Fail> {
-    for field in SIZES.split(',') {
-        grid_agrees(rt.alloc(), field)?;
-    }
-    Ok(())
 }

@@ -1,5 +1,5 @@
 use Rattle.std.proofs.Common.{length}
-use Rattle.reference_programs.proofs.lows.+least_over.Given as goal
+use Rattle.reference_programs.proofs.listing.+least_over.Given as goal
 
 abbrev pub decreases-least_over : goal.decreases-least_over
 decreases-least_over l = length l.pieces.now

@@ -1,7 +1,7 @@
 use Rattle.std.proofs.Common.{◌<◌, ◌≤◌, ℕ, get_or}
 use Rattle.grid_base.specs.declared.piece.Piece.{Piece}
 use Rattle.grid_graph.specs.Limits.{max_weight}
-use Rattle.reference_programs.proofs.lows.least_weight.Given as goal
+use Rattle.reference_programs.proofs.listing.least_weight.Given as goal
 
 abbrev pub invariant-loop-entry : goal.invariant-loop-entry
 invariant-loop-entry l = record {
