@@ -1,30 +1,139 @@
-//! Texts that are read, and texts that are refused.
+//! Texts that are read, and texts that are refused, however they are cut.
 
-use grid_graph::Design;
-use ispd_reader::{InputError, read_design};
-use std::alloc::Global;
+use crate::design_grid_tests::places_text;
+use grid_base::{Edge, Vertex};
+use grid_graph::{Design, Grid, NetSpec};
+use ispd_reader::{InputError, Reader, read_design};
+use std::alloc::{AllocError, Global};
 use std::test::Fail;
-use test_rows::{agree, rows_of, two_fields};
-use worked_designs::{design, design_of, design_text};
+use test_rows::{Answers, RowFault, bytes_of, check_rows};
+use worked_designs::design_text;
 
-/// The id, the name, the width and the terminals of the first net.
-fn first_net(alloc: Global, design: &Design) -> Result<Vec<u8>, Fail> {
-    let net = design.nets.list().first().ok_or("net")?;
-    let mut text = Vec::new(alloc);
-    text.extend_from_slice(net.id.to_string(alloc)?.as_bytes())?;
-    text.push(b' ')?;
-    text.extend_from_slice(net.name.list())?;
-    text.push(b' ')?;
-    text.extend_from_slice(net.width.to_string(alloc)?.as_bytes())?;
-    for terminal in net.terminals.list() {
-        text.push(b' ')?;
-        text.extend_from_slice(terminal.0.to_string(alloc)?.as_bytes())?;
+/// The one field that stands before the last of a row.
+pub fn one_field(given: &'static str) -> Result<&'static str, RowFault> {
+    if given.contains('|') {
+        Err(RowFault::OtherFields(given))
+    } else {
+        Ok(given)
     }
+}
+
+/// The design text that the one field before the last stands for, in which `?` and `~` are bytes that are no text.
+pub fn bytes_in(alloc: Global, given: &'static str) -> Result<Vec<u8>, Fail> {
+    let text = design_text(alloc, one_field(given)?)?;
+    Ok(bytes_of(alloc, str::from_utf8(text.as_slice())?)?)
+}
+
+// ---- what was read, as a text
+
+/// A name, of which each byte is a character.
+fn put_name(text: &mut String, name: &[u8]) -> Result<(), AllocError> {
+    for byte in name {
+        text.push(char::from(*byte))?;
+    }
+    Ok(())
+}
+
+fn put_terminals(text: &mut String, alloc: Global, terminals: &[Vertex]) -> Result<(), AllocError> {
+    for Vertex(v) in terminals {
+        text.push_str(format!(in alloc; " {v}")?.as_str())?;
+    }
+    Ok(())
+}
+
+/// A net's id, its name, its width and its terminals, on a line of their own.
+fn put_net(text: &mut String, alloc: Global, net: &NetSpec) -> Result<(), AllocError> {
+    let (id, width) = (net.id, net.width);
+    text.push_str(format!(in alloc; "{id} ")?.as_str())?;
+    put_name(text, net.name.list())?;
+    text.push_str(format!(in alloc; " {width}")?.as_str())?;
+    put_terminals(text, alloc, net.terminals.list())?;
+    text.push_str("\n")
+}
+
+/// The edges of a grid: each edge's capacity, and the spacing of its layer.
+fn put_edges(text: &mut String, alloc: Global, grid: &Grid) -> Result<(), AllocError> {
+    let size = grid.size();
+    for e in 0..2 * size.vertices() {
+        let (capacity, spacing) = (
+            grid.capacity(Edge(e)),
+            grid.spacing(e / 2 / (size.cols() * size.rows())),
+        );
+        text.push_str(format!(in alloc; " {capacity} {spacing}")?.as_str())?;
+    }
+    Ok(())
+}
+
+/// The nets of a design, and then its grid.
+fn told(alloc: Global, design: &Design) -> Result<String, AllocError> {
+    let mut text = String::new(alloc);
+    for net in design.nets.list() {
+        put_net(&mut text, alloc, net)?;
+    }
+    text.push_str(places_text(alloc, &design.grid)?.as_str())?;
+    put_edges(&mut text, alloc, &design.grid)?;
     Ok(text)
 }
 
-/// A design, and the id, the name, the width and the terminals of its first net. The fourth row has six pins and three
-/// terminals, in the order of their first pins.
+/// What was read: a design, or why there is none.
+fn found_text(alloc: Global, read: Result<Design, InputError>) -> Result<String, AllocError> {
+    match read {
+        Err(error) => error.to_string(alloc),
+        Ok(design) => told(alloc, &design),
+    }
+}
+
+// ---- all ways to cut a text
+
+/// What is answered at the end, when the text is fed in two pieces.
+fn read_in_two(alloc: Global, front: &[u8], back: &[u8]) -> Result<Design, InputError> {
+    let mut reader = Reader::new(alloc)?;
+    let _ = reader.feed(front);
+    let _ = reader.feed(back);
+    reader.end()
+}
+
+/// What is answered at the end, when the text is fed in pieces of so many bytes.
+fn read_in_pieces(alloc: Global, text: &[u8], size: usize) -> Result<Design, InputError> {
+    let mut reader = Reader::new(alloc)?;
+    for piece in text.chunks(size.max(1)) {
+        let _ = reader.feed(piece);
+    }
+    reader.end()
+}
+
+/// The first line of what is read of a text at once, if the same is read of it in two pieces, however long the first one is, and
+/// in pieces of one length, whatever it is.
+fn first_line(alloc: Global, text: &[u8], whole: &str) -> Result<String, AllocError> {
+    for cut in 0..=text.len() {
+        let (front, back) = text.split_at(cut);
+        let in_two = found_text(alloc, read_in_two(alloc, front, back))?;
+        let in_pieces = found_text(alloc, read_in_pieces(alloc, text, cut))?;
+        if in_two.as_str() != whole || in_pieces.as_str() != whole {
+            return format!(in alloc; "{in_two} and {in_pieces} at {cut}");
+        }
+    }
+    let (first, _) = whole.split_once('\n').unwrap_or((whole, ""));
+    String::from_str(alloc, first)
+}
+
+fn read_alike(alloc: Global, text: &[u8]) -> Result<String, AllocError> {
+    let whole = found_text(alloc, read_design(alloc, text))?;
+    first_line(alloc, text, whole.as_str())
+}
+
+/// A row is a text, and its first net or why it is refused.
+struct Texts;
+
+impl Answers for Texts {
+    fn answer(&self, alloc: Global, given: &'static str) -> Result<String, Fail> {
+        let text = bytes_in(alloc, given)?;
+        Ok(read_alike(alloc, text.as_slice())?)
+    }
+}
+
+/// Designs, and the id, the name, the width and the terminals of the first net of each. The fourth row has six pins and three
+/// terminals, in the order of their first pins. The name in the last row has bytes that are no text: 0, and 255, which is `ÿ`.
 const TEXTS: &str = "ROW|0 a 1 0 2
 ROW 142 144|0 a 1 0 2
 ROW 144 144 what follows is ignored|0 a 1 0 2
@@ -35,27 +144,24 @@ ROW 129 144 0 10 1;30 0 1;0;|0 a 1 0 2
 ROW 135 144 30 5 1;0;|0 a 1 0 2
 CRLF|0 a 1 0 2
 LAYERED|0 a 1 0 8
-ROW 119 144 2 a 4294967295 0 1 a 0 1 1 5 5 1 0|4294967295 a 1";
+ROW 119 144 2 a 4294967295 0 1 a 0 1 1 5 5 1 0|4294967295 a 1
+CROWDED_ROW|0 a 1 0 2
+LAYERED_WALLS|7 a 1 0 2
+PLACES|0 a 1 0 1
+BRIDGE|0 a 1 0 1
+ROW 101 144 -0 +000 10 10 num net +1 a +007 1 1 5 5 1 0|7 a 1 0
+ROW 101 144 -0 +000 10 10 num net +1 \x00? +007 1 1 5 5 1|7 \x00ÿ 1 0";
 
-/// A name may have bytes that are no text.
 #[test]
 fn a_design_has_the_nets_of_its_text(rt: HostRuntime) -> Result<(), Fail> {
-    let alloc = rt.alloc();
-    for row in rows_of(alloc, TEXTS)? {
-        let (given, net) = two_fields(row)?;
-        let found = first_net(alloc, &design_of(alloc, given)?)?;
-        assert!(rt; found.as_slice() == net.as_bytes(), "{row}");
-    }
-    let by = b"-0 +000 10 10 num net +1 \x00\xff +007 1 1 5 5 1";
-    let found = first_net(alloc, &design(alloc, 101, 144, by)?)?;
-    assert!(rt; found.as_slice() == b"7 \x00\xff 1 0".as_slice());
-    Ok(())
+    check_rows(rt.alloc(), TEXTS, &Texts)
 }
 
 /// A text, and what is wrong with it: first words that are missing, then numbers, and last adjustments between tiles that
-/// are no neighbours.
+/// are no neighbours. One number has 1000 digits.
 const FAULTS: &str = "ROW 0 144|grid expected at byte 0
 ROW 0 144 g|grid expected at byte 0
+ROW 0 144 gird|grid expected at byte 0
 ROW 0 144  \t\r;|grid expected at byte 4
 ROW 11 144 Vertical|vertical expected at byte 11
 ROW 20 144 capacit|capacity expected at byte 20
@@ -78,6 +184,17 @@ ROW 101 144 1\x00|number expected at byte 101
 ROW 127 144 1022|number expected at byte 131
 ROW 119 144 2;a 0 0 1;b 1 16777216 1 x|number expected at byte 144
 ROW 101 144 1099511627777|number out of range at byte 101
+ROW 101 144 \
+9999999999999999999999999999999999999999999999999999999999999999999999999999999999999999999999999999\
+9999999999999999999999999999999999999999999999999999999999999999999999999999999999999999999999999999\
+9999999999999999999999999999999999999999999999999999999999999999999999999999999999999999999999999999\
+9999999999999999999999999999999999999999999999999999999999999999999999999999999999999999999999999999\
+9999999999999999999999999999999999999999999999999999999999999999999999999999999999999999999999999999\
+9999999999999999999999999999999999999999999999999999999999999999999999999999999999999999999999999999\
+9999999999999999999999999999999999999999999999999999999999999999999999999999999999999999999999999999\
+9999999999999999999999999999999999999999999999999999999999999999999999999999999999999999999999999999\
+9999999999999999999999999999999999999999999999999999999999999999999999999999999999999999999999999999\
+9999999999999999999999999999999999999999999999999999999999999999999999999999999999999999999999999999|number out of range at byte 101
 ROW 123 144 4294967296 2 1|number out of range at byte 123
 ROW 123 144 -1 2 1|number out of range at byte 123
 ROW 0 144 grid 2048 2048 3|grid too large or empty at byte 15
@@ -115,28 +232,7 @@ BLOCK 131 131 1 0 0 1 0 0 1 3|adjustment 0 between no neighbours at byte 143
 BLOCK 131 131 1 0 0 0 0 0 1 3|adjustment 0 between no neighbours at byte 143
 BLOCK 131 131 1 0 0 2 0 0 3 3|adjustment 0 between no neighbours at byte 143";
 
-/// What is wrong with a text that was read.
-fn fault_text(alloc: Global, read: Result<Design, InputError>) -> Result<String, Fail> {
-    match read {
-        Err(InputError::Input(fault)) => Ok(fault.to_string(alloc)?),
-        _ => Err(Fail::new("no fault")),
-    }
-}
-
 #[test]
 fn each_fault_is_told_at_its_place(rt: HostRuntime) -> Result<(), Fail> {
-    let alloc = rt.alloc();
-    for row in rows_of(alloc, FAULTS)? {
-        let (given, fault) = two_fields(row)?;
-        let text = design_text(alloc, given)?;
-        let found = fault_text(alloc, read_design(alloc, text.as_slice()))?;
-        agree(row, found.as_str(), fault)?;
-    }
-    let long = "9".repeat(alloc, 1000)?;
-    let found = fault_text(alloc, design(alloc, 101, 144, long.as_bytes()))?;
-    agree(
-        "1000 digits",
-        found.as_str(),
-        "number out of range at byte 101",
-    )
+    check_rows(rt.alloc(), FAULTS, &Texts)
 }

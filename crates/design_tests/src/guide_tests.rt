@@ -1,73 +1,39 @@
 //! Guides of sets of pieces, and their text.
 
-ghost use Rattle.std.specs.Prelude.{All, IsTrue};
-ghost use Rattle.tree_set.specs.Routings.{ArePieces};
-
-use crate::trees::{alike, are_pieces};
-use gr_desk::{MemDesk, Port};
-use grid_base::{Edge, Piece, Size};
-use grid_graph::{Design, Name};
-use guide_text::{
-    Guide, GuideError, Rect, Rects, covers, guides_of, is_near, read_guides, write_guides,
-};
-use std::alloc::{AllocError, Global};
+use crate::design_text_tests::one_field;
+use crate::trees::Sets;
+use guide_text::{GuideError, read_guides};
+use std::alloc::Global;
 use std::test::Fail;
-use test_rows::{
-    agree, four_fields, numbers_of, rows_of, set_of, text_of, three_fields, two_fields,
-};
-use tree_set::Tree;
-use worked_designs::design_of;
-
-fn all_are_pieces(size: Size, trees: &[Tree]) -> bool
-    ensures { IsTrue result → All (ArePieces size) trees.now }
-{
-    trees.iter().all(|tree| are_pieces(size, tree))
-}
-
-/// The guides of the sets, one for each net.
-fn guides_on(alloc: Global, design: &Design, trees: &[Tree]) -> Result<Vec<Guide>, Fail> {
-    if !is_near(&design.grid)
-        || trees.len() != design.nets.list().len()
-        || !all_are_pieces(design.grid.size(), trees)
-    {
-        return Err(Fail::new("no such sets"));
-    }
-    Ok(guides_of(alloc, design, trees)?)
-}
-
-/// The text of guides, as it is written to a desk.
-fn written(alloc: Global, guides: &[Guide]) -> Result<Vec<u8>, Fail> {
-    let mut desk = MemDesk::new(alloc, Vec::new(alloc), Vec::new(alloc));
-    write_guides(&mut desk, Port::GuideOut, guides)?;
-    Ok(Vec::from_slice(alloc, desk.written(Port::GuideOut))?)
-}
+use test_rows::{Answers, check_rows};
 
 /// A design, the set of each net, and the guides. In the star of five rows and columns on two layers the pins are (2,0), (2,4),
 /// (0,2) and (4,2) of the lower layer, and (2,2) of the upper one. Two rows of one width are one rectangle, a wider one parts it, and
 /// so does a gap; an end of a piece counts as a terminal does.
-const GUIDES: &str = "ROW|e0 e2|a 0;(;0 0 30 10 1;);
-ROW||a 0;(;0 0 10 10 1;20 0 30 10 1;);
-SQUARE|e0 e1 e3 e4|a 0;(;0 0 20 20 1;);
-SQUARE|e0 e3|a 0;(;0 0 20 10 1;10 10 20 20 1;);
-STACK|v0|a 0;(;0 0 10 10 1;0 0 10 10 2;);
-CRLF|e0 e2|a 0;(;-10 -10 20 0 1;);
-STAR|e5 e15 e20 e22 e24 e25 e26 e35 v12|a 0;(;20 0 30 20 1;0 20 50 30 1;20 30 30 50 1;20 20 30 30 2;);";
+const GUIDES: &str = "ROW|e0 e2|guides|a 0;(;0 0 30 10 1;);
+ROW||guides|a 0;(;0 0 10 10 1;20 0 30 10 1;);
+SQUARE|e0 e1 e3 e4|guides|a 0;(;0 0 20 20 1;);
+SQUARE|e0 e3|guides|a 0;(;0 0 20 10 1;10 10 20 20 1;);
+STACK|v0|guides|a 0;(;0 0 10 10 1;0 0 10 10 2;);
+CRLF|e0 e2|guides|a 0;(;-10 -10 20 0 1;);
+STAR|e5 e15 e20 e22 e24 e25 e26 e35 v12|guides|a 0;(;20 0 30 20 1;0 20 50 30 1;20 30 30 50 1;20 20 30 30 2;);";
 
 #[test]
 fn guides_are_longest_rectangles(rt: HostRuntime) -> Result<(), Fail> {
-    let alloc = rt.alloc();
-    for row in rows_of(alloc, GUIDES)? {
-        let (given, set, wanted) = three_fields(row)?;
-        let design = design_of(alloc, given)?;
-        let trees = alike(alloc, &design, set)?;
-        let guides = guides_on(alloc, &design, trees.as_slice())?;
-        let text = written(alloc, guides.as_slice())?;
-        let wanted = text_of(alloc, wanted)?;
-        agree(row, str::from_utf8(text.as_slice())?, wanted.as_str())?;
-        let read = written(alloc, read_guides(alloc, text.as_slice())?.as_slice())?;
-        agree(row, str::from_utf8(read.as_slice())?, wanted.as_str())?;
+    check_rows(rt.alloc(), GUIDES, &Sets)
+}
+
+/// A row is a text of guides, and where it is refused.
+struct Guides;
+
+impl Answers for Guides {
+    fn answer(&self, alloc: Global, given: &'static str) -> Result<String, Fail> {
+        match read_guides(alloc, one_field(given)?.as_bytes()) {
+            Ok(_) => Ok(String::from_str(alloc, "read")?),
+            Err(GuideError::Syntax { at }) => Ok(at.to_string(alloc)?),
+            Err(GuideError::NoMemory) => Err(Fail::new("no memory")),
+        }
     }
-    Ok(())
 }
 
 /// Texts of guides, and the places at which they are refused. A number may have a sign and zeros in front, blanks of any kind
@@ -89,53 +55,9 @@ a 0 ( 1 2 3 4 2199023255552 )|read
 a 0 ( 1 2 3 4 2199023255553 )|14
 a 0 ( 1 2 3 4 5 6 )|18";
 
-fn answer_to(alloc: Global, text: &str) -> Result<String, Fail> {
-    match read_guides(alloc, text.as_bytes()) {
-        Ok(_) => Ok(String::from_str(alloc, "read")?),
-        Err(GuideError::Syntax { at }) => Ok(at.to_string(alloc)?),
-        Err(GuideError::NoMemory) => Err(Fail::new("no memory")),
-    }
-}
-
 #[test]
 fn a_text_of_guides_is_refused_at_its_first_wrong_token(rt: HostRuntime) -> Result<(), Fail> {
-    let alloc = rt.alloc();
-    for row in rows_of(alloc, READ)? {
-        let (given, wanted) = two_fields(row)?;
-        agree(row, answer_to(alloc, given)?.as_str(), wanted)?;
-    }
-    Ok(())
-}
-
-/// Rectangles from their numbers, five each.
-fn rects_from(alloc: Global, numbers: &[i64]) -> Result<Rects, Fail> {
-    let mut rects = Vec::new(alloc);
-    for five in numbers.chunks(5) {
-        match five {
-            [x1, y1, x2, y2, layer] => rects.push(Rect {
-                x1: *x1,
-                y1: *y1,
-                x2: *x2,
-                y2: *y2,
-                layer: *layer,
-            })?,
-            _ => return Err(Fail::new("five numbers a rectangle")),
-        }
-    }
-    Ok(Rects::of(rects))
-}
-
-/// Whether a guide covers the route of the first net. Its name and its id are not the net's.
-fn covered(alloc: Global, design: &Design, tree: &Tree, rects: Rects) -> Result<bool, Fail> {
-    if design.nets.list().is_empty() || !are_pieces(design.grid.size(), tree) {
-        return Err(Fail::new("no such set"));
-    }
-    let guide = Guide {
-        name: Name::of(Vec::from_slice(alloc, b"other")?),
-        id: 7,
-        rects,
-    };
-    Ok(covers(alloc, design, 0, tree, &guide)?)
+    check_rows(rt.alloc(), READ, &Guides)
 }
 
 /// A design, a set for its net, the rectangles of a guide, five numbers each, and whether they cover the route. Rectangles may
@@ -188,40 +110,11 @@ STACK|v0|0 0 10 10 1 0 0 10 10 2 0 0 10 10 3|false
 STAR|e5 e15 e20 e22 e24 e25 e26 e35 v12|20 0 30 50 1 20 20 30 30 2 0 20 50 30 1|true
 STAR|e5 e15 e20 e22 e24 e25 e26 e35 v12|20 0 30 50 1 20 20 30 30 2 0 20 50 40 1|false
 ROW 125 142 0 1;|||true
-ROW 125 142 0 1;||0 0 10 10 1|false";
+ROW 125 142 0 1;||0 0 10 10 1|false
+ROW 5 6 20000|19999 by 2|0 0 100000 10 1 90000 0 200000 10 1|true
+ROW 5 6 20000|19999 by 2|0 0 199990 10 1|false";
 
 #[test]
 fn guides_cover_exactly_the_tiles_of_a_route(rt: HostRuntime) -> Result<(), Fail> {
-    let alloc = rt.alloc();
-    for row in rows_of(alloc, COVERS)? {
-        let (given, set, rects, wanted) = four_fields(row)?;
-        let design = design_of(alloc, given)?;
-        let tree = set_of(alloc, set)?;
-        let numbers = numbers_of::<i64>(alloc, rects)?;
-        let rects = rects_from(alloc, numbers.as_slice())?;
-        let answer = covered(alloc, &design, &tree, rects)?.to_string(alloc)?;
-        agree(row, answer.as_str(), wanted)?;
-    }
-    Ok(())
-}
-
-/// The edges of a row of 20,000 tiles.
-fn row_of_edges(alloc: Global) -> Result<Tree, AllocError> {
-    let mut pieces = Vec::new(alloc);
-    for v in 0..19_999 {
-        pieces.push(Piece::Edge(Edge(2 * v)))?;
-    }
-    Ok(Tree::of(pieces))
-}
-
-#[test]
-fn a_long_route_is_covered_tile_by_tile(rt: HostRuntime) -> Result<(), Fail> {
-    let alloc = rt.alloc();
-    let design = design_of(alloc, "ROW 5 6 20000")?;
-    let tree = row_of_edges(alloc)?;
-    let whole = rects_from(alloc, &[0, 0, 100_000, 10, 1, 90_000, 0, 200_000, 10, 1])?;
-    assert!(rt; covered(alloc, &design, &tree, whole)?);
-    let short = rects_from(alloc, &[0, 0, 199_990, 10, 1])?;
-    assert!(rt; !covered(alloc, &design, &tree, short)?);
-    Ok(())
+    check_rows(rt.alloc(), COVERS, &Sets)
 }
