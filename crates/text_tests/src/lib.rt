@@ -6,8 +6,6 @@
 #![tactic(auto)]
 
 #[cfg(test)]
-mod argument_tests;
-#[cfg(test)]
 mod certificate_tests;
 #[cfg(test)]
 mod command_line_tests;
@@ -16,8 +14,8 @@ mod desk_tests;
 #[cfg(test)]
 mod made_text_tests;
 #[cfg(test)]
-mod program_words_tests;
-#[cfg(test)]
 mod seed_tests;
+#[cfg(test)]
+mod text_fields;
 #[cfg(test)]
 mod token_tests;

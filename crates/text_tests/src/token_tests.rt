@@ -1,158 +1,157 @@
 //! Tokens and numbers of `text_scan` in worked texts.
 
-ghost use Rattle.std.specs.Prelude.{◌≡◌, Ok};
-
 use std::alloc::{AllocError, Global};
 use std::test::Fail;
-use test_rows::{agree, bytes_of, four_fields, number_of, rows_of, three_fields, two_numbers};
+use test_rows::{Answers, RowFault, bytes_of, check_rows, two_fields, two_numbers};
 use text_scan::{Number, NumberFault, Scanner, Span};
 
-/// A design of one net, of 144 bytes.
-const DESIGN: &[u8] =
-    b"grid 3 1 1\nvertical capacity 0\nhorizontal capacity 4\nminimum width 1\nminimum spacing 1\nvia spacing 1\n0 0 10 10\nnum net 1\na 0 2 1\n5 5 1\n25 5 1\n0\n";
-
-fn number(value: i64, at: usize) -> Result<Number, NumberFault>
-    ensures { result ≡ Ok (record { value = value; at = at }) }
-{
-    Ok(Number { value, at })
-}
-
-/// A text, its first token by its start and its end, and the place behind it. The bytes of the last text are no ASCII.
-const TOKENS: &str = "|none|0
- \t\r;|none|4
- a |1 2|2
-\r;ab\r;|2 4|4
-ab\tc|0 2|2
-a\0b c|0 3|3
-\x0b\x0c #|0 2|2
-?~\u{a0} x|0 4|4";
-
-#[test]
-fn tokens_are_the_longest_runs_between_blanks(rt: HostRuntime) -> Result<(), Fail> {
-    let alloc = rt.alloc();
-    for row in rows_of(alloc, TOKENS)? {
-        let (text, wanted, place) = three_fields(row)?;
-        let text = bytes_of(alloc, text)?;
-        let mut scanner = Scanner::over(text.as_slice());
-        let found = match scanner.token() {
-            Some(Span { start, end }) => format!(in alloc; "{start} {end}")?,
-            None => String::from_str(alloc, "none")?,
-        };
-        agree(row, found.as_str(), wanted)?;
-        assert!(rt; scanner.place() == number_of(place)?, "{row}");
-    }
-    Ok(())
-}
-
-#[test]
-fn the_places_in_a_design_are_known(rt: HostRuntime) {
-    let mut scanner = Scanner::over(DESIGN);
-    for _ in 0..33 {
-        scanner.token();
-    }
-    let pin = Some(Span {
-        start: 135,
-        end: 137,
-    });
-    assert!(rt; scanner.token() == pin);
-    assert!(rt; scanner.number(0, 9) == number(5, 138) && scanner.number(0, 9) == number(1, 140));
-    assert!(rt; scanner.place() == 141);
-    assert!(rt; scanner.number(0, 9) == number(0, 142) && scanner.place() == 143);
-    let end = NumberFault::End { at: 144 };
-    assert!(rt; scanner.number(0, 9) == Err(end) && end.place() == 144 && end.number() == 3);
-}
-
 fn fault_text(alloc: Global, fault: NumberFault) -> Result<String, AllocError> {
+    let (number, at) = (fault.number(), fault.place());
     match fault {
-        NumberFault::End { at } => format!(in alloc; "end at {at}"),
-        NumberFault::NotNumber { at } => format!(in alloc; "no number at {at}"),
-        NumberFault::OutOfRange { at } => format!(in alloc; "out of range at {at}"),
+        NumberFault::End { .. } => format!(in alloc; "end {number} at {at}"),
+        NumberFault::NotNumber { .. } => format!(in alloc; "no number {number} at {at}"),
+        NumberFault::OutOfRange { .. } => format!(in alloc; "out of range {number} at {at}"),
     }
 }
 
-/// A text, the least and the greatest number, the number that is read with its place, and the place behind it.
-const NUMBERS: &str = " ;|0 9|end at 2|2
- - 1|0 9|no number at 1|2
-+-1|-9 9|no number at 0|3
-1x 2|0 9|no number at 0|2
-1\0|0 9|no number at 0|2
--0|0 9|0 at 0|2
-+007|7 7|7 at 0|4
- -12\r;|-12 0|-12 at 1|4
- 12 |0 11|out of range at 1|3
- 12 |13 99|out of range at 1|3
-9223372036854775807|-9223372036854775808 9223372036854775807|9223372036854775807 at 0|19
-9223372036854775808|-9223372036854775808 9223372036854775807|out of range at 0|19
--9223372036854775808|-9223372036854775808 9223372036854775807|-9223372036854775808 at 0|20
-18446744073709551617|0 9|out of range at 0|20";
-
-#[test]
-fn a_number_is_a_whole_token(rt: HostRuntime) -> Result<(), Fail> {
-    let alloc = rt.alloc();
-    for row in rows_of(alloc, NUMBERS)? {
-        let (text, range, wanted, place) = four_fields(row)?;
-        let text = bytes_of(alloc, text)?;
-        let (low, high) = two_numbers(range)?;
-        let mut scanner = Scanner::over(text.as_slice());
-        let found = match scanner.number(low, high) {
-            Ok(Number { value, at }) => format!(in alloc; "{value} at {at}")?,
-            Err(fault) => fault_text(alloc, fault)?,
-        };
-        agree(row, found.as_str(), wanted)?;
-        assert!(rt; scanner.place() == number_of(place)?, "{row}");
+fn token_text(alloc: Global, token: Option<Span>) -> Result<String, AllocError> {
+    match token {
+        Some(Span { start, end }) => format!(in alloc; "{start} {end}"),
+        None => String::from_str(alloc, "none"),
     }
-    Ok(())
 }
 
-/// A text, the least and the greatest number, the number that its digits are, and the place behind them.
-const DIGITS: &str = "\t |0 9|end at 2|2
-12)|0 99|12|2
- -5,7|-9 9|-5|3
-+003-4|0 9|3|4
- 12)|0 11|out of range at 1|3
- -x|0 9|no number at 1|1
-(5|0 9|no number at 0|0
-  +|0 9|no number at 2|2
-170141183460469231731687303715884105727!|-170141183460469231731687303715884105728 170141183460469231731687303715884105727|170141183460469231731687303715884105727|39
-170141183460469231731687303715884105728!|-170141183460469231731687303715884105728 170141183460469231731687303715884105727|out of range at 0|39
--170141183460469231731687303715884105728!|-170141183460469231731687303715884105728 170141183460469231731687303715884105727|-170141183460469231731687303715884105728|40";
-
-#[test]
-fn digits_need_not_end_a_token(rt: HostRuntime) -> Result<(), Fail> {
-    let alloc = rt.alloc();
-    for row in rows_of(alloc, DIGITS)? {
-        let (text, range, wanted, place) = four_fields(row)?;
-        let (low, high) = two_numbers(range)?;
-        let mut scanner = Scanner::over(text.as_bytes());
-        let found = match scanner.digits(low, high) {
-            Ok(value) => value.to_string(alloc)?,
-            Err(fault) => fault_text(alloc, fault)?,
-        };
-        agree(row, found.as_str(), wanted)?;
-        assert!(rt; scanner.place() == number_of(place)?, "{row}");
+fn byte_text(alloc: Global, byte: Option<u8>) -> Result<String, AllocError> {
+    match byte {
+        Some(byte) => char::from(byte).to_string(alloc),
+        None => String::from_str(alloc, "none"),
     }
-    Ok(())
 }
 
-#[test]
-fn a_thousand_digits_never_wrap(rt: HostRuntime) {
-    let nines = [b'9'; 1000];
-    let mut seven = [b'0'; 1000];
-    seven[999] = b'7';
-    let beyond = NumberFault::OutOfRange { at: 0 };
-    assert!(rt; Scanner::over(&nines).number(i64::MIN, i64::MAX) == Err(beyond));
-    assert!(rt; Scanner::over(&nines).digits(i128::MIN, i128::MAX) == Err(beyond));
-    assert!(rt; Scanner::over(&seven).number(0, 9) == number(7, 0));
-    assert!(rt; Scanner::over(&seven).digits(0, 9) == Ok(7));
+fn number_text(
+    alloc: Global,
+    scanner: &mut Scanner<'_>,
+    range: &'static str,
+) -> Result<String, Fail> {
+    let (low, high) = two_numbers(range)?;
+    match scanner.number(low, high) {
+        Ok(Number { value, at }) => Ok(format!(in alloc; "{value} at {at}")?),
+        Err(fault) => Ok(fault_text(alloc, fault)?),
+    }
 }
 
+fn digits_text(
+    alloc: Global,
+    scanner: &mut Scanner<'_>,
+    range: &'static str,
+) -> Result<String, Fail> {
+    let (low, high) = two_numbers(range)?;
+    match scanner.digits(low, high) {
+        Ok(value) => Ok(value.to_string(alloc)?),
+        Err(fault) => Ok(fault_text(alloc, fault)?),
+    }
+}
+
+/// What a reading answers.
+fn answer_of(
+    alloc: Global,
+    scanner: &mut Scanner<'_>,
+    reading: &'static str,
+) -> Result<String, Fail> {
+    let (name, rest) = reading.split_once(' ').unwrap_or((reading, ""));
+    match (name, rest.as_bytes()) {
+        ("token", []) => Ok(token_text(alloc, scanner.token())?),
+        ("peek", []) => Ok(byte_text(alloc, scanner.peek())?),
+        ("mark", [byte]) => Ok(scanner.mark(*byte).to_string(alloc)?),
+        ("number", _) => number_text(alloc, scanner, rest),
+        ("digits", _) => digits_text(alloc, scanner, rest),
+        _ => Err(RowFault::OtherFields(reading).into()),
+    }
+}
+
+/// What some readings answer one behind another, each with the place behind it.
+fn answers_of(
+    alloc: Global,
+    scanner: &mut Scanner<'_>,
+    readings: &'static str,
+) -> Result<String, Fail> {
+    let mut text = String::new(alloc);
+    for reading in readings.split(';') {
+        let (found, place) = (answer_of(alloc, scanner, reading)?, scanner.place());
+        text.push_str(format!(in alloc; "{found}/{place};")?.as_str())?;
+    }
+    Ok(text)
+}
+
+/// The bytes of a row: those of its field, a thousand nines, or a seven behind 999 zeros.
+fn bytes_for(alloc: Global, field: &str) -> Result<Vec<u8>, AllocError> {
+    match field {
+        "NINES" => b"9".repeat(alloc, 1000),
+        "SEVEN" => {
+            let mut digits = b"0".repeat(alloc, 999)?;
+            digits.push(b'7')?;
+            Ok(digits)
+        }
+        _ => bytes_of(alloc, field),
+    }
+}
+
+struct Readings;
+
+impl Answers for Readings {
+    fn answer(&self, alloc: Global, given: &'static str) -> Result<String, Fail> {
+        let (field, readings) = two_fields(given)?;
+        let bytes = bytes_for(alloc, field)?;
+        answers_of(alloc, &mut Scanner::over(&bytes), readings)
+    }
+}
+
+/// A text, some readings of it with a semicolon between two, and what each answers, with the place behind it.
+///
+/// A token is told by its start and its end. A number is asked for by the least and the greatest one, and told with its place, or
+/// as a fault with its number and its place; digits need not end a token. The bytes of the eighth text are no ASCII. The last text
+/// is a design of one net.
+const READINGS: &str = "|token|none/0;
+ \t\r;|token|none/4;
+ a |token|1 2/2;
+\r;ab\r;|token|2 4/4;
+ab\tc|token|0 2/2;
+a\0b c|token|0 3/3;
+\x0b\x0c #|token|0 2/2;
+?~\u{a0} x|token|0 4/4;
+ ;|number 0 9|end 3 at 2/2;
+ - 1|number 0 9|no number 1 at 1/2;
++-1|number -9 9|no number 1 at 0/3;
+1x 2|number 0 9|no number 1 at 0/2;
+1\0|number 0 9|no number 1 at 0/2;
+-0|number 0 9|0 at 0/2;
++007|number 7 7|7 at 0/4;
+ -12\r;|number -12 0|-12 at 1/4;
+ 12 |number 0 11|out of range 2 at 1/3;
+ 12 |number 13 99|out of range 2 at 1/3;
+9223372036854775807|number -9223372036854775808 9223372036854775807|9223372036854775807 at 0/19;
+9223372036854775808|number -9223372036854775808 9223372036854775807|out of range 2 at 0/19;
+-9223372036854775808|number -9223372036854775808 9223372036854775807|-9223372036854775808 at 0/20;
+18446744073709551617|number 0 9|out of range 2 at 0/20;
+\t |digits 0 9|end 3 at 2/2;
+12)|digits 0 99|12/2;
+ -5,7|digits -9 9|-5/3;
++003-4|digits 0 9|3/4;
+ 12)|digits 0 11|out of range 2 at 1/3;
+ -x|digits 0 9|no number 1 at 1/1;
+(5|digits 0 9|no number 1 at 0/0;
+  +|digits 0 9|no number 1 at 2/2;
+170141183460469231731687303715884105727!|digits -170141183460469231731687303715884105728 170141183460469231731687303715884105727|170141183460469231731687303715884105727/39;
+170141183460469231731687303715884105728!|digits -170141183460469231731687303715884105728 170141183460469231731687303715884105727|out of range 2 at 0/39;
+-170141183460469231731687303715884105728!|digits -170141183460469231731687303715884105728 170141183460469231731687303715884105727|-170141183460469231731687303715884105728/40;
+NINES|number -9223372036854775808 9223372036854775807|out of range 2 at 0/1000;
+NINES|digits -170141183460469231731687303715884105728 170141183460469231731687303715884105727|out of range 2 at 0/1000;
+SEVEN|number 0 9|7 at 0/1000;
+SEVEN|digits 0 9|7/1000;
+ ( 12 ,;-3)!|peek;mark (;digits 0 99;mark ,;digits -9 9;mark !;mark  ;mark );mark !;peek;mark !|(/1;true/2;12/5;true/7;-3/10;false/10;false/10;true/11;true/12;none/12;false/12;
+grid 3 1 1;vertical capacity 0;horizontal capacity 4;minimum width 1;minimum spacing 1;via spacing 1;0 0 10 10;num net 1;a 0 2 1;5 5 1;25 5 1;0;|token;token;token;token;token;token;token;token;token;token;token;token;token;token;token;token;token;token;token;token;token;token;token;token;token;token;token;token;token;token;token;token;token;token;number 0 9;number 0 9;number 0 9;number 0 9|0 4/4;5 6/6;7 8/8;9 10/10;11 19/19;20 28/28;29 30/30;31 41/41;42 50/50;51 52/52;53 60/60;61 66/66;67 68/68;69 76/76;77 84/84;85 86/86;87 90/90;91 98/98;99 100/100;101 102/102;103 104/104;105 107/107;108 110/110;111 114/114;115 118/118;119 120/120;121 122/122;123 124/124;125 126/126;127 128/128;129 130/130;131 132/132;133 134/134;135 137/137;5 at 138/139;1 at 140/141;0 at 142/143;end 3 at 144/144;";
+
 #[test]
-fn marks_and_digits_read_a_point(rt: HostRuntime) {
-    let mut scanner = Scanner::over(b" ( 12 ,\n-3)!");
-    assert!(rt; scanner.peek() == Some(b'(') && scanner.mark(b'('));
-    assert!(rt; scanner.digits(0, 99) == Ok(12) && scanner.mark(b','));
-    assert!(rt; scanner.digits(-9, 9) == Ok(-3));
-    assert!(rt; !scanner.mark(b'!') && !scanner.mark(b' ') && scanner.place() == 10);
-    assert!(rt; scanner.mark(b')') && scanner.mark(b'!'));
-    assert!(rt; scanner.peek().is_none() && !scanner.mark(b'!') && scanner.place() == 12);
+fn tokens_and_numbers_are_read_at_their_places(rt: HostRuntime) -> Result<(), Fail> {
+    check_rows(rt.alloc(), READINGS, &Readings)
 }
