@@ -12,11 +12,7 @@ pub trait Answers {
 }
 
 /// Fails at the first row of a table whose last field is not what is found of the fields before it, and where there is no bar.
-pub fn check_rows<A: Answers>(
-    alloc: Global,
-    table: &'static str,
-    answers: &A,
-) -> Result<(), Fail> {
+pub fn check_rows<A: Answers>(alloc: Global, table: &'static str, answers: &A) -> Result<(), Fail> {
     for row in rows_of(alloc, table)? {
         let (given, wanted) = row.rsplit_once('|').ok_or(RowFault::OtherFields(row))?;
         agree(row, answers.answer(alloc, given)?.as_str(), wanted)?;
