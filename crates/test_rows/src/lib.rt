@@ -9,7 +9,7 @@
 //!     }
 //! }
 //!
-//! #[test]
+//! // in a module of tests, with the attribute of one
 //! fn sets_are_written_as_they_are_read(rt: HostRuntime) -> Result<(), Fail> {
 //!     check_rows(rt.alloc(), TABLE, &Sets)
 //! }
