@@ -1,5 +1,4 @@
 pub mod Lacking
-pub mod Lowest
 pub mod Findings
 pub mod Found
 pub mod Changes

@@ -10,11 +10,9 @@ pub mod Due
 pub mod Given
 pub mod Lacking
 pub mod Limits
-pub mod LowestLayers
 pub mod Rerouted
 pub mod Searches
 pub mod Settings
-pub mod Spreads
 pub mod Steps
 pub mod Tools
 pub mod Work

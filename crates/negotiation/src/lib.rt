@@ -10,8 +10,8 @@
 //! workers share.
 //!
 //! It stands on `tree_growth` for the search of one net, on `routing_state` for sets with their rooms and totals and for the best
-//! so far, on `price_workers`, `steiner_exact`, `edge_prices` and `sharing_runs` for a route where the search finds none, on
-//! `seed_streams` for drawn orders, and on `lists`, `tree_set`, `grid_graph` and `grid_base`.
+//! so far, on `net_extents` for how far nets reach, on `price_workers`, `steiner_exact`, `edge_prices` and `sharing_runs` for a
+//! route where the search finds none, on `seed_streams` for drawn orders, and on `lists`, `tree_set`, `grid_graph` and `grid_base`.
 //!
 //! Promised: each net keeps the set that it was given, or gets a route on its ground; overflow and wirelength are those of the
 //! sets; and where each net was given a set, the sets are no worse than those. Not promised but tested: the outcome depends on no
@@ -23,11 +23,8 @@ mod batches;
 mod descending;
 mod drawn;
 mod due;
-mod extent;
-mod extents;
 mod finding;
 mod gathering;
-mod lowest_layers;
 mod negotiating;
 mod order;
 mod overfull;
@@ -38,7 +35,6 @@ mod searching;
 mod settings;
 mod sight;
 mod spanning;
-mod spread;
 mod starting;
 mod tools;
 

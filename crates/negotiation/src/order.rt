@@ -3,8 +3,8 @@
 ghost use Rattle.std.specs.Prelude.{◌≡◌, ◌<◌, ◌^◌, IfOk, length, map, All};
 ghost use Rattle.std.specs.List.Sorted.{IsPermutation};
 
-use crate::extent::Extent;
 use grid_base::NoMemory;
+use net_extents::Extent;
 use std::alloc::Global;
 
 /// A net with what its place in an order rests on.

@@ -3,14 +3,13 @@
 ghost use Rattle.std.specs.Prelude.{◌≡◌, IfOk, length};
 
 use crate::due::Due;
-use crate::extent::Extent;
-use crate::extents::extents_of;
 use crate::overfull::holds_overfull;
 use crate::round_prices::RoundPrices;
 use crate::searching::search_batch;
 use crate::sight::Sight;
 use grid_base::NoMemory;
 use grid_graph::{Design, Ground};
+use net_extents::{Extent, extents_of};
 use net_search::{Field, Stage};
 use routing_state::RoutingState;
 use std::alloc::Global;
@@ -41,7 +40,7 @@ impl Tools {
     ghost use Rattle.grid_graph.specs.Grounds.{AreGrounds};
     ghost use Rattle.tree_set.specs.Loads.{load};
     ghost use Rattle.routing_state.specs.States.{IsStateOf, trees_of};
-    ghost use Rattle.negotiation.specs.declared.extent.Extent.{Extent as ExtentOf};
+    ghost use Rattle.net_extents.specs.declared.extent.Extent.{Extent as ExtentOf};
     ghost use Rattle.negotiation.specs.Due.{IsDue};
     ghost use Rattle.negotiation.specs.Searches.{AreFound, ArePlaces};
     ghost use Rattle.negotiation.specs.Tools.{AreToolsFor};

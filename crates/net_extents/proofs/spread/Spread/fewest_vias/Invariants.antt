@@ -1,8 +1,8 @@
 use Rattle.std.proofs.Common.{◌≡◌, ◌+◌, ◌-◌, ◌^◌, ◌≤◌}
 use Rattle.std.specs.Prelude.{map, max, min, sum}
 use Rattle.std.specs.List.{range_with_len}
-use Rattle.negotiation.specs.Spreads.{vias_above}
-use Rattle.negotiation.proofs.spread.Spread.fewest_vias.Given as goal
+use Rattle.net_extents.specs.Spreads.{vias_above}
+use Rattle.net_extents.proofs.spread.Spread.fewest_vias.Given as goal
 
 -- the vias so far
 abbrev pub invariant-loop-layer : goal.invariant-loop-layer

@@ -6,8 +6,8 @@ use Rattle.grid_base.specs.declared.size.Size.{Size}
 use Rattle.grid_base.specs.declared.vertex.Vertex.{Vertex}
 use Rattle.grid_base.specs.Numbers.{col_of, layer_of, layers, row_of}
 use Rattle.grid_graph.specs.Flat.{tile_of}
-use Rattle.negotiation.specs.declared.lowest_layers.LowestLayers.{LowestLayers}
-use Rattle.negotiation.specs.declared.spread.Spread.{Spread}
+use Rattle.net_extents.specs.declared.lowest_layers.LowestLayers.{LowestLayers}
+use Rattle.net_extents.specs.declared.spread.Spread.{Spread}
 
 -- the numbers of a list, each once, from the least to the greatest
 pub record AreEachOnce (given numbers : List ℕ) : Type 0 where

@@ -5,8 +5,8 @@ use Rattle.std.proofs.lemmas.List.{take_all}
 use Rattle.grid_base.specs.declared.vertex.Vertex.{Vertex}
 use Rattle.grid_base.specs.Numbers.{col_of, layer_of, layers, row_of}
 use Rattle.grid_graph.specs.Flat.{tile_of}
-use Rattle.negotiation.specs.Spreads.{AreEachOnce}
-use Rattle.negotiation.proofs.spread.Spread.take.Goals as goal
+use Rattle.net_extents.specs.Spreads.{AreEachOnce}
+use Rattle.net_extents.proofs.spread.Spread.take.Goals as goal
 
 -- the numbers of all terminals, each once
 all_once : (f : Vertex → ℕ) (so_far terminals : List Vertex) (given numbers : List ℕ) → so_far ≡ terminals → given ≡ map f so_far → AreEachOnce given numbers → AreEachOnce (map f terminals) numbers

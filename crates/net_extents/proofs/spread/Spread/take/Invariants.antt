@@ -3,7 +3,7 @@ use Rattle.std.specs.Prelude.{map, max, min}
 use Rattle.std.specs.List.{fold}
 use Rattle.grid_base.specs.Numbers.{col_of, layer_of, layers, row_of}
 use Rattle.grid_graph.specs.Flat.{tile_of}
-use Rattle.negotiation.proofs.spread.Spread.take.Given as goal
+use Rattle.net_extents.proofs.spread.Spread.take.Given as goal
 
 -- those of the terminals so far
 abbrev pub invariant-loop-v : goal.invariant-loop-v

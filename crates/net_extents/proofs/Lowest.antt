@@ -7,8 +7,8 @@ use Rattle.grid_base.specs.declared.axis.Axis.TheVariants.{X, Y}
 use Rattle.grid_base.specs.Numbers.{edge_axis, edge_start, layer_of, layers}
 use Rattle.grid_graph.specs.declared.grid.Grid.{Grid}
 use Rattle.grid_graph.specs.Grids.{capacity, size_of}
-use Rattle.negotiation.specs.declared.lowest_layers.LowestLayers.{LowestLayers}
-use Rattle.negotiation.specs.LowestLayers.{IsLowestOf, IsOpenAlong}
+use Rattle.net_extents.specs.declared.lowest_layers.LowestLayers.{LowestLayers}
+use Rattle.net_extents.specs.LowestLayers.{IsLowestOf, IsOpenAlong}
 
 module _ (g : Grid) (axis : Axis) where
   -- of no edge number

@@ -13,7 +13,7 @@ pub(crate) struct LowestLayers {
 impl LowestLayers {
     ghost use Rattle.std.specs.Prelude.{◌≡◌, min};
     ghost use Rattle.grid_base.specs.declared.axis.Axis.TheVariants.{X, Y};
-    ghost use Rattle.negotiation.specs.LowestLayers.{IsLowestLayer};
+    ghost use Rattle.net_extents.specs.LowestLayers.{IsLowestLayer};
 
     /// Those of a grid.
     pub fn of(grid: &Grid) -> LowestLayers

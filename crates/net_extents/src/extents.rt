@@ -1,6 +1,7 @@
 //! How far all nets reach.
 
 ghost use Rattle.std.specs.Prelude.{◌≡◌, IfOk, length};
+ghost use Rattle.net_extents.specs.Extents.{AreExtents};
 
 use crate::extent::Extent;
 use crate::lowest_layers::LowestLayers;
@@ -10,8 +11,9 @@ use grid_graph::Design;
 use std::alloc::Global;
 
 /// How far each net reaches, in file order.
-pub(crate) fn extents_of(alloc: Global, design: &Design) -> Result<Vec<Extent>, NoMemory>
+pub fn extents_of(alloc: Global, design: &Design) -> Result<Vec<Extent>, NoMemory>
     ensures one_each { IfOk result (λ extents. length extents.items ≡ length design.now.nets) }
+    ensures own { IfOk result (λ extents. AreExtents design.now extents.items) }
 {
     let size = design.grid.size();
     let lowest = LowestLayers::of(&design.grid);

@@ -1,7 +1,7 @@
 //! Over which tiles the terminals of a net are spread.
 
 ghost use Rattle.std.specs.Prelude.{◌≡◌};
-ghost use Rattle.negotiation.specs.Spreads.{layer_if_several, width_of, AreEachOnce};
+ghost use Rattle.net_extents.specs.Spreads.{layer_if_several, width_of, AreEachOnce};
 
 use crate::extent::Extent;
 use crate::lowest_layers::LowestLayers;
@@ -23,9 +23,9 @@ impl Spread {
     ghost use Rattle.std.specs.Prelude.{◌≡◌, ◌+◌, ◌-◌, ◌^◌, ◌++◌, ◌∷◌, [], IfOk, length, max, min, slice_index_or};
     ghost use Rattle.grid_base.specs.Numbers.{col_of, layer_of, row_of};
     ghost use Rattle.grid_graph.specs.Flat.{tile_of};
-    ghost use Rattle.negotiation.specs.Spreads.{fewest_vias, half_perimeter, vias_above, IsSpreadOf};
+    ghost use Rattle.net_extents.specs.Spreads.{fewest_vias, half_perimeter, vias_above, IsSpreadOf};
 
-    /// That of no terminal.
+    /// Empty lists and both layers 0, for `take` to fill.
     pub fn none(alloc: Global) -> Spread
         ensures tiles { result.tiles.items ≡ [] }
         ensures cols { result.cols.items ≡ [] }

@@ -2,8 +2,8 @@ use Rattle.std.proofs.Common.{◌≡◌, ℕ, ◌+◌, ◌-◌, ◌^◌, ◌≤�
 use Rattle.std.specs.Prelude.{map, max, min, sum}
 use Rattle.std.specs.List.{range_with_len}
 use Rattle.std.proofs.lemmas.List.FromFn.{sum_by-map-range_with_len_more}
-use Rattle.negotiation.specs.Spreads.{layer_if_several, layer_to_reach, vias_above}
-use Rattle.negotiation.proofs.spread.Spread.fewest_vias.Goals as goal
+use Rattle.net_extents.specs.Spreads.{layer_if_several, layer_to_reach, vias_above}
+use Rattle.net_extents.proofs.spread.Spread.fewest_vias.Goals as goal
 
 -- with those above one more layer
 vias_more : (f : ℕ → ℕ) (base from layer vias more : ℕ) → from ≤ layer → vias ≡ min (base + sum (map f (range_with_len from (layer - from)))) (2 ^ 64 - 1)

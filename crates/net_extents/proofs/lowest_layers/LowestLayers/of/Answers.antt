@@ -2,9 +2,9 @@ use Rattle.std.proofs.Common.{◌≡◌, ◌+◌, sym, ◌∙◌, ap, subst, ari
 use Rattle.grid_base.specs.declared.axis.Axis.TheVariants.{X, Y}
 use Rattle.grid_base.specs.Numbers.{edge_start, layer_of}
 use Rattle.grid_graph.specs.Grids.{size_of}
-use Rattle.negotiation.proofs.Lowest.{lowest-skip, lowest-with, AreLowest}
-use Rattle.negotiation.proofs.lowest_layers.LowestLayers.of.Goals.{then-capacity-gt0, else-capacity-gt0}
-use Rattle.negotiation.proofs.lowest_layers.LowestLayers.of.Goals as goal
+use Rattle.net_extents.proofs.Lowest.{lowest-skip, lowest-with, AreLowest}
+use Rattle.net_extents.proofs.lowest_layers.LowestLayers.of.Goals.{then-capacity-gt0, else-capacity-gt0}
+use Rattle.net_extents.proofs.lowest_layers.LowestLayers.of.Goals as goal
 
 pub loop-number-preserved : goal.loop-number-preserved
 loop-number-preserved c =
