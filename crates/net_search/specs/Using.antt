@@ -1,16 +1,11 @@
 -- What nets may use.
-use Rattle.std.specs.Prelude.{true, false, ◌≡◌, ◌≢◌, ◌⊎◌}
+use Rattle.std.specs.Prelude.{true, ◌≡◌, ◌≢◌, ◌⊎◌}
 use Rattle.grid_graph.specs.declared.ground.Ground.{Ground}
 use Rattle.grid_graph.specs.declared.ground.Ground.TheVariants.{Open, WithChoked}
 use Rattle.grid_graph.specs.declared.kind.Kind.TheVariants as kinds
-use Rattle.net_search.specs.declared.directions.Direction.{Direction}
 use Rattle.net_search.specs.declared.layers.LayerUse.{LayerUse}
 use Rattle.net_search.specs.declared.road.Road.{Road}
 use Rattle.net_search.specs.Kinds.{kind_of_road}
-
--- a layer without edges
-abbrev pub neither : Direction
-neither = record { along_x = false; along_y = false }
 
 -- a net over a ground may use such an edge
 abbrev pub IsUsable : Ground → Road → Type 0

@@ -3,9 +3,9 @@
 ghost use Rattle.std.specs.Prelude.{◌≤◌, All};
 ghost use Rattle.net_search.specs.Going.{rest_to};
 
-use crate::fewest_vias::FewestVias;
 use crate::goal::Goal;
 use crate::site::Site;
+use layer_ways::FewestVias;
 
 /// What a net's ways cost at least.
 #[derive(Drop)]

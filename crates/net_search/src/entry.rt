@@ -7,8 +7,9 @@ use crate::labels::Labels;
 use crate::road::Road;
 use crate::side::Side;
 use crate::site::Site;
-use crate::weights::{UNIT, Weights};
+use crate::weights::Weights;
 use grid_base::{Edge, Size};
+use layer_ways::UNIT;
 
 /// What the cheapest edge into a site's tile on the site's layer weighs beyond the unit; the greatest number where the net may use
 /// none. Beside the first column or row stands the number of a wall.

@@ -4,10 +4,9 @@ use crate::entry::entry_on_layer;
 use crate::labels::Labels;
 use crate::layers::LAYERS;
 use crate::plan::Plan;
-use crate::rests::Rests;
 use crate::side::Side;
 use crate::site::Site;
-use crate::weights::UNIT;
+use layer_ways::{Rests, UNIT};
 
 /// A target of one search, with what is still to go to it from each layer.
 #[derive(Clone, Copy)]

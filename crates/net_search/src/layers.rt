@@ -4,9 +4,9 @@ ghost use Rattle.std.specs.Prelude.{◌≡◌, ◌≤◌, All};
 ghost use Rattle.grid_graph.specs.Grids.{IsNetWidth};
 ghost use Rattle.net_search.specs.Using.{HasEdges};
 
-use crate::directions::Directions;
 use grid_base::{Axis, Edge, Place};
 use grid_graph::Grid;
+use layer_ways::Directions;
 
 /// The most layers of a grid.
 pub(crate) const LAYERS: usize = 16;

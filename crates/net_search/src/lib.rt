@@ -13,8 +13,8 @@
 //! on which edges lead into the target's tile and what these cost, and by distances from a landmark (Goldberg and Harrelson, 2005).
 //! A search keeps to a box, which grows where nothing is found.
 //!
-//! It stands on `bucket_queue` for what waits, on `grid_graph` for grids and nets, on `tree_set` for sets, and on `grid_base`
-//! for vertices and pieces.
+//! It stands on `layer_ways` for which way layers lead, on `bucket_queue` for what waits, on `grid_graph` for grids and nets, on
+//! `tree_set` for sets, and on `grid_base` for vertices and pieces.
 //!
 //! Promised: what is found is a target, an edge of a kind that a net may not use has no weight, none weighs less than a wire, no
 //! edge's kind changes, and what is still to go is at most what is counted to each target. That a way is cheap isn't promised, nor
@@ -22,18 +22,14 @@
 #![tactic(auto)]
 
 mod bound;
-mod directions;
 mod entry;
-mod fewest_vias;
 mod field;
 mod frame;
 mod goal;
 mod label;
 mod labels;
-mod layer_tables;
 mod layers;
 mod plan;
-mod rests;
 mod road;
 mod search;
 mod side;
@@ -45,7 +41,7 @@ mod wave;
 mod weights;
 
 pub use field::Field;
-pub use layer_tables::LayerTables;
+pub use layer_ways::LayerTables;
 pub use plan::Plan;
 pub use search::NetSearch;
 pub use site::Site;

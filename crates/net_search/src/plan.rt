@@ -3,12 +3,12 @@
 use crate::bound::Bound;
 use crate::field::Field;
 use crate::frame::{Frame, frame_of};
-use crate::layer_tables::LayerTables;
 use crate::layers::{layers_for, least_demand};
 use crate::stage::Stage;
 use crate::weights::Weights;
 use grid_base::Size;
 use grid_graph::{Grid, Ground, NetSpec};
+use layer_ways::LayerTables;
 
 /// What the searches for one net go by.
 #[derive(Drop)]

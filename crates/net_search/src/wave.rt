@@ -5,10 +5,10 @@ use crate::road::Road;
 use crate::side::Side;
 use crate::site::Site;
 use crate::view::View;
-use crate::weights::UNIT;
 use bucket_queue::BucketQueue;
 use grid_base::{Edge, NoMemory};
 use grid_graph::Grid;
+use layer_ways::UNIT;
 use std::alloc::Global;
 
 /// What is known of each vertex, and what waits.

@@ -6,9 +6,7 @@ use crate::road::Road;
 use crate::stage::Stage;
 use grid_base::Edge;
 use grid_graph::Ground;
-
-/// What a wire over one edge weighs, and a via.
-pub(crate) const UNIT: u32 = 4;
+use layer_ways::UNIT;
 
 /// What one more overflow weighs where nets get their first set.
 const OVERFLOW_AT_START: u32 = 16;

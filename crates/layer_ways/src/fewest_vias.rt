@@ -2,13 +2,13 @@
 
 use crate::directions::{Direction, Directions};
 use crate::rests::Rests;
-use crate::weights::UNIT;
+use crate::unit::UNIT;
 use grid_base::NoMemory;
 use std::alloc::Global;
 
 /// What the vias of a way from a layer to a layer weigh at least.
 #[derive(Drop)]
-pub(crate) struct FewestVias {
+pub struct FewestVias {
     /// One for each layer that a way begins on and each that it ends on.
     pairs: Vec<Rests>,
     layers: usize,
@@ -16,7 +16,7 @@ pub(crate) struct FewestVias {
 
 impl FewestVias {
     ghost use Rattle.std.specs.Prelude.{◌≡◌, ◌<◌, ◌≤◌, IfOk, length, slice_index_or};
-    ghost use Rattle.net_search.specs.Going.{no_rests, pair_number};
+    ghost use Rattle.layer_ways.specs.ViaRests.{no_rests, pair_number};
 
     /// Those of layers with these directions.
     pub(crate) fn of(alloc: Global, directions: &Directions) -> Result<FewestVias, NoMemory>
@@ -33,7 +33,7 @@ impl FewestVias {
     }
 
     /// What the vias of a way from a layer to a layer weigh at least, by the axes along which it runs.
-    pub(crate) fn rests(&self, from: usize, to: usize) -> Rests
+    pub fn rests(&self, from: usize, to: usize) -> Rests
         ensures outside { self.now.layers ≤ from → result ≡ no_rests }
         ensures table { from < self.now.layers → result ≡ slice_index_or self.now.pairs.items (pair_number self.now.layers from to) no_rests }
     {

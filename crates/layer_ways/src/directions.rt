@@ -6,9 +6,9 @@ use std::alloc::Global;
 
 /// Along which axes a layer has edges.
 #[derive(Clone, Copy)]
-pub(crate) struct Direction {
-    pub(crate) along_x: bool,
-    pub(crate) along_y: bool,
+pub struct Direction {
+    pub along_x: bool,
+    pub along_y: bool,
 }
 
 impl Direction {
@@ -42,7 +42,7 @@ impl Direction {
 /// Along which axes each layer has edges with capacity. A layer without any along an axis is not searched along it, not even for
 /// nets that may use choked edges.
 #[derive(Drop)]
-pub(crate) struct Directions {
+pub struct Directions {
     layers: Vec<Direction>,
 }
 
@@ -50,7 +50,7 @@ impl Directions {
     ghost use Rattle.std.specs.Prelude.{◌≡◌, IfOk, length, slice_index_or};
     ghost use Rattle.grid_base.specs.Numbers.{layers};
     ghost use Rattle.grid_graph.specs.Grids.{size_of};
-    ghost use Rattle.net_search.specs.Using.{neither};
+    ghost use Rattle.layer_ways.specs.Axes.{neither};
 
     /// Those of a grid.
     pub(crate) fn of(alloc: Global, grid: &Grid) -> Result<Directions, NoMemory>
@@ -78,7 +78,7 @@ impl Directions {
     }
 
     /// The axes of a layer.
-    pub(crate) fn at(&self, layer: usize) -> Direction
+    pub fn at(&self, layer: usize) -> Direction
         ensures { result ≡ slice_index_or self.now.layers.items layer neither }
     {
         if layer < self.layers.len() {

@@ -2,16 +2,16 @@
 
 /// What a way from one layer weighs at least beside its tile steps, by the axes along which it has to run.
 #[derive(Clone, Copy)]
-pub(crate) struct Rests {
-    pub(crate) upright: u32,
-    pub(crate) along_x: u32,
-    pub(crate) along_y: u32,
-    pub(crate) along_both: u32,
+pub struct Rests {
+    pub upright: u32,
+    pub along_x: u32,
+    pub along_y: u32,
+    pub along_both: u32,
 }
 
 impl Rests {
     ghost use Rattle.std.specs.Prelude.{◌≡◌};
-    ghost use Rattle.net_search.specs.Going.{rest_along, rests_with, least_rests};
+    ghost use Rattle.layer_ways.specs.ViaRests.{rest_along, rests_with, least_rests};
 
     /// Nothing.
     pub(crate) const NONE: Rests = Rests {
@@ -22,7 +22,7 @@ impl Rests {
     };
 
     /// More than any way.
-    pub(crate) const FAR: Rests = Rests {
+    pub const FAR: Rests = Rests {
         upright: u32::MAX,
         along_x: u32::MAX,
         along_y: u32::MAX,
@@ -31,7 +31,7 @@ impl Rests {
 
     /// That of a way that has to run along these axes.
     #[inline(always)]
-    pub(crate) fn at(&self, along_x: bool, along_y: bool) -> u32
+    pub fn at(&self, along_x: bool, along_y: bool) -> u32
         ensures { result ≡ rest_along self.now along_x along_y }
     {
         let with_y = if along_x {
@@ -44,7 +44,7 @@ impl Rests {
     }
 
     /// So much more from every other tile; within the tile as before.
-    pub(crate) fn with(self, more: u32) -> Rests
+    pub fn with(self, more: u32) -> Rests
         ensures { result ≡ rests_with self more }
     {
         Rests {
@@ -56,7 +56,7 @@ impl Rests {
     }
 
     /// The least of both.
-    pub(crate) fn or(self, other: Rests) -> Rests
+    pub fn or(self, other: Rests) -> Rests
         ensures { result ≡ least_rests self other }
     {
         Rests {

@@ -9,8 +9,8 @@ use std::alloc::Global;
 /// Along which axes the layers of a grid have edges, and how many vias ways between them have at least.
 #[derive(Drop)]
 pub struct LayerTables {
-    pub(crate) directions: Directions,
-    pub(crate) vias: FewestVias,
+    pub directions: Directions,
+    pub vias: FewestVias,
 }
 
 impl LayerTables {
