@@ -5,8 +5,8 @@ use congestion_cli::run_map;
 use gr_desk::{MemDesk, Port};
 use reroute_cli::run_reroute;
 use std::alloc::Global;
+use std::rt::HostRuntime;
 use std::test::Fail;
-use std::thread::Threads;
 use unavoidable_cli::run_unavoidable;
 
 /// The first words of a line, each with its port.
@@ -43,13 +43,7 @@ impl Program for Reroute {
         first_words(alloc, self.ports, line)
     }
 
-    fn run<R: Threads + Sync>(
-        &self,
-        rt: &R,
-        alloc: Global,
-        words: &Vec<String>,
-        desk: &mut MemDesk,
-    ) -> u8 {
+    fn run(&self, rt: &HostRuntime, alloc: Global, words: &Vec<String>, desk: &mut MemDesk) -> u8 {
         run_reroute(rt, alloc, words, desk)
     }
 }
@@ -70,13 +64,7 @@ impl Program for Unavoidable {
         }
     }
 
-    fn run<R: Threads + Sync>(
-        &self,
-        rt: &R,
-        alloc: Global,
-        words: &Vec<String>,
-        desk: &mut MemDesk,
-    ) -> u8 {
+    fn run(&self, rt: &HostRuntime, alloc: Global, words: &Vec<String>, desk: &mut MemDesk) -> u8 {
         run_unavoidable(rt, alloc, words, desk)
     }
 }
@@ -94,13 +82,7 @@ impl Program for CongestionMap {
         Ok(names)
     }
 
-    fn run<R: Threads + Sync>(
-        &self,
-        _rt: &R,
-        alloc: Global,
-        words: &Vec<String>,
-        desk: &mut MemDesk,
-    ) -> u8 {
+    fn run(&self, _rt: &HostRuntime, alloc: Global, words: &Vec<String>, desk: &mut MemDesk) -> u8 {
         run_map(alloc, words, desk)
     }
 }

@@ -6,8 +6,8 @@
 use gr_desk::{MemDesk, Port};
 use run_tables::{Left, Told, desk_of, left_agrees, left_of, told_of, words_of};
 use std::alloc::Global;
+use std::rt::HostRuntime;
 use std::test::Fail;
-use std::thread::Threads;
 use test_rows::{number_of, paragraphs_of};
 
 /// A program of which runs are told.
@@ -16,13 +16,7 @@ pub trait Program {
     fn names(&self, alloc: Global, line: &'static str) -> Result<Vec<(Port, &'static str)>, Fail>;
 
     /// Runs the words, and answers the status.
-    fn run<R: Threads + Sync>(
-        &self,
-        rt: &R,
-        alloc: Global,
-        words: &Vec<String>,
-        desk: &mut MemDesk,
-    ) -> u8;
+    fn run(&self, rt: &HostRuntime, alloc: Global, words: &Vec<String>, desk: &mut MemDesk) -> u8;
 }
 
 /// The first so many names of a line.
@@ -42,9 +36,9 @@ fn first_names<P: Program>(
 }
 
 /// What the words of a line leave on a desk.
-fn left_on<P: Program, R: Threads + Sync>(
+fn left_on<P: Program>(
     program: &P,
-    rt: &R,
+    rt: &HostRuntime,
     alloc: Global,
     line: &'static str,
     desk: &mut MemDesk,
@@ -55,9 +49,9 @@ fn left_on<P: Program, R: Threads + Sync>(
 }
 
 /// What the run of a paragraph leaves.
-pub fn after_run<P: Program, R: Threads + Sync>(
+pub fn after_run<P: Program>(
     program: &P,
-    rt: &R,
+    rt: &HostRuntime,
     alloc: Global,
     told: Told,
 ) -> Result<Left, Fail> {
@@ -68,9 +62,9 @@ pub fn after_run<P: Program, R: Threads + Sync>(
 }
 
 /// Fails where the run of a paragraph leaves something else than is told.
-pub fn run_agrees<P: Program, R: Threads + Sync>(
+pub fn run_agrees<P: Program>(
     program: &P,
-    rt: &R,
+    rt: &HostRuntime,
     alloc: Global,
     paragraph: &'static str,
 ) -> Result<Left, Fail> {
@@ -82,9 +76,9 @@ pub fn run_agrees<P: Program, R: Threads + Sync>(
 }
 
 /// Fails where a run of the table leaves something else.
-pub fn runs_agree<P: Program, R: Threads + Sync>(
+pub fn runs_agree<P: Program>(
     program: &P,
-    rt: &R,
+    rt: &HostRuntime,
     alloc: Global,
     table: &'static str,
 ) -> Result<(), Fail> {
