@@ -1,6 +1,6 @@
 //! Runs that make no map, or not all of it. No file is opened behind one that is refused: the desk expects no name there.
 
-use crate::programs::CongestionMap;
+use crate::programs::Program;
 use crate::runs::runs_agree;
 use std::test::Fail;
 
@@ -32,7 +32,7 @@ refused 2;usage: congestion_map IN ROUTES MAP [--cut CERT] [--layer L] [--layers
 
 #[test]
 fn words_that_ask_for_no_map_are_refused(rt: HostRuntime) -> Result<(), Fail> {
-    runs_agree(&CongestionMap, &rt, rt.alloc(), NO_COMMAND)
+    runs_agree(Program::CongestionMap, &rt, rt.alloc(), NO_COMMAND)
 }
 
 /// Objections, a text that is refused, and calls that fail.
@@ -86,5 +86,5 @@ CUT|a 0;(5,5,1)-(15,5,1);!;b 1;(5,5,1)-(15,5,1);!;c 2;(5,15,1)-(15,15,1);!;|
 
 #[test]
 fn no_map_is_made_where_one_cannot_be(rt: HostRuntime) -> Result<(), Fail> {
-    runs_agree(&CongestionMap, &rt, rt.alloc(), UNDRAWN)
+    runs_agree(Program::CongestionMap, &rt, rt.alloc(), UNDRAWN)
 }

@@ -1,6 +1,6 @@
 //! What is drawn of routes.
 
-use crate::programs::CongestionMap;
+use crate::programs::Program;
 use crate::runs::runs_agree;
 use std::test::Fail;
 
@@ -52,5 +52,5 @@ column,row,direction,load,capacity;0,0,x,2,4;1,0,x,2,4;";
 
 #[test]
 fn what_is_asked_for_is_drawn(rt: HostRuntime) -> Result<(), Fail> {
-    runs_agree(&CongestionMap, &rt, rt.alloc(), DRAWN)
+    runs_agree(Program::CongestionMap, &rt, rt.alloc(), DRAWN)
 }

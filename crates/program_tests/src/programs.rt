@@ -1,88 +1,71 @@
 //! The programs beside `grouter`, and where the names among their words belong.
 
-use crate::runs::Program;
 use congestion_cli::run_map;
 use gr_desk::{MemDesk, Port};
 use reroute_cli::run_reroute;
 use std::alloc::Global;
-use std::rt::HostRuntime;
 use std::test::Fail;
+use std::thread::Threads;
 use unavoidable_cli::run_unavoidable;
 
-/// The first words of a line, each with its port.
-fn first_words(
+/// A program of which runs are told.
+#[derive(Clone, Copy, Drop)]
+pub enum Program {
+    /// `reroute` from none.
+    RerouteFromNone,
+    /// `reroute` from routes.
+    RerouteWithRoutes,
+    /// `unavoidable`, of routes with a certificate, or of routes alone where there are three words.
+    Unavoidable,
+    /// `congestion_map`.
+    CongestionMap,
+}
+
+/// Where the first words of a line belong, which has so many.
+fn ports_of(program: Program, words: usize) -> &'static [Port] {
+    match program {
+        Program::RerouteFromNone => &[Port::In, Port::RoutesOut],
+        Program::RerouteWithRoutes => &[Port::In, Port::RoutesIn, Port::RoutesOut],
+        Program::Unavoidable => match words {
+            3 => &[Port::In, Port::RoutesIn, Port::CertOut],
+            _ => &[Port::In, Port::RoutesIn, Port::CertIn, Port::CertOut],
+        },
+        Program::CongestionMap => &[Port::In, Port::RoutesIn, Port::MapOut],
+    }
+}
+
+/// The names among the words of a line, each with its port, in the order of work: a certificate behind `--cut` comes before the
+/// map.
+pub fn names_of(
     alloc: Global,
-    ports: &[Port],
+    program: Program,
     line: &'static str,
 ) -> Result<Vec<(Port, &'static str)>, Fail> {
+    let cut = line.split_once(" --cut ");
     let mut names = Vec::new(alloc);
+    let ports = ports_of(program, line.split(' ').count());
     for (port, word) in ports.iter().zip(line.split(' ')) {
+        if let (Port::MapOut, Some((_, cert))) = (*port, cut) {
+            names.push((Port::CertIn, cert))?;
+        }
         names.push((*port, word))?;
     }
     Ok(names)
 }
 
-/// `reroute`, whose first words belong to these ports.
-#[derive(Drop)]
-pub struct Reroute {
-    ports: &'static [Port],
-}
-
-/// `reroute` from routes.
-pub const WITH_ROUTES: Reroute = Reroute {
-    ports: &[Port::In, Port::RoutesIn, Port::RoutesOut],
-};
-
-/// And from none.
-pub const FROM_NONE: Reroute = Reroute {
-    ports: &[Port::In, Port::RoutesOut],
-};
-
-impl Program for Reroute {
-    fn names(&self, alloc: Global, line: &'static str) -> Result<Vec<(Port, &'static str)>, Fail> {
-        first_words(alloc, self.ports, line)
-    }
-
-    fn run(&self, rt: &HostRuntime, alloc: Global, words: &Vec<String>, desk: &mut MemDesk) -> u8 {
-        run_reroute(rt, alloc, words, desk)
-    }
-}
-
-/// `unavoidable`, of routes with a certificate, or of routes alone where there are three words.
-#[derive(Drop)]
-pub struct Unavoidable;
-
-impl Program for Unavoidable {
-    fn names(&self, alloc: Global, line: &'static str) -> Result<Vec<(Port, &'static str)>, Fail> {
-        match line.split(' ').count() {
-            3 => first_words(alloc, &[Port::In, Port::RoutesIn, Port::CertOut], line),
-            _ => first_words(
-                alloc,
-                &[Port::In, Port::RoutesIn, Port::CertIn, Port::CertOut],
-                line,
-            ),
+/// Runs the words, and answers the status.
+pub fn status_of<R: Threads + Sync>(
+    program: Program,
+    rt: &R,
+    alloc: Global,
+    words: &Vec<String>,
+    desk: &mut MemDesk,
+) -> u8 {
+    match program {
+        Program::RerouteFromNone | Program::RerouteWithRoutes => {
+            run_reroute(rt, alloc, words, desk)
         }
-    }
-
-    fn run(&self, rt: &HostRuntime, alloc: Global, words: &Vec<String>, desk: &mut MemDesk) -> u8 {
-        run_unavoidable(rt, alloc, words, desk)
-    }
-}
-
-/// `congestion_map`, whose names are those of the design, the routes, the certificate behind `--cut`, if there is one, and the map.
-#[derive(Drop)]
-pub struct CongestionMap;
-
-impl Program for CongestionMap {
-    fn names(&self, alloc: Global, line: &'static str) -> Result<Vec<(Port, &'static str)>, Fail> {
-        let mut names = first_words(alloc, &[Port::In, Port::RoutesIn, Port::MapOut], line)?;
-        if let Some((_, cert)) = line.split_once(" --cut ") {
-            names.insert(names.len().saturating_sub(1), (Port::CertIn, cert))?;
-        }
-        Ok(names)
-    }
-
-    fn run(&self, _rt: &HostRuntime, alloc: Global, words: &Vec<String>, desk: &mut MemDesk) -> u8 {
-        run_map(alloc, words, desk)
+        Program::Unavoidable => run_unavoidable(rt, alloc, words, desk),
+        Program::CongestionMap => run_map(alloc, words, desk),
     }
 }

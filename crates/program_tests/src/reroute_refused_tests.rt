@@ -1,6 +1,6 @@
 //! Runs that create no file. No file is opened behind one that is refused: the desk expects no name there.
 
-use crate::programs::{FROM_NONE, WITH_ROUTES};
+use crate::programs::Program;
 use crate::runs::runs_agree;
 use std::test::Fail;
 
@@ -37,7 +37,7 @@ refused 2;usage: reroute IN [ROUTES] NEW;";
 
 #[test]
 fn words_that_are_no_command_are_refused(rt: HostRuntime) -> Result<(), Fail> {
-    runs_agree(&FROM_NONE, &rt, rt.alloc(), NO_COMMAND)
+    runs_agree(Program::RerouteFromNone, &rt, rt.alloc(), NO_COMMAND)
 }
 
 /// Of each reason against routes but the want of a block.
@@ -83,7 +83,7 @@ refused 6;";
 
 #[test]
 fn routes_are_refused_for_the_first_reason(rt: HostRuntime) -> Result<(), Fail> {
-    runs_agree(&WITH_ROUTES, &rt, rt.alloc(), OBJECTED)
+    runs_agree(Program::RerouteWithRoutes, &rt, rt.alloc(), OBJECTED)
 }
 
 /// The last design is a row without capacity.
@@ -104,5 +104,5 @@ refused 5 4 7 1;";
 
 #[test]
 fn designs_are_refused(rt: HostRuntime) -> Result<(), Fail> {
-    runs_agree(&FROM_NONE, &rt, rt.alloc(), REFUSED)
+    runs_agree(Program::RerouteFromNone, &rt, rt.alloc(), REFUSED)
 }

@@ -1,7 +1,7 @@
 //! What becomes of nets. All routes were worked out by hand: in each case no others have so little overflow and, with this
 //! overflow, so little wirelength.
 
-use crate::programs::{FROM_NONE, WITH_ROUTES};
+use crate::programs::Program;
 use crate::runs::runs_agree;
 use std::test::Fail;
 
@@ -36,7 +36,7 @@ a 0;!;";
 
 #[test]
 fn nets_without_routes_get_them(rt: HostRuntime) -> Result<(), Fail> {
-    runs_agree(&FROM_NONE, &rt, rt.alloc(), NONE_GIVEN)
+    runs_agree(Program::RerouteFromNone, &rt, rt.alloc(), NONE_GIVEN)
 }
 
 const GIVEN: &str =
@@ -77,7 +77,7 @@ a 0;(5,5,1)-(25,5,1);!;b 1;(5,15,1)-(25,15,1);(5,5,1)-(5,15,1);(25,5,1)-(25,15,1
 
 #[test]
 fn given_routes_are_never_made_worse(rt: HostRuntime) -> Result<(), Fail> {
-    runs_agree(&WITH_ROUTES, &rt, rt.alloc(), GIVEN)
+    runs_agree(Program::RerouteWithRoutes, &rt, rt.alloc(), GIVEN)
 }
 
 /// The first of these runs, where a call fails.
@@ -99,5 +99,5 @@ a 0;(5,5,1)-(15,5,1);!;b 1;(5,5,1)-(15,5,1);!;";
 
 #[test]
 fn new_routes_are_cut_short_where_a_write_fails(rt: HostRuntime) -> Result<(), Fail> {
-    runs_agree(&WITH_ROUTES, &rt, rt.alloc(), CUT_SHORT)
+    runs_agree(Program::RerouteWithRoutes, &rt, rt.alloc(), CUT_SHORT)
 }

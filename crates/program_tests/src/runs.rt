@@ -3,30 +3,22 @@
 //! Before the words of a paragraph stands how many names the desk expects: of those among the words the first so many in the
 //! order of work, where they belong, and no other name.
 
+use crate::programs::{Program, names_of, status_of};
 use gr_desk::{MemDesk, Port};
 use run_tables::{Left, Told, desk_of, left_agrees, left_of, told_of, words_of};
 use std::alloc::Global;
-use std::rt::HostRuntime;
 use std::test::Fail;
+use std::thread::Threads;
 use test_rows::{number_of, paragraphs_of};
 
-/// A program of which runs are told.
-pub trait Program {
-    /// The names among the words of a line, each with its port, in the order of work.
-    fn names(&self, alloc: Global, line: &'static str) -> Result<Vec<(Port, &'static str)>, Fail>;
-
-    /// Runs the words, and answers the status.
-    fn run(&self, rt: &HostRuntime, alloc: Global, words: &Vec<String>, desk: &mut MemDesk) -> u8;
-}
-
 /// The first so many names of a line.
-fn first_names<P: Program>(
-    program: &P,
+fn first_names(
+    program: Program,
     alloc: Global,
     line: &'static str,
     count: usize,
 ) -> Result<Vec<(Port, &'static str)>, Fail> {
-    let mut names = program.names(alloc, line)?;
+    let mut names = names_of(alloc, program, line)?;
     names.truncate(count);
     if names.len() == count {
         Ok(names)
@@ -36,22 +28,22 @@ fn first_names<P: Program>(
 }
 
 /// What the words of a line leave on a desk.
-fn left_on<P: Program>(
-    program: &P,
-    rt: &HostRuntime,
+fn left_on<R: Threads + Sync>(
+    program: Program,
+    rt: &R,
     alloc: Global,
     line: &'static str,
     desk: &mut MemDesk,
 ) -> Result<Left, Fail> {
     let words = words_of(alloc, line)?;
-    let status = program.run(rt, alloc, &words, desk);
+    let status = status_of(program, rt, alloc, &words, desk);
     Ok(left_of(alloc, status, desk)?)
 }
 
 /// What the run of a paragraph leaves.
-pub fn after_run<P: Program>(
-    program: &P,
-    rt: &HostRuntime,
+pub fn after_run<R: Threads + Sync>(
+    program: Program,
+    rt: &R,
     alloc: Global,
     told: Told,
 ) -> Result<Left, Fail> {
@@ -62,9 +54,9 @@ pub fn after_run<P: Program>(
 }
 
 /// Fails where the run of a paragraph leaves something else than is told.
-pub fn run_agrees<P: Program>(
-    program: &P,
-    rt: &HostRuntime,
+pub fn run_agrees<R: Threads + Sync>(
+    program: Program,
+    rt: &R,
     alloc: Global,
     paragraph: &'static str,
 ) -> Result<Left, Fail> {
@@ -76,9 +68,9 @@ pub fn run_agrees<P: Program>(
 }
 
 /// Fails where a run of the table leaves something else.
-pub fn runs_agree<P: Program>(
-    program: &P,
-    rt: &HostRuntime,
+pub fn runs_agree<R: Threads + Sync>(
+    program: Program,
+    rt: &R,
     alloc: Global,
     table: &'static str,
 ) -> Result<(), Fail> {

@@ -1,6 +1,6 @@
 //! Runs that create no file. No file is opened behind one that is refused: the desk expects no name there.
 
-use crate::programs::Unavoidable;
+use crate::programs::Program;
 use crate::runs::runs_agree;
 use std::test::Fail;
 
@@ -77,7 +77,7 @@ refused 2;usage: unavoidable IN ROUTES [CERT] NEW;";
 
 #[test]
 fn words_that_are_no_command_are_refused(rt: HostRuntime) -> Result<(), Fail> {
-    runs_agree(&Unavoidable, &rt, rt.alloc(), NO_COMMAND)
+    runs_agree(Program::Unavoidable, &rt, rt.alloc(), NO_COMMAND)
 }
 
 /// Routes without the last net's edge and without any net; a certificate that states 3/2, where at its prices the nets cost 6
@@ -134,7 +134,7 @@ refused 5 4 7 1;";
 
 #[test]
 fn texts_are_refused_in_their_order(rt: HostRuntime) -> Result<(), Fail> {
-    runs_agree(&Unavoidable, &rt, rt.alloc(), REFUSED)
+    runs_agree(Program::Unavoidable, &rt, rt.alloc(), REFUSED)
 }
 
 /// The objections of `measure`, in routes that are given alone, and texts that are refused.
@@ -190,7 +190,7 @@ refused 5 4 7 1;";
 
 #[test]
 fn routes_alone_are_refused_as_measure_refuses_them(rt: HostRuntime) -> Result<(), Fail> {
-    runs_agree(&Unavoidable, &rt, rt.alloc(), REFUSED_ALONE)
+    runs_agree(Program::Unavoidable, &rt, rt.alloc(), REFUSED_ALONE)
 }
 
 /// A file that is missing is the same as one that can't be opened.
@@ -236,7 +236,7 @@ refused 6;";
 
 #[test]
 fn a_file_that_is_not_read_ends_the_run(rt: HostRuntime) -> Result<(), Fail> {
-    runs_agree(&Unavoidable, &rt, rt.alloc(), UNREAD)
+    runs_agree(Program::Unavoidable, &rt, rt.alloc(), UNREAD)
 }
 
 /// The status stays where the report can't be written.
@@ -254,5 +254,5 @@ CUT|a 0!|grouter certificate 1;nets 3;forced 0;overflow 2;wirelength 3;peak 2/1;
 
 #[test]
 fn a_refusal_that_is_not_said_keeps_its_status(rt: HostRuntime) -> Result<(), Fail> {
-    runs_agree(&Unavoidable, &rt, rt.alloc(), UNHEARD)
+    runs_agree(Program::Unavoidable, &rt, rt.alloc(), UNHEARD)
 }

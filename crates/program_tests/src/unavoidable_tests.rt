@@ -1,14 +1,14 @@
 //! What is found of routes that the judge accepts, with a certificate and without.
 
-use crate::programs::Unavoidable;
+use crate::programs::Program;
 use crate::runs::{run_agrees, runs_agree};
 use command_words::JudgeRequest;
 use gr_desk::Port;
 use judge_cli::judge;
 use run_tables::{Left, Told, desk_of, left_of, told_of};
 use std::alloc::Global;
-use std::rt::HostRuntime;
 use std::test::Fail;
+use std::thread::Threads;
 use test_rows::paragraphs_of;
 
 /// All numbers were worked out by hand. In each case some mixture of routings has just this bound as its peak, and some
@@ -215,7 +215,7 @@ const JUDGED: &[(Port, &str)] = &[
 ];
 
 /// What the judge leaves of the files of a paragraph, where the certificate is the one that a run left.
-fn judged(rt: &HostRuntime, alloc: Global, told: Told, left: &Left) -> Result<Left, Fail> {
+fn judged<R: Threads + Sync>(rt: &R, alloc: Global, told: Told, left: &Left) -> Result<Left, Fail> {
     let mut texts = told.texts;
     texts.truncate(2);
     texts.push(left.texts.get(2).ok_or("a certificate")?.clone()?)?;
@@ -233,9 +233,9 @@ fn is_accepted(judged: &Left) -> bool {
 }
 
 /// Fails where a run of the table leaves something else, or a certificate that the judge doesn't accept.
-fn finds_agree(rt: &HostRuntime, alloc: Global, table: &'static str) -> Result<(), Fail> {
+fn finds_agree<R: Threads + Sync>(rt: &R, alloc: Global, table: &'static str) -> Result<(), Fail> {
     for paragraph in paragraphs_of(alloc, table)? {
-        let left = run_agrees(&Unavoidable, rt, alloc, paragraph)?;
+        let left = run_agrees(Program::Unavoidable, rt, alloc, paragraph)?;
         let judged = judged(rt, alloc, told_of(alloc, paragraph)?, &left)?;
         if !is_accepted(&judged) {
             return Err(Fail::new(paragraph));
@@ -279,5 +279,5 @@ refused 7;";
 
 #[test]
 fn what_is_found_is_cut_short_where_a_write_fails(rt: HostRuntime) -> Result<(), Fail> {
-    runs_agree(&Unavoidable, &rt, rt.alloc(), CUT_SHORT)
+    runs_agree(Program::Unavoidable, &rt, rt.alloc(), CUT_SHORT)
 }
