@@ -1,7 +1,7 @@
 #!/usr/bin/env python3
 """Runs the built `reroute` on drawn designs, and looks at all that it writes with plain counting.
 
-    tests/program/drawn_reroutes.py [--room] [COUNT [SEED [REROUTE [GROUTER]]]]
+    tests/program/drawn_reroutes.py [--room] [--instructions] [COUNT [SEED [REROUTE [GROUTER]]]]
 
 By hand, outside the gate: 200 designs take some minutes. Without words it draws 200 designs from seed 1, and takes the programs
 that `rt run` left in crates/*/out. Of each design it asks that
@@ -15,14 +15,17 @@ that `rt run` left in crates/*/out. Of each design it asks that
 
 Designs are drawn with widths from 1 to 4, choked edges and nets that are forced over them, one layer, one row, nets of many pins,
 and 16 layers. Most have so little room that nets are routed again in many rounds. With --room they are larger, and an edge has room
-for eight times what the nets need on average, so that what the kinds alone cost shows. It prints a line for each design that fails, then how the processor time is spread: for each piece of wirelength,
-apart for designs that end without overflow and for the others; and for each piece in each turn, since a run goes through the nets
-once for their first sets, in up to 60 rounds and in up to ten passes. Of each it prints the mean and the greatest by kind of
-design and over all, and whether none is above twice the mean. It fails where one design failed."""
+for eight times what the nets need on average, so that what the kinds alone cost shows. It prints a line for each design that
+fails, then how the processor time is spread: for each piece of wirelength, apart for designs that end without overflow and for the
+others; and for each piece in each turn, since a run goes through the nets once for their first sets, in up to 60 rounds and in up
+to ten passes. With --instructions `valgrind` counts those of one more run, which no other work on the machine changes, and they are
+told in place of the time, in thousands. Of each it prints the mean and the greatest by kind of design and over all, and whether
+none is above twice the mean. It fails where one design failed."""
 
 import math
 import os
 import random
+import re
 import resource
 import subprocess
 import sys
@@ -216,9 +219,16 @@ def totals(report):
     return int(report["overflow"][0]), int(report["wirelength"][0])
 
 
-def try_design(design, room, reroute, grouter):
+def instructions(*words):
+    """How many instructions a program takes."""
+    counted = subprocess.run(["valgrind", "--tool=cachegrind", "--cache-sim=no", "--cachegrind-out-file=/dev/null", *words],
+                             capture_output=True, text=True, check=True).stderr
+    return int(re.search(r"I +refs: +([0-9,]+)", counted)[1].replace(",", ""))
+
+
+def try_design(design, room, reroute, grouter, counts):
     """Tries one design. Answers the overflow and the wirelength of the run from none, its processor seconds, the lesser of two
-    runs, its rounds, and how many nets are forced."""
+    runs, or with `counts` its instructions in thousand millions, its rounds, and how many nets are forced."""
     here = lambda name: os.path.join(room, name)
     with open(here("in.gr"), "w", encoding="ascii") as file:
         file.write(design.text())
@@ -244,9 +254,12 @@ def try_design(design, room, reroute, grouter):
         os.remove(here("again"))
     for name in ["new", "cert", "four", "poor"]:
         os.remove(here(name))
-    _, once_more = run(reroute, here("in.gr"), here("new"))
+    if counts:
+        cost = 1e-9 * instructions(reroute, here("in.gr"), here("new"))
+    else:
+        cost = min(seconds, run(reroute, here("in.gr"), here("new"))[1])
     os.remove(here("new"))
-    return counted, min(seconds, once_more), int(report["rounds"][0]), int(report["forced"][0])
+    return counted, cost, int(report["rounds"][0]), int(report["forced"][0])
 
 
 def print_rates(name, rates):
@@ -270,7 +283,9 @@ def built(name):
 
 def main(*words):
     draw = RoomyDesign if "--room" in words else Design
-    words = [word for word in words if word != "--room"]
+    counts = "--instructions" in words
+    unit = "thousand instructions" if counts else "microseconds"
+    words = [word for word in words if not word.startswith("--")]
     count, seed, reroute, grouter = [*words, *[200, 1, built("reroute"), built("grouter")][len(words):]]
     failed, forced, fitting, overfull, turns = 0, 0, [], [], []
     with tempfile.TemporaryDirectory() as room:
@@ -278,7 +293,7 @@ def main(*words):
             kind = KINDS[number % len(KINDS)]
             design = draw(kind, random.Random(f"{seed} {number}"))
             try:
-                (overflow, pieces), seconds, rounds, over = try_design(design, room, reroute, grouter)
+                (overflow, pieces), cost, rounds, over = try_design(design, room, reroute, grouter, counts)
             except AssertionError as fault:
                 failed += 1
                 print(f"FAILED: design {number}, {kind}: {fault}")
@@ -287,13 +302,13 @@ def main(*words):
                 continue
             forced += over
             if pieces >= FEWEST_PIECES:
-                rate = 1e6 * seconds / pieces
+                rate = 1e6 * cost / pieces
                 (overfull if overflow else fitting).append((rate, number, kind))
                 turns.append((rate / (rounds + OTHER_TURNS), number, kind))
     print(f"{int(count) - failed} designs passed, {failed} failed; {forced} nets were forced")
-    print_rates("microseconds for each piece, without overflow", fitting)
-    print_rates("microseconds for each piece, with overflow", overfull)
-    print_rates("microseconds for each piece in each turn", turns)
+    print_rates(f"{unit} for each piece, without overflow", fitting)
+    print_rates(f"{unit} for each piece, with overflow", overfull)
+    print_rates(f"{unit} for each piece in each turn", turns)
     return 1 if failed else 0
 
 

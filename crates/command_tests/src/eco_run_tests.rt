@@ -43,7 +43,7 @@ fn edits_are_made_in_order(rt: HostRuntime) -> Result<(), Fail> {
 }
 
 /// An edit that is refused ends the run, and nothing is written. The table of all numbers, alone and behind an edit that was made,
-/// is that of `eco_tests`; a limit on nets or pins is too large for a row.
+/// is that of `routed_tests`; a limit on nets or pins is too large for a row.
 const REFUSED: &str = "eco a.gr a.routes a.edits b.routes
 CROWDED_ROW|a 0 (5,5,1)-(25,5,1)! b 1 (5,5,1)-(25,5,1)! c 2 (5,5,1)-(25,5,1)!||edits 1 drop 9
 9

@@ -2,7 +2,7 @@ use Rattle.std.proofs.Common.{List, length, refl, ap, subst, arith}
 use Rattle.std.proofs.lemmas.Option.{slice_get_read}
 use Rattle.grid_base.specs.Lists.{At}
 use Rattle.grid_graph.specs.declared.net_spec.NetSpec.{NetSpec}
-use Rattle.climb_tests.proofs.net_proof_tests.found_of_first.Goals as goal
+use Rattle.routed_tests.proofs.net_proof_tests.found_of_first.Goals as goal
 
 pub found_of-requires-clause-net : goal.found_of-requires-clause-net
 found_of-requires-clause-net c =

@@ -1,7 +1,7 @@
 use Rattle.std.proofs.Common.{get_or}
 use Rattle.std.proofs.lemmas.Option.{slice_get-get_or}
 use Rattle.grid_graph.proofs.Grounds.{ground_joins}
-use Rattle.climb_tests.proofs.net_proof_tests.found_of.Goals as goal
+use Rattle.routed_tests.proofs.net_proof_tests.found_of.Goals as goal
 
 pub prove_net-requires-clause-width : goal.prove_net-requires-clause-width
 prove_net-requires-clause-width c = c.requires.net.width

@@ -10,7 +10,7 @@ use grid_graph::Design;
 use std::alloc::Global;
 use std::rt::HostRuntime;
 use std::test::Fail;
-use test_rows::{agree, five_fields, numbers_text, rows_of, sets_of, sets_text};
+use test_rows::{Answers, check_rows, numbers_text, sets_of, sets_text, three_fields};
 use tree_set::Tree;
 use worked_designs::design_of;
 
@@ -92,52 +92,50 @@ fn state_text(alloc: Global, eco: &Eco) -> Result<String, Fail> {
     Ok(text)
 }
 
-/// A design, the sets of its nets, edits, what the first refused one is refused for, and ids, sets and loads in the end.
+/// A design, the sets of its nets, edits, and what the first refused one is refused for, with ids, sets and loads in the end.
 const EDITS: &str = "# three nets in a row of three tiles
-CROWDED_ROW|e0 e2;e0 e2;e0 e2;|edits 0|done| 0 1 2/ e0 e2; e0 e2; e0 e2;/ 6 0 6 0 0 0
-CROWDED_ROW|e0 e2;e0 e2;e0 e2;|edits 1 drop 1|done| 0 2/ e0 e2; e0 e2;/ 4 0 4 0 0 0
-CROWDED_ROW|e0 e2;e0 e2;e0 e2;|edits 2 drop 1 add d 1 2 1 5 5 1 25 5 1|done| 0 2 1/ e0 e2; e0 e2; e0 e2;/ 6 0 6 0 0 0
-CROWDED_ROW|e0 e2;e0 e2;e0 e2;|edits 1 change 1 2 3 5 5 1 15 5 1|done| 0 1 2/ e0 e2; e0; e0 e2;/ 8 0 4 0 0 0
-CROWDED_ROW|e0 e2;e0 e2;e0 e2;|edits 1 change 0 0 1|done| 0 1 2/; e0 e2; e0 e2;/ 4 0 4 0 0 0
+CROWDED_ROW|e0 e2;e0 e2;e0 e2;|edits 0|done/ 0 1 2/ e0 e2; e0 e2; e0 e2;/ 6 0 6 0 0 0
+CROWDED_ROW|e0 e2;e0 e2;e0 e2;|edits 1 drop 1|done/ 0 2/ e0 e2; e0 e2;/ 4 0 4 0 0 0
+CROWDED_ROW|e0 e2;e0 e2;e0 e2;|edits 2 drop 1 add d 1 2 1 5 5 1 25 5 1|done/ 0 2 1/ e0 e2; e0 e2; e0 e2;/ 6 0 6 0 0 0
+CROWDED_ROW|e0 e2;e0 e2;e0 e2;|edits 1 change 1 2 3 5 5 1 15 5 1|done/ 0 1 2/ e0 e2; e0; e0 e2;/ 8 0 4 0 0 0
+CROWDED_ROW|e0 e2;e0 e2;e0 e2;|edits 1 change 0 0 1|done/ 0 1 2/; e0 e2; e0 e2;/ 4 0 4 0 0 0
 # an unknown id, one that is there, the first pin outside, below the first layer and above the last, and too wide
-CROWDED_ROW|e0 e2;e0 e2;e0 e2;|edits 1 drop 9|62 0 9| 0 1 2/ e0 e2; e0 e2; e0 e2;/ 6 0 6 0 0 0
-CROWDED_ROW|e0 e2;e0 e2;e0 e2;|edits 2 drop 1 change 1 0 1|62 1 1| 0 2/ e0 e2; e0 e2;/ 4 0 4 0 0 0
-CROWDED_ROW|e0 e2;e0 e2;e0 e2;|edits 1 add d 2 0 1|63 0 2| 0 1 2/ e0 e2; e0 e2; e0 e2;/ 6 0 6 0 0 0
-CROWDED_ROW|e0 e2;e0 e2;e0 e2;|edits 2 drop 0 add d 1 0 1|63 1 1| 1 2/ e0 e2; e0 e2;/ 4 0 4 0 0 0
-CROWDED_ROW|e0 e2;e0 e2;e0 e2;|edits 1 add d 3 3 1 5 5 9 30 10 1 31 5 1|64 0 2| 0 1 2/ e0 e2; e0 e2; e0 e2;/ 6 0 6 0 0 0
-CROWDED_ROW|e0 e2;e0 e2;e0 e2;|edits 2 drop 2 change 1 2 1 5 5 1 -1 5 1|64 1 1| 0 1/ e0 e2; e0 e2;/ 4 0 4 0 0 0
-CROWDED_ROW|e0 e2;e0 e2;e0 e2;|edits 1 add d 3 2 1023 5 5 1 5 5 0|65 0 1| 0 1 2/ e0 e2; e0 e2; e0 e2;/ 6 0 6 0 0 0
-CROWDED_ROW|e0 e2;e0 e2;e0 e2;|edits 2 drop 2 change 1 2 1 5 5 2 5 5 0|65 1 0| 0 1/ e0 e2; e0 e2;/ 4 0 4 0 0 0
-CROWDED_ROW|e0 e2;e0 e2;e0 e2;|edits 1 add d 3 1 1023 5 5 1|67 0| 0 1 2/ e0 e2; e0 e2; e0 e2;/ 6 0 6 0 0 0
-CROWDED_ROW|e0 e2;e0 e2;e0 e2;|edits 2 drop 2 change 1 1 1023 5 5 1|67 1| 0 1/ e0 e2; e0 e2;/ 4 0 4 0 0 0
+CROWDED_ROW|e0 e2;e0 e2;e0 e2;|edits 1 drop 9|62 0 9/ 0 1 2/ e0 e2; e0 e2; e0 e2;/ 6 0 6 0 0 0
+CROWDED_ROW|e0 e2;e0 e2;e0 e2;|edits 2 drop 1 change 1 0 1|62 1 1/ 0 2/ e0 e2; e0 e2;/ 4 0 4 0 0 0
+CROWDED_ROW|e0 e2;e0 e2;e0 e2;|edits 1 add d 2 0 1|63 0 2/ 0 1 2/ e0 e2; e0 e2; e0 e2;/ 6 0 6 0 0 0
+CROWDED_ROW|e0 e2;e0 e2;e0 e2;|edits 2 drop 0 add d 1 0 1|63 1 1/ 1 2/ e0 e2; e0 e2;/ 4 0 4 0 0 0
+CROWDED_ROW|e0 e2;e0 e2;e0 e2;|edits 1 add d 3 3 1 5 5 9 30 10 1 31 5 1|64 0 2/ 0 1 2/ e0 e2; e0 e2; e0 e2;/ 6 0 6 0 0 0
+CROWDED_ROW|e0 e2;e0 e2;e0 e2;|edits 2 drop 2 change 1 2 1 5 5 1 -1 5 1|64 1 1/ 0 1/ e0 e2; e0 e2;/ 4 0 4 0 0 0
+CROWDED_ROW|e0 e2;e0 e2;e0 e2;|edits 1 add d 3 2 1023 5 5 1 5 5 0|65 0 1/ 0 1 2/ e0 e2; e0 e2; e0 e2;/ 6 0 6 0 0 0
+CROWDED_ROW|e0 e2;e0 e2;e0 e2;|edits 2 drop 2 change 1 2 1 5 5 2 5 5 0|65 1 0/ 0 1/ e0 e2; e0 e2;/ 4 0 4 0 0 0
+CROWDED_ROW|e0 e2;e0 e2;e0 e2;|edits 1 add d 3 1 1023 5 5 1|67 0/ 0 1 2/ e0 e2; e0 e2; e0 e2;/ 6 0 6 0 0 0
+CROWDED_ROW|e0 e2;e0 e2;e0 e2;|edits 2 drop 2 change 1 1 1023 5 5 1|67 1/ 0 1/ e0 e2; e0 e2;/ 4 0 4 0 0 0
 # a pin in a second row, to which no edge leads
-CROWDED_ROW 7 8 2|e0 e2;e0 e2;e0 e2;|edits 1 add d 3 3 1 5 5 1 15 5 1 5 15 1|68 0 2| 0 1 2/ e0 e2; e0 e2; e0 e2;/ 6 0 6 0 0 0 0 0 0 0 0 0
-CROWDED_ROW 7 8 2|e0 e2;e0 e2;e0 e2;|edits 2 drop 2 change 1 2 1 5 5 1 5 15 1|68 1 1| 0 1/ e0 e2; e0 e2;/ 4 0 4 0 0 0 0 0 0 0 0 0
-CROWDED_ROW|e0 e2;e0 e2;e0 e2;|edits 1 add d 3 2 1022 5 5 1 15 5 1|done| 0 1 2 3/ e0 e2; e0 e2; e0 e2; e0;/ 1029 0 6 0 0 0";
+CROWDED_ROW 7 8 2|e0 e2;e0 e2;e0 e2;|edits 1 add d 3 3 1 5 5 1 15 5 1 5 15 1|68 0 2/ 0 1 2/ e0 e2; e0 e2; e0 e2;/ 6 0 6 0 0 0 0 0 0 0 0 0
+CROWDED_ROW 7 8 2|e0 e2;e0 e2;e0 e2;|edits 2 drop 2 change 1 2 1 5 5 1 5 15 1|68 1 1/ 0 1/ e0 e2; e0 e2;/ 4 0 4 0 0 0 0 0 0 0 0 0
+CROWDED_ROW|e0 e2;e0 e2;e0 e2;|edits 1 add d 3 2 1022 5 5 1 15 5 1|done/ 0 1 2 3/ e0 e2; e0 e2; e0 e2; e0;/ 1029 0 6 0 0 0";
 
-/// Makes the edits of a row, whose design and sets are opened.
-fn edits_agree(
-    alloc: Global,
-    row: &str,
-    eco: &mut Eco,
-    edits: &str,
-    wanted: (&str, &str),
-) -> Result<(), Fail> {
-    agree(row, refused_of(alloc, eco, edits)?.as_str(), wanted.0)?;
-    agree(row, state_text(alloc, eco)?.as_str(), wanted.1)
+/// What the first refused edit is refused for, and the state in the end.
+fn outcome_text(alloc: Global, eco: &mut Eco, edits: &str) -> Result<String, Fail> {
+    let mut text = refused_of(alloc, eco, edits)?;
+    text.push_str("/")?;
+    text.push_str(state_text(alloc, eco)?.as_str())?;
+    Ok(text)
 }
 
-fn row_agrees(alloc: Global, row: &'static str) -> Result<(), Fail> {
-    let (name, sets, edits, refused, wanted) = five_fields(row)?;
-    let sets = sets_of(alloc, sets)?;
-    let mut eco = opened(alloc, design_of(alloc, name)?, sets)?;
-    edits_agree(alloc, row, &mut eco, edits, (refused, wanted))
+/// What comes of the edits of a design and sets.
+struct Edits;
+
+impl Answers for Edits {
+    fn answer(&self, alloc: Global, given: &'static str) -> Result<String, Fail> {
+        let (name, sets, edits) = three_fields(given)?;
+        let sets = sets_of(alloc, sets)?;
+        let mut eco = opened(alloc, design_of(alloc, name)?, sets)?;
+        outcome_text(alloc, &mut eco, edits)
+    }
 }
 
 #[test]
 fn each_edit_is_made_or_refused(rt: HostRuntime) -> Result<(), Fail> {
-    for row in rows_of(rt.alloc(), EDITS)? {
-        row_agrees(rt.alloc(), row)?;
-    }
-    Ok(())
+    check_rows(rt.alloc(), EDITS, &Edits)
 }

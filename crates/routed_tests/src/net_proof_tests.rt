@@ -12,8 +12,9 @@ use grid_base::Edge;
 use grid_graph::{Design, Grid, Ground, NetSpec};
 use shortest_paths::Labels;
 use std::alloc::{AllocError, Global};
+use std::rt::HostRuntime;
 use std::test::Fail;
-use test_rows::{agree, five_fields, number_of, rows_of};
+use test_rows::{Answers, check_rows, four_fields, number_of};
 use worked_designs::design_of;
 
 /// A price for each open edge, the same for all.
@@ -132,17 +133,18 @@ fn found_of_row(
     found_at(alloc, &design, at, piece)
 }
 
-fn row_agrees(alloc: Global, row: &'static str) -> Result<(), Fail> {
-    let (name, proved, checked, piece, wanted) = five_fields(row)?;
-    let at = (number_of(proved)?, number_of(checked)?);
-    let found = found_of_row(alloc, name, at, number_of(piece)?)?;
-    agree(row, found.as_str(), wanted)
+/// What is found of a design's first net.
+struct Proofs;
+
+impl Answers for Proofs {
+    fn answer(&self, alloc: Global, given: &'static str) -> Result<String, Fail> {
+        let (name, proved, checked, piece) = four_fields(given)?;
+        let at = (number_of(proved)?, number_of(checked)?);
+        found_of_row(alloc, name, at, number_of(piece)?)
+    }
 }
 
 #[test]
 fn proofs_of_net_bounds_are_right_at_their_prices(rt: HostRuntime) -> Result<(), Fail> {
-    for row in rows_of(rt.alloc(), PROOFS)? {
-        row_agrees(rt.alloc(), row)?;
-    }
-    Ok(())
+    check_rows(rt.alloc(), PROOFS, &Proofs)
 }

@@ -4,7 +4,7 @@ use eco_route::{Edit, EditTextError, Pin, read_edits};
 use std::alloc::{AllocError, Global};
 use std::rt::HostRuntime;
 use std::test::Fail;
-use test_rows::{agree, numbers_text, rows_of, two_fields};
+use test_rows::{Answers, check_rows, numbers_text};
 
 /// Pins as a field: x, y and layer of each, and a semicolon behind it.
 fn pins_text(alloc: Global, pins: &[Pin]) -> Result<String, AllocError> {
@@ -105,16 +105,16 @@ edits 2 drop 1 change 1 1 1024|61 26
 edits 0 drop|61 8
 edits 1 drop 1 2|61 15";
 
-fn row_agrees(alloc: Global, row: &'static str) -> Result<(), Fail> {
-    let (text, wanted) = two_fields(row)?;
-    let found = read_text(alloc, text)?;
-    agree(row, found.as_str(), wanted)
+/// What is read of a text of edits.
+struct Texts;
+
+impl Answers for Texts {
+    fn answer(&self, alloc: Global, given: &'static str) -> Result<String, Fail> {
+        read_text(alloc, given)
+    }
 }
 
 #[test]
 fn each_text_has_its_edits(rt: HostRuntime) -> Result<(), Fail> {
-    for row in rows_of(rt.alloc(), TEXTS)? {
-        row_agrees(rt.alloc(), row)?;
-    }
-    Ok(())
+    check_rows(rt.alloc(), TEXTS, &Texts)
 }
