@@ -3,7 +3,7 @@ use Rattle.std.specs.Prelude.{ℕ, ◌^◌, List, [], ◌∷◌, cond, ltb, slic
 use Rattle.hot_cuts.specs.declared.offers.TilePrice.{TilePrice}
 use Rattle.tile_graphs.specs.declared.part.HotEdge.{HotEdge}
 
--- the price of a link, as a number of 32 bits
+-- the price of a link; 0 where 32 bits can't hold it, and where there is none
 abbrev pub link_price : List ℕ → ℕ → ℕ
 link_price prices link = let price = slice_index prices link in cond (ltb price (2 ^ 32)) price 0
 

@@ -5,12 +5,16 @@ pub use Rattle.tree_set.specs.Routings
 pub use Rattle.routing_state.specs.States
 pub use Rattle.routing_state.specs.Totals
 pub mod BatchSizes
+pub mod Batches
 pub mod Changes
+pub mod Chosen
 pub mod Due
 pub mod Given
 pub mod Lacking
 pub mod Limits
+pub mod Margins
 pub mod Rerouted
+pub mod RoundPrices
 pub mod Searches
 pub mod Settings
 pub mod Steps

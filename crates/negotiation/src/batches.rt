@@ -1,7 +1,12 @@
 //! Batches of nets.
 
 ghost use Rattle.std.specs.Prelude.{◌≡◌, ◌≤◌, ◌<◌, ◌^◌, ◌++◌, ◌∷◌, [], cond, IfOk, length};
+ghost use Rattle.std.specs.List.{range_with_len};
 ghost use Rattle.routing_state.specs.States.{IsStateOf};
+ghost use Rattle.negotiation.specs.BatchSizes.{batch_size as size_of_batch};
+ghost use Rattle.negotiation.specs.Batches.{IsBatch};
+ghost use Rattle.negotiation.specs.Chosen.{AreChosen};
+ghost use Rattle.negotiation.specs.Due.{IsDueNet, IsOverfullNet};
 ghost use Rattle.negotiation.specs.Searches.{ArePlaces};
 ghost use Rattle.negotiation.specs.Tools.{AreToolsFor};
 
@@ -14,7 +19,8 @@ use grid_graph::Design;
 use routing_state::RoutingState;
 use std::alloc::Global;
 
-/// The next nets of the order that are due, as many as a batch has, in place of those in `batch`; and where the order goes on.
+/// The next nets of the order that are due, as many as a batch has, in place of those in `batch`; and where the order goes on. At
+/// its end the batch may have fewer, or none.
 pub(crate) fn next_batch(
     design: &Design,
     state: &RoutingState,
@@ -29,6 +35,7 @@ pub(crate) fn next_batch(
     requires order { ArePlaces design.now order.now }
     requires from { from < length order.now }
     ensures batch { IfOk result (λ _. ArePlaces design.now batch.new.items) }
+    ensures next { IfOk result (λ at. IsBatch (IsDueNet design.now state.now tools.now.extents.items due) (size_of_batch (length design.now.nets) (length order.now) due) order.now from at batch.new.items) }
     ensures on { IfOk result (λ at. (from < at) × (at ≤ length order.now)) }
 {
     let size = batch_size(design.nets.list().len(), order.len(), due);
@@ -43,7 +50,7 @@ pub(crate) fn next_batch(
     Ok(order.len())
 }
 
-/// The nets that hold an overfull edge.
+/// The nets that hold an overfull edge, by rising places.
 pub(crate) fn overfull_nets(
     alloc: Global,
     design: &Design,
@@ -51,6 +58,7 @@ pub(crate) fn overfull_nets(
 ) -> Result<Vec<u32>, NoMemory>
     requires state { IsStateOf design.now state.now }
     ensures places { IfOk result (λ nets. ArePlaces design.now nets.items) }
+    ensures exactly { IfOk result (λ nets. AreChosen (IsOverfullNet design.now state.now) (range_with_len 0 (length design.now.nets)) nets.items) }
     ensures few { IfOk result (λ nets. length nets.items < 2 ^ 32) }
 {
     let mut nets = Vec::new(alloc);

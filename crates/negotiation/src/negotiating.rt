@@ -1,6 +1,6 @@
 //! Negotiation: nets on overfull edges are rerouted at prices that rise, round after round.
 
-ghost use Rattle.std.specs.Prelude.{◌≡◌, ◌≤◌, ◌<◌, ◌⊎◌, [], IfOk, length};
+ghost use Rattle.std.specs.Prelude.{◌≡◌, ◌≤◌, ◌<◌, ◌+◌, ◌-◌, ◌^◌, ◌⊎◌, if◌then◌else◌, [], IfOk, length, ltb, min};
 ghost use Rattle.grid_graph.specs.Grounds.{AreGrounds};
 ghost use Rattle.routing_state.specs.Best.{best_of, IsReroutingOf};
 ghost use Rattle.routing_state.specs.States.{IsStateOf, trees_of};
@@ -81,7 +81,9 @@ fn keep_best(design: &Design, rerouting: &mut Rerouting, stale: u32) -> u32
 }
 
 /// For how many rounds the best has had the same overflow, after one that made it better.
-fn stale_after(before: u64, now: u64, stale: u32) -> u32 {
+fn stale_after(before: u64, now: u64, stale: u32) -> u32
+    ensures { result ≡ (if ltb now before then 0 else min (stale + 1) (2 ^ 32 - 1)) }
+{
     if now < before {
         0
     } else {

@@ -1,6 +1,7 @@
 //! Nets in order of how far they reach.
 
 ghost use Rattle.std.specs.Prelude.{◌≡◌, ◌<◌, ◌^◌, IfOk, length, map, All};
+ghost use Rattle.std.specs.List.{range_with_len};
 ghost use Rattle.std.specs.List.Sorted.{IsPermutation};
 
 use grid_base::NoMemory;
@@ -54,6 +55,7 @@ fn rank(alloc: Global, extents: &[Extent], nets: &[u32]) -> Result<Vec<Ranked>, 
 pub(crate) fn all_short_first(alloc: Global, extents: &[Extent]) -> Result<Vec<u32>, NoMemory>
     requires few { length extents.now < 2 ^ 32 }
     ensures nets { IfOk result (λ order. All (λ net. net < length extents.now) order.items) }
+    ensures all { IfOk result (λ order. IsPermutation (range_with_len 0 (length extents.now)) order.items) }
 {
     let mut nets = Vec::with_capacity(alloc, extents.len())?;
     for net in 0..extents.len() {

@@ -34,14 +34,17 @@ pub(crate) struct Tools {
 }
 
 impl Tools {
-    ghost use Rattle.std.specs.Prelude.{◌≡◌, ◌≤◌, ◌<◌, ◌↔◌, IfOk, IsTrue, List, length, slice_index_or};
+    ghost use Rattle.std.specs.Prelude.{◌≡◌, ◌≤◌, ◌<◌, ◌+◌, ◌%◌, ◌^◌, ◌↔◌, IfOk, IsTrue, List, length, map, slice_index, slice_index_or, slice_set};
     ghost use Rattle.grid_base.specs.declared.piece.Piece.{Piece};
     ghost use Rattle.grid_graph.specs.declared.design.Design.{Design as DesignOf};
     ghost use Rattle.grid_graph.specs.Grounds.{AreGrounds};
     ghost use Rattle.tree_set.specs.Loads.{load};
-    ghost use Rattle.routing_state.specs.States.{IsStateOf, trees_of};
+    ghost use Rattle.routing_state.specs.Clipped.{clipped};
+    ghost use Rattle.routing_state.specs.States.{IsStateOf, rooms_of, trees_of};
     ghost use Rattle.net_extents.specs.declared.extent.Extent.{Extent as ExtentOf};
     ghost use Rattle.negotiation.specs.Due.{IsDue};
+    ghost use Rattle.negotiation.specs.Margins.{wider};
+    ghost use Rattle.negotiation.specs.RoundPrices.{ArePricesAfterRound};
     ghost use Rattle.negotiation.specs.Searches.{AreFound, ArePlaces};
     ghost use Rattle.negotiation.specs.Tools.{AreToolsFor};
 
@@ -106,6 +109,7 @@ impl Tools {
         requires tools { AreToolsFor design.now self.old }
         requires state { IsStateOf design.now state.now }
         ensures tools { AreToolsFor design.now self.new }
+        ensures prices { ArePricesAfterRound (map clipped (rooms_of state.now)) self.old.prices.prices.items self.new.prices.prices.items }
     {
         self.pass_on();
         self.prices.go_on(&design.grid, state.narrow_rooms())
@@ -114,6 +118,7 @@ impl Tools {
     /// The next terminal of each net is the first.
     pub fn pass_on(&mut self)
         ensures tools { (d : DesignOf) → AreToolsFor d self.old → AreToolsFor d self.new }
+        ensures turn { self.new ≡ record self.old { turn = (self.old.turn + 1) % 2 ^ 64 } }
     {
         self.turn = self.turn.wrapping_add(1);
     }
@@ -123,6 +128,7 @@ impl Tools {
         requires tools { AreToolsFor design.now self.old }
         requires net { net < length design.now.nets }
         ensures tools { AreToolsFor design.now self.new }
+        ensures margin { self.new.margins.items ≡ slice_set self.old.margins.items net (wider (slice_index self.old.margins.items net)) }
     {
         let margin = self.margins[net];
         self.margins[net] = margin.saturating_add(1 + margin / 4).min(MOST_MARGIN);

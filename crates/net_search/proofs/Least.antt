@@ -1,8 +1,9 @@
 -- What holds of each item that a loop has passed.
-use Rattle.std.proofs.Common.{ℕ, List, ◌≡◌, ◌<◌, ◌≤◌, ◌+◌, min, length, take, subst, get_or, arith}
-use Rattle.std.specs.List.{All}
+use Rattle.std.proofs.Common.{ℕ, List, ◌≡◌, ◌<◌, ◌≤◌, ◌+◌, ◌∙◌, min, length, take, ap, subst, sym, get_or, arith}
+use Rattle.std.specs.List.{All, fold}
 use Rattle.std.proofs.lemmas.List.Elements.{All-more, All-weaker}
 use Rattle.std.proofs.lemmas.List.{take_all}
+use Rattle.std.proofs.lemmas.List.Sums.{fold_more}
 
 pub all_more : {X : Type 0} (P Q : X → Type 0) (xs : List X) (i : ℕ) (d : X) → i < length xs
     → ((x : X) → P x → Q x) → Q (get_or xs i d) → All P (take i xs) → All Q (take (i + 1) xs)
@@ -28,3 +29,11 @@ least_more {X} f xs i d old new x within read least so_far =
     let Before : X → Type 0 = λ y. old ≤ f y in
     let After : X → Type 0 = λ y. new ≤ f y in
     all_more Before After xs i d within (λ y low. omega (arith, low, least)) (omega (arith, read, least)) so_far
+
+-- the least number of all that were asked so far, where one more is asked
+pub least_fold : {X : Type 0} (f : X → ℕ) (xs : List X) (i : ℕ) (d : X) (first old new x : ℕ) → i < length xs
+    → x ≡ f (get_or xs i d) → new ≡ min old x
+    → old ≡ fold (λ least y. min least (f y)) first (take i xs) → new ≡ fold (λ least y. min least (f y)) first (take (i + 1) xs)
+least_fold f xs i d first old new x within read least so_far =
+    least ∙ (ap (λ n. min n x) so_far ∙ (ap (λ n. min (fold (λ least y. min least (f y)) first (take i xs)) n) read
+    ∙ sym (fold_more (λ least y. min least (f y)) first xs i d within)))

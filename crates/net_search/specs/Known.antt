@@ -21,6 +21,10 @@ blank = record { cost = 0; search = 0; back = sides.West; is_taken = false; east
 abbrev pub known_of : Labels → ℕ → Label
 known_of labels v = slice_index_or labels.labels.items v blank
 
+-- the label of a vertex that no search has reached, with all else that is known of it
+abbrev pub as_forgotten : Label → Label
+as_forgotten label = record label { search = 0 }
+
 -- the label where the net has got its edge along an axis, or hasn't
 abbrev pub laid : Label → Axis → Bool → Label
 laid label X is_own = record label { east = road_for (kind_of_road label.east) is_own }

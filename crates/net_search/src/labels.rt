@@ -15,10 +15,10 @@ pub(crate) struct Labels {
 }
 
 impl Labels {
-    ghost use Rattle.std.specs.Prelude.{◌≡◌, ◌<◌, ◌+◌, ◌-◌, ◌*◌, ◌^◌, ◌↔◌, ℕ, false, slice_set, IsTrue, IfOk, IfSome, IfNone};
+    ghost use Rattle.std.specs.Prelude.{◌≡◌, ◌<◌, ◌+◌, ◌-◌, ◌*◌, ◌^◌, ◌↔◌, ℕ, false, map, slice_set, IsTrue, IfOk, IfSome, IfNone};
     ghost use Rattle.grid_base.specs.Numbers.{vertices, edge_start, edge_axis};
     ghost use Rattle.grid_graph.specs.Grids.{size_of, kind};
-    ghost use Rattle.net_search.specs.Known.{AreFor, IsLower, known_of, laid, lowered, as_taken};
+    ghost use Rattle.net_search.specs.Known.{AreFor, IsLower, known_of, laid, lowered, as_taken, as_forgotten};
     ghost use Rattle.net_search.specs.Roads.{road_for};
 
     /// No vertex is reached. The roads are those of the grid.
@@ -40,6 +40,7 @@ impl Labels {
     pub(crate) fn begin(&mut self)
         ensures next { self.old.search < 2 ^ 32 - 1 → self.new ≡ record self.old { search = self.old.search + 1 } }
         ensures first { self.old.search ≡ 2 ^ 32 - 1 → self.new.search ≡ 1 }
+        ensures forgotten { self.old.search ≡ 2 ^ 32 - 1 → self.new.labels.items ≡ map as_forgotten self.old.labels.items }
     {
         if self.search == u32::MAX {
             for label in self.labels.iter_mut() {

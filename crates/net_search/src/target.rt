@@ -13,6 +13,7 @@ pub struct Target {
 impl Target {
     ghost use Rattle.std.specs.Prelude.{◌≡◌, ◌≤◌, All};
     ghost use Rattle.net_search.specs.Sites.{tiles_between};
+    ghost use Rattle.net_search.specs.Targets.{drawn_nearer};
 
     /// A terminal as a target, where so far one site is joined.
     pub fn of(site: Site, joined: Site) -> Target
@@ -44,6 +45,7 @@ impl Target {
         ensures site { self.new.site ≡ self.old.site }
         ensures nearer { self.new.distance ≤ self.old.distance }
         ensures all { All (λ site. self.new.distance ≤ tiles_between self.old.site site) joined.now }
+        ensures nearest { self.new ≡ drawn_nearer joined.now self.old }
     {
         for other in joined {
             self.distance = self.distance.min(self.site.tiles_to(*other));

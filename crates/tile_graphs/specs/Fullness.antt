@@ -22,7 +22,7 @@ with_more total load capacity = record { load = in_word (total.load + load); cap
 abbrev pub excess_of : TileTotal → ℕ
 excess_of total = total.load - total.capacity
 
--- the load by the capacity, in parts of `just_full`
+-- the load in parts of `just_full`, as a number of 64 bits, by the capacity; 0 without capacity
 abbrev pub fullness_of : TileTotal → ℕ
 fullness_of total = in_word (total.load * just_full) / total.capacity
 

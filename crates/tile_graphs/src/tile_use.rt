@@ -63,7 +63,7 @@ impl TileTotal {
         u128::from(self.load) * u128::from(FULL) > held
     }
 
-    /// The load by the capacity, in parts of `FULL`, where there is capacity.
+    /// The load in parts of `FULL`, as a number of 64 bits, by the capacity, where there is capacity.
     fn fullness(self) -> Option<u64>
         ensures { SomeIff result (0 < self.capacity) (fullness_of self) }
     {

@@ -1,5 +1,5 @@
 -- Near targets first.
-use Rattle.std.proofs.Common.{ℕ, List, Some, ◌≡◌, ◌<◌, ◌≤◌, ◌+◌, length, get_or, slice_get, swap, refl, ap, sym, subst, ◌∙◌, inl, inr, arith}
+use Rattle.std.proofs.Common.{ℕ, List, Some, ◌≡◌, ◌<◌, ◌≤◌, ◌+◌, length, get_or, slice_get, swap, ap, sym, ◌∙◌, inl, inr, arith}
 use Rattle.std.proofs.lemmas.Bool.{cases_eq, cases_lt}
 use Rattle.std.proofs.lemmas.List.Edits.{swapped_from_swap, length-swap}
 use Rattle.std.proofs.lemmas.Option.{slice_get_within, slice_get-get_or, get_or_from_slice_get}

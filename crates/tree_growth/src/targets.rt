@@ -1,7 +1,8 @@
 //! The order of targets.
 
-ghost use Rattle.std.specs.Prelude.{◌<◌, ◌≤◌, length};
+ghost use Rattle.std.specs.Prelude.{◌≡◌, ◌<◌, ◌≤◌, length, map};
 ghost use Rattle.std.specs.List.Sorted.{IsPermutation};
+ghost use Rattle.net_search.specs.Targets.{drawn_nearer};
 ghost use Rattle.tree_growth.specs.Nearest.{AreNearestFirst, IsNearestFrom};
 
 use net_search::{Site, Target};
@@ -34,7 +35,9 @@ fn nearest_from(left: &[Target], place: usize) -> usize
 }
 
 /// Tells targets of more sites that are joined.
-pub(crate) fn draw_nearer(left: &mut [Target], joined: &[Site]) {
+pub(crate) fn draw_nearer(left: &mut [Target], joined: &[Site])
+    ensures { left.new ≡ map (drawn_nearer joined.now) left.old }
+{
     for target in left.iter_mut() {
         target.draw_nearer(joined);
     }
