@@ -25,7 +25,7 @@ of_both one other = record {
 abbrev pub proved_excess : Estimate → ℕ
 proved_excess estimate = estimate.cost - estimate.capacity_cost
 
--- the first has a greater quotient of both costs
+-- the first has a quotient of both costs, and the second none or a smaller one; the products that tell it end at the greatest number
 abbrev pub is_greater_bound : Estimate → Estimate → Bool
 is_greater_bound one other =
     ltb 0 one.capacity_cost

@@ -54,7 +54,7 @@ impl<'a> Search<'a> {
         })
     }
 
-    /// Tries cuts of some of the tile edges that routes fill most, and of those round the tiles that all routes fill most.
+    /// Tries cuts of some of the tile edges that routes fill most, and of those round the tiles that nets have to leave most.
     pub fn try_all(&mut self) -> Result<(), NoMemory>
         ensures more { length self.old.offers.items ≤ length self.new.offers.items }
     {

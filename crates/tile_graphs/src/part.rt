@@ -2,7 +2,7 @@
 
 ghost use Rattle.std.specs.Prelude.{◌≡◌, ◌+◌, ◌-◌, ◌<◌, ◌^◌, ◌≢◌, ◌++◌, ◌∷◌, ◌||◌, ◌==◌, [], All, IfOk, OnOk, IsPermutation, length, min, max, slice_index};
 ghost use Rattle.std.specs.List.{list_all, list_any, sum_by};
-ghost use Rattle.tile_graphs.specs.Bundles.{CostAlike, demand_of_bundles, looks_of_bundle, no_end};
+ghost use Rattle.tile_graphs.specs.Bundles.{AreTight, CostAlike, demand_of_bundles, looks_of_bundle, much_of, no_end};
 ghost use Rattle.tile_graphs.specs.Fullness.{excess_of, in_word, is_above};
 ghost use Rattle.tile_graphs.specs.Links.{open_excess_of};
 
@@ -113,6 +113,7 @@ impl Part {
     /// The nets in bundles.
     pub fn bundles(&mut self, alloc: Global) -> Result<Vec<Bundle>, NoMemory>
         ensures bundled { IfOk result (λ bundles. demand_of_bundles self.old.nets.items < 2 ^ 64 → CostAlike bundles.items self.old.nets.items) }
+        ensures tight { IfOk result (λ bundles. AreTight (much_of self.old.nets.items) bundles.items) }
         ensures nets { IsPermutation self.old.nets.items self.new.nets.items }
         ensures edges { self.new.edges ≡ self.old.edges }
         ensures links { self.new.links ≡ self.old.links }

@@ -7,7 +7,7 @@ use grid_base::{Edge, NoMemory};
 use grid_graph::Design;
 use std::alloc::Global;
 
-/// Which of all tiles are those of a net, and what the net uses of an edge.
+/// Which of all tiles are those of a net, and what the net uses of an edge of the lowest layer.
 #[derive(Debug, Drop, Clone, Copy, PartialEq, Eq)]
 pub struct TileNet {
     first: usize,
