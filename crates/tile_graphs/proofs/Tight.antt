@@ -1,5 +1,5 @@
 -- Neighbours with the same ends in one bundle.
-use Rattle.std.proofs.Common.{ℕ, ◌≡◌, ◌≤◌, List, [], ◌∷◌, ◌++◌, Option, Some, None, sym, subst, ◌∙◌}
+use Rattle.std.proofs.Common.{ℕ, ◌≡◌, ◌≤◌, List, [], ◌∷◌, ◌++◌, Option, Some, sym, subst, ◌∙◌}
 use Rattle.std.specs.Option.{option_to_list}
 use Rattle.tile_graphs.specs.declared.bundles.Bundle.{Bundle}
 use Rattle.tile_graphs.specs.Bundles.{AreTight, IsEndedBefore}

@@ -1,4 +1,4 @@
-use Rattle.std.proofs.Common.{◌≡◌, ◌<◌, ◌/◌, ◌^◌, ◌++◌, None, [], take}
+use Rattle.std.proofs.Common.{◌≡◌, ◌<◌, ◌^◌, ◌++◌, None, [], take}
 use Rattle.std.specs.Option.{option_to_list}
 use Rattle.tile_graphs.specs.Bundles.{AreTight, CostAlike, demand_of_bundles}
 use Rattle.tile_graphs.proofs.bundles.merged.Given as goal
