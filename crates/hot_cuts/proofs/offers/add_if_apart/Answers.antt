@@ -1,4 +1,4 @@
-use Rattle.std.proofs.Common.{◌≡◌, ◌∙◌, ◌++◌, ℕ, List, Bool, true, false, Option, Some, ap, sym, cond, fold, length, refl, slice_get}
+use Rattle.std.proofs.Common.{◌≡◌, ◌∙◌, ◌++◌, List, Bool, true, false, Some, ap, sym, cond, fold, length, refl, slice_get}
 use Rattle.std.proofs.lemmas.Option.{slice_get_read}
 use Rattle.hot_cuts.specs.declared.offers.Offer.{Offer}
 use Rattle.hot_cuts.specs.declared.offers.Standing.{Standing}
