@@ -4,7 +4,7 @@ use Rattle.cert_text.specs.CertText.{fraction_text}
 use Rattle.tree_set.specs.declared.measure.Measure.{Measure}
 use Rattle.congestion_cells.specs.declared.shown_layers.ShownLayers.{ShownLayers}
 
--- a byte of a name, so that it is no part of the mark-up: `&`, `<` and `>` by their entities, and control characters as blanks
+-- a byte of a name, so that it is no part of the mark-up: `&`, `<` and `>` by their entities, and bytes below 32 as blanks
 abbrev pub escaped_byte : ℕ → List ℕ
 escaped_byte b =
     cond (b == 38) (codes "&amp;") (cond (b == 60) (codes "&lt;") (cond (b == 62) (codes "&gt;") (cond (ltb b 32) (codes " ") (b ∷ []))))

@@ -1,5 +1,5 @@
 -- Prices of tile edges.
-use Rattle.std.specs.Prelude.{ℕ, ◌^◌, List, [], ◌∷◌, cond, ltb, slice_index, slice_set}
+use Rattle.std.specs.Prelude.{ℕ, ◌^◌, Bool, true, List, [], ◌∷◌, cond, ltb, slice_index, slice_set}
 use Rattle.hot_cuts.specs.declared.offers.TilePrice.{TilePrice}
 use Rattle.tile_graphs.specs.declared.part.HotEdge.{HotEdge}
 
@@ -15,3 +15,7 @@ offered_price prices edge =
 -- with the price of a tile edge
 abbrev pub with_price : List ℕ → TilePrice → List ℕ
 with_price prices priced = slice_set prices priced.tile_edge priced.price
+
+-- with the mark of a tile edge that has a price
+abbrev pub with_mark_of : List Bool → TilePrice → List Bool
+with_mark_of marks priced = slice_set marks priced.tile_edge true

@@ -1,7 +1,7 @@
 //! What prices prove.
 
 ghost use Rattle.std.specs.Prelude.{◌≡◌, ◌/◌, ◌*◌, ◌<◌, ◌↔◌, IsTrue};
-ghost use Rattle.hot_cuts.specs.Estimates.{in_two_words, is_greater_bound, of_both, proved_excess, with_capacity, with_demand};
+ghost use Rattle.hot_cuts.specs.Estimates.{in_two_words, is_greater_bound, level_of, of_both, proved_excess, with_capacity, with_demand};
 ghost use Rattle.tile_graphs.specs.Fullness.{in_word, just_full};
 
 use tile_graphs::FULL;
@@ -53,7 +53,8 @@ impl Estimate {
 
     /// The bound, in parts of `FULL`.
     pub fn level(self) -> u64
-        ensures { 0 < self.capacity_cost → result ≡ in_word (in_two_words (self.cost * just_full) / self.capacity_cost) }
+        ensures some { 0 < self.capacity_cost → result ≡ in_word (in_two_words (self.cost * just_full) / self.capacity_cost) }
+        ensures all { result ≡ level_of self }
     {
         let cost = self.cost.saturating_mul(u128::from(FULL));
         let level = cost.checked_div(self.capacity_cost).unwrap_or(0);

@@ -1,6 +1,8 @@
 //! Rounds in which nets and prices answer each other.
 
-ghost use Rattle.std.specs.Prelude.{◌≡◌, IfOk, length, replicate};
+ghost use Rattle.std.specs.Prelude.{◌≡◌, ◌<◌, ℕ, IfOk, length, replicate, slice_index};
+ghost use Rattle.hot_cuts.specs.Estimates.{of_capacities};
+ghost use Rattle.hot_cuts.specs.Markets.{given_price, price_if_fuller};
 
 use crate::estimate::Estimate;
 use crate::least_trees::LeastTrees;
@@ -59,9 +61,15 @@ impl<'a> Market<'a> {
     }
 
     /// Gives the links that routes fill more than at a level the greatest price, and all others none.
-    pub fn price_fuller(&mut self, level: u64) {
-        for (link, price) in self.links.iter().zip(self.prices.iter_mut()) {
-            *price = if link.total.is_fuller(level) { TOP } else { 0 };
+    pub fn price_fuller(&mut self, level: u64)
+        ensures long { length self.new.prices.items ≡ length self.old.prices.items }
+        ensures prices { (k : ℕ) → k < length self.old.prices.items → k < length self.old.links.now
+            → slice_index self.new.prices.items k ≡ price_if_fuller level self.old.links.now k }
+    {
+        for (place, link) in self.links.iter().enumerate() {
+            if let Some(price) = self.prices.get_mut(place) {
+                *price = if link.total.is_fuller(level) { TOP } else { 0 };
+            }
         }
     }
 
@@ -73,9 +81,15 @@ impl<'a> Market<'a> {
     }
 
     /// Gives the links these prices.
-    pub fn set_prices(&mut self, prices: &[u64]) {
-        for (old, new) in self.prices.iter_mut().zip(prices) {
-            *old = new.saturating_mul(GRAIN).min(TOP);
+    pub fn set_prices(&mut self, prices: &[u64])
+        ensures long { length self.new.prices.items ≡ length self.old.prices.items }
+        ensures prices { (k : ℕ) → k < length self.old.prices.items → k < length prices.now
+            → slice_index self.new.prices.items k ≡ given_price (slice_index prices.now k) }
+    {
+        for (place, new) in prices.iter().enumerate() {
+            if let Some(price) = self.prices.get_mut(place) {
+                *price = new.saturating_mul(GRAIN).min(TOP);
+            }
         }
     }
 
@@ -92,11 +106,10 @@ impl<'a> Market<'a> {
     }
 
     /// What prices of the links prove.
-    pub fn estimate(&mut self, prices: &[u64]) -> Estimate {
-        let mut estimate = Estimate::NONE;
-        for (link, price) in self.links.iter().zip(prices) {
-            estimate.add_capacity(link.total.capacity, *price);
-        }
+    pub fn estimate(&mut self, prices: &[u64]) -> Estimate
+        ensures { result.capacity_cost ≡ (of_capacities self.old.links.now prices.now).capacity_cost }
+    {
+        let mut estimate = capacities_at(self.links, prices);
         for bundle in self.bundles {
             let cost = self.trees.cost(self.links, prices, bundle.ends);
             estimate.add_demand(bundle.demand, cost);
@@ -136,4 +149,15 @@ impl<'a> Market<'a> {
             *sum = sum.saturating_add(*price / GRAIN);
         }
     }
+}
+
+/// What the capacities of links cost at prices, and no nets.
+fn capacities_at(links: &[Link], prices: &[u64]) -> Estimate
+    ensures { result ≡ of_capacities links.now prices.now }
+{
+    let mut estimate = Estimate::NONE;
+    for (link, price) in links.iter().zip(prices) {
+        estimate.add_capacity(link.total.capacity, *price);
+    }
+    estimate
 }

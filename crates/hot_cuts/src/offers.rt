@@ -3,7 +3,8 @@
 ghost use Rattle.std.specs.Prelude.{◌≡◌, ◌++◌, [], IfOk, OnOk, length, not, replicate, slice_index_or, true};
 ghost use Rattle.std.specs.List.{flat_map, fold, list_all, sum_by};
 ghost use Rattle.hot_cuts.specs.Estimates.{of_both};
-ghost use Rattle.hot_cuts.specs.Offers.{offered_price, with_price};
+ghost use Rattle.hot_cuts.specs.Offers.{offered_price, with_mark_of, with_price};
+ghost use Rattle.hot_cuts.specs.Standings.{AreBestApart, AreStandings, joined_in, with_standing};
 ghost use Rattle.tile_graphs.specs.Fullness.{excess_of, in_word, no_total};
 
 use crate::estimate::Estimate;
@@ -87,8 +88,9 @@ impl Offer {
     }
 
     /// Marks the tile edges that have a price.
-    pub fn mark(&self, marks: &mut [bool])
-        ensures { length marks.new ≡ length marks.old }
+    pub fn mark(&self, marks: &mut Vec<bool>)
+        ensures long { length marks.new.items ≡ length marks.old.items }
+        ensures marked { marks.new.items ≡ fold with_mark_of marks.old.items self.now.prices.items }
     {
         for priced in self.prices.iter() {
             if let Some(mark) = marks.get_mut(priced.tile_edge as usize) {
@@ -129,18 +131,35 @@ pub(crate) fn by_tile_edges(
 }
 
 /// The best offers that price none of the tile edges that a better one prices. What they prove of the overflow adds up.
-pub(crate) fn joined(alloc: Global, offers: &[Offer], count: usize) -> Result<Offer, NoMemory> {
+pub(crate) fn joined(alloc: Global, offers: &[Offer], count: usize) -> Result<Offer, NoMemory>
+    ensures { IfOk result (AreBestApart offers.now count) }
+{
     let mut all = Offer::none(alloc);
     let mut marks = vec![in alloc; false; count]?;
-    for standing in standings(alloc, offers)? {
-        if let Some(offer) = offers.get(standing.place)
-            && offer.is_apart(marks.as_slice())
-        {
-            offer.mark(marks.as_mut_slice());
-            all.add(offer)?;
-        }
+    let order = standings(alloc, offers)?;
+    for standing in order.iter() {
+        add_if_apart(&mut all, &mut marks, offers, *standing)?;
     }
     Ok(all)
+}
+
+/// Adds an offer by its standing, and marks the tile edges that it prices, if none of them is marked.
+fn add_if_apart(
+    all: &mut Offer,
+    marks: &mut Vec<bool>,
+    offers: &[Offer],
+    standing: Standing,
+) -> Result<(), NoMemory>
+    ensures { OnOk result (joined_in marks.new.items all.new ≡ with_standing offers.now (joined_in marks.old.items all.old) standing) }
+{
+    let Some(offer) = offers.get(standing.place) else {
+        return Ok(());
+    };
+    if offer.is_apart(marks.as_slice()) {
+        offer.mark(marks);
+        all.add(offer)?;
+    }
+    Ok(())
 }
 
 /// Where an offer is in a list. The one that proves the most overflow comes first.
@@ -151,7 +170,9 @@ struct Standing {
 }
 
 /// The places of the offers in order.
-fn standings(alloc: Global, offers: &[Offer]) -> Result<Vec<Standing>, NoMemory> {
+fn standings(alloc: Global, offers: &[Offer]) -> Result<Vec<Standing>, NoMemory>
+    ensures { IfOk result (λ standings. AreStandings offers.now standings.items) }
+{
     let mut standings = Vec::new(alloc);
     for (place, offer) in offers.iter().enumerate() {
         standings.push(Standing {

@@ -1,6 +1,8 @@
 //! The search for the best prices.
 
-ghost use Rattle.std.specs.Prelude.{◌≡◌, ◌≤◌, [], IfOk, length};
+ghost use Rattle.std.specs.Prelude.{◌≡◌, ◌<◌, ◌≤◌, [], IfOk, OnOk, length};
+ghost use Rattle.hot_cuts.specs.Estimates.{proved_excess};
+ghost use Rattle.hot_cuts.specs.Searches.{greater_offer, level_for, open_excess_of_all, with_offer, with_settled};
 
 use crate::estimate::Estimate;
 use crate::offers::{Offer, TilePrice, by_tile_edges, joined};
@@ -54,7 +56,7 @@ impl<'a> Search<'a> {
         })
     }
 
-    /// Tries cuts of some of the tile edges that routes fill most, and of those round the tiles that all routes fill most.
+    /// Tries cuts of some of the tile edges that routes fill most, and of those round the tiles that nets have to leave most.
     pub fn try_all(&mut self) -> Result<(), NoMemory>
         ensures more { length self.old.offers.items ≤ length self.new.offers.items }
     {
@@ -150,7 +152,7 @@ impl<'a> Search<'a> {
         let alloc = self.alloc;
         let prices = by_tile_edges(alloc, given.prices.as_slice(), self.are_settled.len())?;
         let mut are_hot = vec![in alloc; false; self.are_settled.len()]?;
-        given.mark(are_hot.as_mut_slice());
+        given.mark(&mut are_hot);
         let mut graph = Contraction::of(alloc, self.view, are_hot.as_slice())?;
         let mut found = Offer::none(alloc);
         let all = self.open_excess();
@@ -169,6 +171,10 @@ impl<'a> Search<'a> {
     /// Takes the best prices of a trial. Tile edges are settled where they prove all by which routes overfill them.
     fn take(&mut self, trial: Trial) -> Result<(), NoMemory>
         ensures more { length self.old.offers.items ≤ length self.new.offers.items }
+        ensures bound { OnOk result (self.new.bound ≡ greater_offer self.old.bound trial.entry.bound) }
+        ensures offers { OnOk result (self.new.offers.items ≡ with_offer self.old.offers.items trial.entry.overflow) }
+        ensures settled { OnOk result (self.new.are_settled.items
+            ≡ with_settled self.old.view.now.totals.items self.old.are_settled.items trial.entry.overflow) }
     {
         let Trial {
             bound,
@@ -178,19 +184,30 @@ impl<'a> Search<'a> {
         if bound.estimate.has_greater_bound(self.bound.estimate) {
             self.bound = bound;
         }
-        let excess = overflow.estimate.excess();
-        if excess > 0 {
-            let most = overflow.most_excess(self.view.totals.as_slice());
-            if excess >= u128::from(most).saturating_mul(u128::from(MAX_PRICE)) {
-                overflow.mark(self.are_settled.as_mut_slice());
-            }
+        if overflow.estimate.excess() > 0 {
+            self.settle(&overflow);
             self.offers.push(overflow)?;
         }
         Ok(())
     }
 
+    /// Settles the tile edges that an offer prices, where it proves all by which routes overfill them.
+    fn settle(&mut self, offer: &Offer)
+        ensures settled { 0 < proved_excess offer.now.estimate → self.new.are_settled.items
+            ≡ with_settled self.old.view.now.totals.items self.old.are_settled.items offer.now }
+        ensures bound { self.new.bound ≡ self.old.bound }
+        ensures offers { self.new.offers ≡ self.old.offers }
+    {
+        let most = offer.most_excess(self.view.totals.as_slice());
+        if offer.estimate.excess() >= u128::from(most).saturating_mul(u128::from(MAX_PRICE)) {
+            offer.mark(&mut self.are_settled);
+        }
+    }
+
     /// By how much routes overfill the tile edges that are not settled.
-    fn open_excess(&self) -> u64 {
+    fn open_excess(&self) -> u64
+        ensures { result ≡ open_excess_of_all self.now.view.now.totals.items self.now.are_settled.items }
+    {
         let mut all: u64 = 0;
         for (total, is_settled) in self.view.totals.iter().zip(self.are_settled.iter()) {
             if !*is_settled {
@@ -234,7 +251,9 @@ impl<'a> Search<'a> {
 
     /// The level that prices are to prove more than, in parts of `FULL`: the greatest bound so far or the one just found, or
     /// what is just full.
-    fn level(&self, goal: Goal, found: Estimate) -> u64 {
+    fn level(&self, goal: Goal, found: Estimate) -> u64
+        ensures { result ≡ level_for goal self.now.bound.estimate found }
+    {
         match goal {
             Goal::Bound => self.bound.estimate.level().max(found.level()),
             Goal::Overflow => FULL,

@@ -1,4 +1,5 @@
--- Cuts round single tiles: what the tile edges round a tile can carry, and what nets carry over them whatever their routes.
+-- Cuts round single tiles: what the tile edges round a tile can carry, and what the nets carry over them that have to leave it, each once and
+-- with what it uses on the lowest layer.
 use Rattle.std.specs.Prelude.{ℕ, List, cond, fold, ltb, replicate, slice_index_or, slice_set, take}
 use Rattle.std.specs.List.{enumerate_from}
 use Rattle.grid_base.specs.declared.size.Size.{Size}

@@ -4,4 +4,5 @@ pub mod Fullness
 pub mod Links
 pub mod TileEdges
 pub mod TileNets
+pub mod Totals
 pub mod Uses

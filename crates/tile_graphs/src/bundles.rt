@@ -2,17 +2,17 @@
 
 ghost use Rattle.std.specs.Prelude.{◌≡◌, ◌<◌, ◌≤◌, ◌^◌, ℕ, All, IfOk};
 ghost use Rattle.std.specs.List.{sum_by};
-ghost use Rattle.tile_graphs.specs.Bundles.{CostAlike, demand_of_bundles, looks_of_bundle, sets_of_ends};
+ghost use Rattle.tile_graphs.specs.Bundles.{AreTight, CostAlike, demand_of_bundles, looks_of_bundle, much_of, sets_of_ends};
 ghost use Rattle.tile_graphs.specs.Fullness.{in_word};
 
 use crate::ends::Ends;
 use grid_base::NoMemory;
 use std::alloc::Global;
 
-/// No bundle of two nets or more has much more than this part of all demands.
+/// A bundle that has one of so many parts of all demands takes no further net. The last one that it took may be of any demand.
 const PARTS: u64 = 1000;
 
-/// Nets with the same ends, and what they use together of an edge.
+/// Nets with the same ends, and what they use together of an edge of the lowest layer.
 #[derive(Debug, Drop, Clone, Copy, PartialEq, Eq, PartialOrd, Ord)]
 pub struct Bundle {
     pub ends: Ends,
@@ -57,9 +57,10 @@ pub(crate) fn looks_of(bundles: &[Bundle], links: u64, nodes: u64) -> u64
     looks
 }
 
-/// Neighbours with the same ends in one bundle, as long as it is small.
+/// Neighbours with the same ends in one bundle, as long as it has less than a part of all demands.
 pub(crate) fn merged(alloc: Global, singles: &[Bundle]) -> Result<Vec<Bundle>, NoMemory>
-    ensures { IfOk result (λ bundles. demand_of_bundles singles.now < 2 ^ 64 → CostAlike bundles.items singles.now) }
+    ensures alike { IfOk result (λ bundles. demand_of_bundles singles.now < 2 ^ 64 → CostAlike bundles.items singles.now) }
+    ensures tight { IfOk result (λ bundles. AreTight (much_of singles.now) bundles.items) }
 {
     let most = total_demand(singles) / PARTS;
     let mut bundles = Vec::new(alloc);

@@ -1,10 +1,10 @@
 //! Parts of the graph of regions.
 
-ghost use Rattle.std.specs.Prelude.{◌≡◌, ◌+◌, ◌-◌, ◌<◌, ◌^◌, ◌≢◌, ◌++◌, ◌∷◌, ◌||◌, ◌==◌, [], All, IfOk, OnOk, IsPermutation, length, min, max, slice_index};
+ghost use Rattle.std.specs.Prelude.{◌≡◌, ◌+◌, ◌-◌, ◌<◌, ◌^◌, ◌≢◌, ◌++◌, ◌∷◌, ◌||◌, ◌==◌, [], All, IfOk, OnOk, IsPermutation, fold, length, min, max, replicate, slice_get, slice_index};
 ghost use Rattle.std.specs.List.{list_all, list_any, sum_by};
-ghost use Rattle.tile_graphs.specs.Bundles.{CostAlike, demand_of_bundles, looks_of_bundle, no_end};
+ghost use Rattle.tile_graphs.specs.Bundles.{AreTight, CostAlike, demand_of_bundles, looks_of_bundle, much_of, no_end};
 ghost use Rattle.tile_graphs.specs.Fullness.{excess_of, in_word, is_above};
-ghost use Rattle.tile_graphs.specs.Links.{open_excess_of};
+ghost use Rattle.tile_graphs.specs.Links.{AreLinksOf, is_link_of, open_excess_of, with_hot_edge, with_link_for, with_link_price, with_more_at_last, with_numbers};
 
 use crate::bundles::{Bundle, looks_of, merged};
 use crate::tile_use::TileTotal;
@@ -97,22 +97,18 @@ impl Part {
 
     /// Makes the links of the tile edges, of which these are the totals.
     pub fn make_links(&mut self, totals: &[TileTotal]) -> Result<(), NoMemory>
+        ensures links { OnOk result (AreLinksOf totals.now self.old.links.items self.old.edges.items self.new.links.items self.new.edges.items) }
         ensures nets { self.new.nets ≡ self.old.nets }
         ensures nodes { self.new.nodes ≡ self.old.nodes }
     {
         self.edges.sort_unstable();
-        for edge in self.edges.iter_mut() {
-            let total = totals.get(edge.tile_edge as usize).copied();
-            add_to_links(&mut self.links, *edge, total.unwrap_or(TileTotal::NONE))?;
-            let last = self.links.len().saturating_sub(1);
-            edge.link = u32::try_from(last).unwrap_or(0);
-        }
-        Ok(())
+        link_all(&mut self.links, self.edges.as_mut_slice(), totals)
     }
 
     /// The nets in bundles.
     pub fn bundles(&mut self, alloc: Global) -> Result<Vec<Bundle>, NoMemory>
         ensures bundled { IfOk result (λ bundles. demand_of_bundles self.old.nets.items < 2 ^ 64 → CostAlike bundles.items self.old.nets.items) }
+        ensures tight { IfOk result (λ bundles. AreTight (much_of self.old.nets.items) bundles.items) }
         ensures nets { IsPermutation self.old.nets.items self.new.nets.items }
         ensures edges { self.new.edges ≡ self.old.edges }
         ensures links { self.new.links ≡ self.old.links }
@@ -172,7 +168,9 @@ impl Part {
 
     /// For each link the greatest of these prices of its tile edges.
     pub fn prices_of(&self, alloc: Global, tile_prices: &[u32]) -> Result<Vec<u64>, NoMemory>
-        ensures { IfOk result (λ prices. length prices.items ≡ length self.now.links.items) }
+        ensures long { IfOk result (λ prices. length prices.items ≡ length self.now.links.items) }
+        ensures greatest { IfOk result (λ prices. prices.items
+            ≡ fold (with_link_price tile_prices.now) (replicate (length self.now.links.items) 0) self.now.edges.items) }
     {
         let mut prices = vec![in alloc; 0u64; self.links.len()]?;
         for edge in self.edges.iter() {
@@ -185,21 +183,54 @@ impl Part {
     }
 }
 
+/// Adds tile edges to links, one after the other, and gives each the number of its link.
+fn link_all(
+    links: &mut Vec<Link>,
+    edges: &mut [HotEdge],
+    totals: &[TileTotal],
+) -> Result<(), NoMemory>
+    ensures links { OnOk result (links.new.items ≡ fold (with_hot_edge totals.now) links.old.items edges.old) }
+    ensures numbers { OnOk result (edges.new ≡ with_numbers totals.now links.old.items edges.old) }
+{
+    for edge in edges.iter_mut() {
+        let total = totals.get(edge.tile_edge as usize).copied();
+        add_to_links(links, *edge, total.unwrap_or(TileTotal::NONE))?;
+        let last = links.len().saturating_sub(1);
+        edge.link = u32::try_from(last).unwrap_or(0);
+    }
+    Ok(())
+}
+
 /// Adds a tile edge to the last link, or to a new one where that joins other nodes.
-fn add_to_links(links: &mut Vec<Link>, edge: HotEdge, total: TileTotal) -> Result<(), NoMemory> {
-    let is_joined = match links.last() {
-        Some(link) => link.one == edge.one && link.other == edge.other,
-        None => false,
-    };
-    if !is_joined {
+fn add_to_links(links: &mut Vec<Link>, edge: HotEdge, total: TileTotal) -> Result<(), NoMemory>
+    ensures { OnOk result (links.new.items ≡ with_more_at_last (with_link_for links.old.items edge) total) }
+{
+    if !is_last_link(links.as_slice(), edge) {
         links.push(Link {
             one: edge.one,
             other: edge.other,
             total: TileTotal::NONE,
         })?;
     }
-    if let Some(link) = links.last_mut() {
-        link.total = link.total.with(total.load, total.capacity);
-    }
+    add_to_last(links, total);
     Ok(())
+}
+
+/// Whether the last link joins the nodes of a tile edge.
+fn is_last_link(links: &[Link], edge: HotEdge) -> bool
+    ensures { result ≡ is_link_of (slice_get links.now (length links.now - 1)) edge }
+{
+    match links.last() {
+        Some(link) => link.one == edge.one && link.other == edge.other,
+        None => false,
+    }
+}
+
+/// Adds so much to the last link.
+fn add_to_last(links: &mut Vec<Link>, more: TileTotal)
+    ensures { links.new.items ≡ with_more_at_last links.old.items more }
+{
+    if let Some(link) = links.last_mut() {
+        link.total = link.total.with(more.load, more.capacity);
+    }
 }

@@ -12,7 +12,8 @@ use crate::tile_view::TileView;
 use grid_base::NoMemory;
 use std::alloc::Global;
 
-/// What the tile edges round each tile can carry, and what the nets carry over them whatever their routes.
+/// What the tile edges round each tile can carry, and what the nets carry over them that have to leave it, each once and with
+/// what it uses on the lowest layer. Routes carry more where they leave a tile often, and less where other layers take less.
 #[derive(Drop)]
 struct TileCuts {
     totals: Vec<TileTotal>,

@@ -1,13 +1,16 @@
 //! Nets by their tiles.
 
 ghost use Rattle.std.specs.Prelude.{◌≡◌, ◌<◌, ◌≤◌, ◌+◌, All, IfOk, OnOk, length};
+ghost use Rattle.grid_base.specs.Lists.{At};
+ghost use Rattle.grid_graph.specs.declared.net_spec.NetSpec.{NetSpec};
+ghost use Rattle.grid_graph.specs.Grids.{demand_on};
 ghost use Rattle.tile_graphs.specs.TileNets.{HasTiles, listed_tiles};
 
 use grid_base::{Edge, NoMemory};
 use grid_graph::Design;
 use std::alloc::Global;
 
-/// Which of all tiles are those of a net, and what the net uses of an edge.
+/// Which of all tiles are those of a net, and what the net uses of an edge of the lowest layer.
 #[derive(Debug, Drop, Clone, Copy, PartialEq, Eq)]
 pub struct TileNet {
     first: usize,
@@ -92,6 +95,7 @@ fn tiles_of_net(alloc: Global, design: &Design, place: usize) -> Result<Vec<u32>
 /// What the net at a place uses of an edge of the lowest layer.
 fn demand_of_net(design: &Design, place: usize) -> u32
     requires { place < length design.now.nets }
+    ensures { (n : NetSpec) → At design.now.nets place n → result ≡ demand_on design.now.grid n.width 0 }
 {
     design.grid.demand(design.nets.list()[place].width, Edge(0))
 }

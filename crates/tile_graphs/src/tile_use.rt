@@ -5,6 +5,7 @@ ghost use Rattle.std.specs.List.{enumerate_from, flat_map};
 ghost use Rattle.std.specs.List.Sorted.{IsSorted};
 ghost use Rattle.grid_graph.specs.Flat.{tiles};
 ghost use Rattle.grid_graph.specs.Grids as grids;
+ghost use Rattle.tile_graphs.specs.Totals.{totals_of, with_edge};
 ghost use Rattle.tile_graphs.specs.Fullness.{excess_of, fuller_of, fullness_of, is_above, is_filled_to, with_more};
 ghost use Rattle.tile_graphs.specs.Uses.{in_turn, most_tile_edges, use_of, with_mark};
 
@@ -89,26 +90,36 @@ pub struct TileUse {
     tile_edge: u32,
 }
 
-/// What the edges over each tile edge carry and can carry, by its number on layer 0.
+/// What the open edges over each tile edge carry and can carry, by its number on layer 0. What closed ones carry counts for none.
 pub(crate) fn tile_totals(
     alloc: Global,
     grid: &Grid,
     loads: &[u64],
 ) -> Result<Vec<TileTotal>, NoMemory>
-    ensures { IfOk result (λ totals. length totals.items ≡ 2 * tiles (grids.size_of grid.now)) }
+    ensures long { IfOk result (λ totals. length totals.items ≡ 2 * tiles (grids.size_of grid.now)) }
+    ensures all { IfOk result (λ totals. totals.items ≡ totals_of grid.now loads.now) }
 {
-    let per_layer = tile_edges(grid);
-    let mut totals = vec![in alloc; TileTotal::NONE; per_layer as usize]?;
+    let mut totals = vec![in alloc; TileTotal::NONE; tile_edges(grid) as usize]?;
     for e in 0..2 * grid.size().vertices() {
-        let capacity = grid.capacity(Edge(e));
-        if capacity > 0
-            && let Some(total) = totals.get_mut((e % per_layer) as usize)
-        {
-            let load = loads.get(e as usize).copied().unwrap_or(0);
-            *total = total.with(load, u64::from(capacity));
-        }
+        add_edge(&mut totals, grid, loads, e);
     }
     Ok(totals)
+}
+
+/// Adds what an edge carries and can carry to the total of its tile edge, if it is open.
+fn add_edge(totals: &mut Vec<TileTotal>, grid: &Grid, loads: &[u64], e: u32)
+    requires { grids.IsEdgeNumber grid.now e }
+    ensures added { totals.new.items ≡ with_edge grid.now loads.now totals.old.items e }
+    ensures long { length totals.new.items ≡ length totals.old.items }
+{
+    let capacity = grid.capacity(Edge(e));
+    if capacity == 0 {
+        return;
+    }
+    let load = loads.get(e as usize).copied().unwrap_or(0);
+    if let Some(total) = totals.get_mut((e % tile_edges(grid)) as usize) {
+        *total = total.with(load, u64::from(capacity));
+    }
 }
 
 /// Marks the tile edges that are filled to a level at least, in parts of `FULL`.

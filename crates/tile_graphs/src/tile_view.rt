@@ -3,6 +3,7 @@
 ghost use Rattle.std.specs.Prelude.{◌≡◌, ◌*◌, IfOk, length};
 ghost use Rattle.grid_graph.specs.Flat.{tiles};
 ghost use Rattle.grid_graph.specs.Grids as grids;
+ghost use Rattle.tile_graphs.specs.Totals.{totals_of};
 
 use crate::tile_nets::TileNets;
 use crate::tile_use::{TileTotal, tile_totals};
@@ -14,7 +15,7 @@ use std::alloc::Global;
 #[derive(Drop)]
 pub struct TileView {
     pub size: Size,
-    /// By the numbers of the tile edges.
+    /// Those of the open edges, by the numbers of the tile edges.
     pub totals: Vec<TileTotal>,
     pub nets: TileNets,
 }
@@ -24,6 +25,7 @@ impl TileView {
     pub fn of(alloc: Global, design: &Design, loads: &[u64]) -> Result<TileView, NoMemory>
         ensures size { IfOk result (λ view. view.size ≡ grids.size_of design.now.grid) }
         ensures long { IfOk result (λ view. length view.totals.items ≡ 2 * tiles view.size) }
+        ensures totals { IfOk result (λ view. view.totals.items ≡ totals_of design.now.grid loads.now) }
     {
         Ok(TileView {
             size: design.grid.size(),
