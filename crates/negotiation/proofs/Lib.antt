@@ -6,3 +6,4 @@ pub mod DueNets
 pub mod Changes
 pub mod Steps
 pub mod Outcome
+pub mod SamePieces

@@ -1,6 +1,6 @@
 //! Descent: nets are rerouted, and keep their new sets unless these are worse.
 
-ghost use Rattle.std.specs.Prelude.{◌<◌, IfOk, length};
+ghost use Rattle.std.specs.Prelude.{◌<◌, ◌-◌, ◌/◌, ◌↔◌, ◌⊎◌, IfOk, IsTrue, length};
 ghost use Rattle.grid_graph.specs.Grounds.{AreGrounds};
 ghost use Rattle.routing_state.specs.States.{IsStateOf};
 ghost use Rattle.negotiation.specs.Searches.{AreFound, ArePlaces, IsFoundFor};
@@ -98,7 +98,9 @@ pub(crate) fn run_passes<R: Threads + Sync>(
 }
 
 /// Whether a pass gained so much that another one may be worth its time.
-fn is_worth_another(before: Totals, after: Totals) -> bool {
+fn is_worth_another(before: Totals, after: Totals) -> bool
+    ensures { IsTrue result ↔ (after.overflow < before.overflow) ⊎ (before.wirelength / 500 < before.wirelength - after.wirelength) }
+{
     let gained = before.wirelength.saturating_sub(after.wirelength);
     after.overflow < before.overflow || gained > before.wirelength / GAIN_PARTS
 }

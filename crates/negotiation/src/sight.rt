@@ -1,5 +1,7 @@
 //! What the searches of a batch see.
 
+ghost use Rattle.std.specs.Prelude.{◌≡◌, ◌↔◌, IsTrue, Some};
+
 use grid_base::NoMemory;
 use grid_graph::{Design, Ground};
 use net_search::{Field, Stage};
@@ -22,8 +24,9 @@ pub(crate) struct Sight<'a> {
 const WORK_ON_NET: u64 = 8;
 
 impl Sight<'_> {
-    ghost use Rattle.std.specs.Prelude.{◌≡◌, ◌<◌, ◌-◌, ◌^◌, IfOk, length, min};
+    ghost use Rattle.std.specs.Prelude.{◌≡◌, ◌≢◌, ◌<◌, ◌-◌, ◌^◌, IfOk, Some, [], length, min, slice_index_or};
     ghost use Rattle.std.specs.List.{sum_by};
+    ghost use Rattle.net_search.specs.declared.stage.Stage.TheVariants.{Start};
     ghost use Rattle.negotiation.specs.Searches.{ArePlaces, IsFoundFor, IsSight};
     ghost use Rattle.negotiation.specs.Work.{work_on_net};
 
@@ -32,7 +35,8 @@ impl Sight<'_> {
     pub fn search(&self, net: u32, growth: &mut Growth) -> Result<Option<Tree>, NoMemory>
         requires sight { IsSight self.now }
         requires net { net < length self.now.design.now.nets }
-        ensures { IfOk result (IsFoundFor self.now.design.now net) }
+        ensures found { IfOk result (IsFoundFor self.now.design.now net) }
+        ensures other { self.now.field.stage ≢ Start → IfOk result (λ found. found ≢ Some (slice_index_or self.now.trees.now net [])) }
     {
         let found = self.grown(net as usize, growth)?;
         if self.field.stage != Stage::Start && is_set(&found, &self.trees[net as usize]) {
@@ -82,7 +86,9 @@ impl Sight<'_> {
 }
 
 /// Whether what was found is this set.
-fn is_set(found: &Option<Tree>, tree: &Tree) -> bool {
+fn is_set(found: &Option<Tree>, tree: &Tree) -> bool
+    ensures { IsTrue result ↔ found.now ≡ Some tree.now }
+{
     match found {
         Some(new) => new.pieces() == tree.pieces(),
         None => false,

@@ -1,4 +1,3 @@
 pub mod GivenSets
-pub mod SamePieces
 pub mod TrueRoutes
 pub mod WholeRuns

@@ -17,8 +17,8 @@ loop-place-preserved c =
     let place = c.loop-place.place in
     elim c.if-not-is_done-place.branch [
       | then-not-is_done-place+in_ok-found+in-Some-1 w ↦
-          rw w.found-is (put_at d nets before place w.in_ok-found.field-0 (finding_at d nets place w.in_ok-found.field-0 c.loop-place-test.true w.in_ok-found.ensures).found c.loop-place.invariant)
+          rw w.found-is (put_at d nets before place w.in_ok-found.field-0 (finding_at d nets place w.in_ok-found.field-0 c.loop-place-test.true w.in_ok-found.ensures.found).found c.loop-place.invariant)
       | then-not-is_done-place+in_ok-found+in-None-1 w ↦
-          rw w.found-is (put_at d nets before place w.in_ok-found.field-0 (finding_at d nets place w.in_ok-found.field-0 c.loop-place-test.true w.in_ok-found.ensures).found c.loop-place.invariant)
+          rw w.found-is (put_at d nets before place w.in_ok-found.field-0 (finding_at d nets place w.in_ok-found.field-0 c.loop-place-test.true w.in_ok-found.ensures.found).found c.loop-place.invariant)
       | else-not-is_done-place w ↦ rw w.found-is c.loop-place.invariant
     ]

@@ -10,4 +10,4 @@ loop-net-preserved c =
     let i = c.loop-net.net-index in
     rw (take_more nets i 0 c.loop-net-test.true, c.in_ok-push.ensures.items)
     (AllZip-behind (IsFoundFor c.args.sight.design.now) (take i nets) (get_or nets i 0 ∷ []) c.loop-net.found.items (c.in_ok-search.field-0 ∷ [])
-    c.loop-net.invariant (c.in_ok-search.ensures, tt))
+    c.loop-net.invariant (c.in_ok-search.ensures.found, tt))

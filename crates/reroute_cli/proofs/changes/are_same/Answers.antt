@@ -1,5 +1,5 @@
 use Rattle.std.proofs.lemmas.Slice.Eq.{slice_eq-Decides}
-use Rattle.reroute_cli.proofs.SamePieces.{piece_decides}
+use Rattle.negotiation.proofs.SamePieces.{piece_decides}
 use Rattle.reroute_cli.proofs.changes.are_same.Goals as goal
 
 pub returns-clause-same : goal.returns-clause-same
