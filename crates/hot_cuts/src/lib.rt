@@ -15,7 +15,8 @@
 //! best ones of each place are joined, and from these some rounds more are led.
 //!
 //! It stands on `tile_graphs` for designs seen from above and the graphs, and on `edge_prices`, `grid_graph` and `grid_base`.
-//! Want of memory alone is a free answer. Promised: both lists are price lists of the edges. How much they prove no clause says.
+//! Want of memory alone is a free answer. Promised: both lists are price lists of the edges; what the search keeps of its trials
+//! and joins, and what it takes capacities to cost. What it takes nets to cost, and how much the lists prove, no clause says.
 
 #![tactic(auto)]
 

@@ -1,6 +1,7 @@
 //! Rules by which prices follow loads.
 
 ghost use Rattle.std.specs.Prelude.{◌≡◌, ◌*◌, ◌/◌, ◌<◌};
+ghost use Rattle.hot_cuts.specs.Searches.{part_of_number};
 ghost use Rattle.tile_graphs.specs.Fullness.{in_word};
 
 use edge_prices::MAX_PRICE;
@@ -30,6 +31,7 @@ pub(crate) const LATER_STEP: u64 = TOP / 8;
 pub(crate) fn part_of(number: u64, part: u64, all: u64) -> u64
     ensures some { 0 < all → result ≡ in_word (number * part / all) }
     ensures none { all ≡ 0 → result ≡ 0 }
+    ensures value { result ≡ part_of_number number part all }
 {
     let product = u128::from(number) * u128::from(part);
     let share = product.checked_div(u128::from(all)).unwrap_or(0);

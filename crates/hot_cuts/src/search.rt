@@ -1,8 +1,9 @@
 //! The search for the best prices.
 
-ghost use Rattle.std.specs.Prelude.{◌≡◌, ◌<◌, ◌≤◌, [], IfOk, OnOk, length};
-ghost use Rattle.hot_cuts.specs.Estimates.{proved_excess};
-ghost use Rattle.hot_cuts.specs.Searches.{greater_offer, level_for, open_excess_of_all, with_offer, with_settled};
+ghost use Rattle.std.specs.Prelude.{◌≡◌, ◌-◌, ◌*◌, ◌/◌, ◌<◌, ◌≤◌, [], IfOk, OnOk, length, min};
+ghost use Rattle.hot_cuts.specs.Estimates.{level_of, proved_excess};
+ghost use Rattle.hot_cuts.specs.Searches.{greater_offer, level_for, looks_for, may_prove_more, open_excess_of_all, open_excess_of_part, rounds_for, with_offer, with_settled};
+ghost use Rattle.tile_graphs.specs.Fullness.{in_word};
 
 use crate::estimate::Estimate;
 use crate::offers::{Offer, TilePrice, by_tile_edges, joined};
@@ -220,6 +221,9 @@ impl<'a> Search<'a> {
     /// How many rounds may be led on a part, each of which takes so many looks of those that are left.
     fn rounds_on(&mut self, part: &Part, looks: u64, goal: Goal, all: u64) -> u32
         ensures most { result ≤ self.old.rounds }
+        ensures rounds { result ≡ min (rounds_for (looks_for goal (may_prove_more (level_of self.old.bound.estimate) part.now)
+            (self.old.looks_left / 2) (open_excess_of_part self.old.view.now.totals.items self.old.are_settled.items part.now) all) looks) self.old.rounds }
+        ensures left { self.new.looks_left ≡ self.old.looks_left - in_word (looks * result) }
         ensures bound { self.new.bound ≡ self.old.bound }
         ensures offers { self.new.offers ≡ self.old.offers }
     {
@@ -233,7 +237,10 @@ impl<'a> Search<'a> {
 
     /// How often rounds on a part may look at links and labels: not at all where no more can be proved; and for overflow as
     /// much of half of what is left as is the part's share in what routes overfill.
-    fn most_looks(&self, part: &Part, goal: Goal, all: u64) -> u64 {
+    fn most_looks(&self, part: &Part, goal: Goal, all: u64) -> u64
+        ensures { result ≡ looks_for goal (may_prove_more (level_of self.now.bound.estimate) part.now)
+            (self.now.looks_left / 2) (open_excess_of_part self.now.view.now.totals.items self.now.are_settled.items part.now) all }
+    {
         let half = self.looks_left / 2;
         let totals = self.view.totals.as_slice();
         match goal {

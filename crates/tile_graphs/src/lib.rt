@@ -11,7 +11,8 @@
 //! nodes. Without the region of the most tiles it falls into parts, and each net is brought into those where it has ends.
 //!
 //! It stands on `groups`, `grid_graph` and `grid_base`. Want of memory alone is a free answer. Promised: how many tile edges
-//! there are, which tiles they join, what follows from their totals, and sums; of totals, regions, parts and links no more.
+//! there are, which tiles they join, their totals and what follows from them, bundles, and the links of given tile edges; of
+//! regions, and of which tile edges and nets a part has, no more.
 
 #![tactic(auto)]
 
