@@ -16,8 +16,8 @@ that `rt run` left in crates/*/out. Of each design it asks that
 Designs are drawn with widths from 1 to 4, choked edges and nets that are forced over them, one layer, one row, nets of many pins,
 and 16 layers. Most have so little room that nets are routed again in many rounds. With --room they are larger, and an edge has room
 for eight times what the nets need on average, so that what the kinds alone cost shows. It prints a line for each design that
-fails, then how the processor time is spread: for each piece of wirelength, apart for designs that end without overflow and for the
-others; and for each piece in each turn, since a run goes through the nets once for their first sets, in up to 60 rounds and in up
+fails, then how the processor time is spread: for each piece of wirelength, for designs that end without overflow, for the others, and for
+all; and for each piece in each turn, since a run goes through the nets once for their first sets, in up to 60 rounds and in up
 to ten passes. With --instructions `valgrind` counts those of one more run, which no other work on the machine changes, and they are
 told in place of the time, in thousands. Of each it prints the mean and the greatest by kind of design and over all, and whether
 none is above twice the mean. It fails where one design failed."""
@@ -30,6 +30,7 @@ import resource
 import subprocess
 import sys
 import tempfile
+from concurrent.futures import ThreadPoolExecutor
 
 TOP = os.path.dirname(os.path.dirname(os.path.dirname(os.path.abspath(__file__))))
 KINDS = ["plain", "widths", "choked", "one_layer", "one_row", "many_pins", "layers"]
@@ -281,6 +282,17 @@ def built(name):
     return f"{TOP}/crates/{name}/out/{name}"
 
 
+def tried(number, draw, seed, reroute, grouter, counts):
+    """What came of one drawn design: its kind, and what `try_design` answers, or the fault that it has."""
+    kind = KINDS[number % len(KINDS)]
+    design = draw(kind, random.Random(f"{seed} {number}"))
+    with tempfile.TemporaryDirectory() as room:
+        try:
+            return number, kind, try_design(design, room, reroute, grouter, counts)
+        except AssertionError as fault:
+            return number, kind, fault
+
+
 def main(*words):
     draw = RoomyDesign if "--room" in words else Design
     counts = "--instructions" in words
@@ -288,18 +300,14 @@ def main(*words):
     words = [word for word in words if not word.startswith("--")]
     count, seed, reroute, grouter = [*words, *[200, 1, built("reroute"), built("grouter")][len(words):]]
     failed, forced, fitting, overfull, turns = 0, 0, [], [], []
-    with tempfile.TemporaryDirectory() as room:
-        for number in range(int(count)):
-            kind = KINDS[number % len(KINDS)]
-            design = draw(kind, random.Random(f"{seed} {number}"))
-            try:
-                (overflow, pieces), cost, rounds, over = try_design(design, room, reroute, grouter, counts)
-            except AssertionError as fault:
+    # what is counted doesn't depend on what runs beside it, and what is timed does
+    with ThreadPoolExecutor(os.cpu_count() if counts else 1) as pool:
+        for number, kind, found in pool.map(lambda it: tried(it, draw, seed, reroute, grouter, counts), range(int(count))):
+            if isinstance(found, AssertionError):
                 failed += 1
-                print(f"FAILED: design {number}, {kind}: {fault}")
-                for name in os.listdir(room):
-                    os.remove(os.path.join(room, name))
+                print(f"FAILED: design {number}, {kind}: {found}")
                 continue
+            (overflow, pieces), cost, rounds, over = found
             forced += over
             if pieces >= FEWEST_PIECES:
                 rate = 1e6 * cost / pieces
@@ -308,6 +316,7 @@ def main(*words):
     print(f"{int(count) - failed} designs passed, {failed} failed; {forced} nets were forced")
     print_rates(f"{unit} for each piece, without overflow", fitting)
     print_rates(f"{unit} for each piece, with overflow", overfull)
+    print_rates(f"{unit} for each piece", fitting + overfull)
     print_rates(f"{unit} for each piece in each turn", turns)
     return 1 if failed else 0
 
