@@ -13,7 +13,7 @@ pub struct Cell {
     pub class: u8,
     /// One of the edges over them carries more than its capacity.
     pub is_overfull: bool,
-    /// One of them has no capacity, since its edges are choked.
+    /// One of them has no capacity, and a choked edge.
     pub is_closed: bool,
     /// One of them has some capacity, and a choked edge.
     pub is_partly_closed: bool,

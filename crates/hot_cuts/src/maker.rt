@@ -11,8 +11,8 @@ use grid_graph::{Design, Grid};
 use std::alloc::Global;
 use tile_graphs::{TileView, tile_edges};
 
-/// Two price lists of the edges. Each shows something of both, so whoever wants to know the most takes the greater of what they
-/// show.
+/// Two price lists of the edges. Each may show something of both, so whoever wants to know the most takes the greater of what
+/// they show.
 #[derive(Drop)]
 pub struct HotCuts {
     /// For the design bound: how full the fullest edge is at least.

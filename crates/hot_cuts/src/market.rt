@@ -93,7 +93,7 @@ impl<'a> Market<'a> {
         }
     }
 
-    /// The mean prices of the later rounds, of which the greatest is `MAX_PRICE`.
+    /// The mean prices of the later rounds, of which the greatest is `MAX_PRICE` unless all are 0.
     pub fn mean_prices(&self, alloc: Global) -> Result<Vec<u64>, NoMemory>
         ensures { IfOk result (λ prices. length prices.items ≡ length self.now.sums.items) }
     {

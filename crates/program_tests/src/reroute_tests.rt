@@ -6,7 +6,8 @@ use crate::runs::runs_agree;
 use std::test::Fail;
 
 /// Three nets go over two edges with room for one each, so one has an overflow of 2. The shortest way of each is one edge.
-const NONE_GIVEN: &str = "# The second net, which at first goes round, comes back in the descent.
+const NONE_GIVEN: &str =
+    "# All three are in the first batch, and none sees another one: each takes its edge, and no pass finds better.
 2 a.gr new.routes --rounds 0
 CUT
 0
@@ -46,6 +47,13 @@ CUT|a 0;(5,5,1)-(15,5,1);!;b 1;(5,5,1)-(5,15,1);(5,15,1)-(15,15,1);(15,5,1)-(15,
 0
 nets 3;forced 0;routed 0;rerouted 1;rounds 0;overflow 2;wirelength 3;peak 2/1;given 2 5;
 a 0;(5,5,1)-(15,5,1);!;b 1;(5,5,1)-(15,5,1);!;c 2;(5,15,1)-(15,15,1);!;
+
+# Without a pass there is no descent either: the given routes come back.
+3 a.gr a.routes new.routes --rounds 0 --passes 0
+CUT|a 0;(5,5,1)-(15,5,1);!;b 1;(5,5,1)-(5,15,1);(5,15,1)-(15,15,1);(15,5,1)-(15,15,1);!;c 2;(5,15,1)-(15,15,1);!;|
+0
+nets 3;forced 0;routed 0;rerouted 0;rounds 0;overflow 2;wirelength 5;peak 2/1;given 2 5;
+a 0;(5,5,1)-(15,5,1);!;b 1;(5,15,1)-(15,15,1);(5,5,1)-(5,15,1);(15,5,1)-(15,15,1);!;c 2;(5,15,1)-(15,15,1);!;
 
 # The second net has no block, and so it is no net whose set changed.
 3 a.gr a.routes new.routes --rounds 0

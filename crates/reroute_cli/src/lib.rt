@@ -17,11 +17,11 @@
 //! routes and to judge them, on `route_text` and `cert_text` for texts, on `routing_state` and `tree_set` for measures, on `grid_graph`
 //! and `grid_base`, on `judge_laws` for the law that what is written is accepted, on `command_words`, and on `gr_desk`.
 //!
-//! Promised, in the words of `specs/RerouteRuns.antt`, which is the page to begin with: where the status is 0, the new routes join
-//! all nets without a wall, and the judge accepts them; a set that is not that of the given routes lies in its net's ground; where the
-//! given routes lack no net, overflow and wirelength are at most theirs, overflow first; and every number of the report is that of
-//! the new routes or of the given ones. Every other status but 8, want of memory, has its cause, and the new file is created
-//! only when all is computed. How good the new routes are no clause says.
+//! Promised, in the words of `specs/RerouteRuns.antt`, which is the page to begin with: where the status is 0, the new routes
+//! join all nets without a wall, and the judge accepts them; a set that is not that of the given routes lies in its net's
+//! ground; where the given routes lack no net, overflow and wirelength are at most theirs, overflow first; and all numbers of
+//! the report but `rounds` are those of the design, of the new routes and of the given ones. Every other status but 8, want of
+//! memory, has its cause, and the new file is created only when all is computed. How good the new routes are no clause says.
 
 #![tactic(auto)]
 

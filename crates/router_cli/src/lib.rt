@@ -12,11 +12,10 @@
 //! // bound 1/2
 //! ```
 //!
-//! It stands on `command_words` for the words, `command_runs` for the reading of designs and for how every run ends, `judge_cli`
-//! for the commands `measure` and `judge`, `guide_cli` for `guide`, `sharing_phases`, `rounding_pick` and `ripup_repair` for the routes and their prices,
-//! `tree_set` for their measures, `dual_bound` for the bound, `route_text` and `cert_text` for the texts, `route_judge` for the
-//! verdict of a trial, `gr_make` for generated designs, `judge_laws` for the prices that a certificate lists, it and
-//! `made_designs` for the laws by which a trial never fails, and `gr_desk` to read from and write to.
+//! It stands on `command_words` for the words, `command_runs` for reading designs and how runs end, `judge_cli`, `guide_cli`,
+//! `eco_cli` and `climb_cli` for other commands, `sharing_phases`, `rounding_pick` and `ripup_repair` for routes and prices,
+//! `tree_set` for measures, `dual_bound` for the bound, `route_text` and `cert_text` for texts, `route_judge` for a trial's verdict,
+//! `gr_make`, `judge_laws` and `made_designs` for designs that are made and why a trial never fails, `gr_desk` to read and write.
 //!
 //! Promised, in the words of `specs/Runs.antt`, which is the page to begin with: where the status is 0, the routes that were
 //! written join their nets' pins inside the grid, and are the result of a run of phases, picks and rounds of repair; the printed
@@ -24,8 +23,9 @@
 //! routing; every other status but 8, want of memory, has its cause, and but for 7 no file is touched.
 //!
 //! `measure` and `judge` write no file: they say what is measured of routes that are accepted, with the bound of their
-//! certificate, which then holds of every routing; or the first reason against them, with status 1. `guide` writes the guides of
-//! routes that are accepted. `make` writes the design of a seed, and `trial` sees one through and never finds a no.
+//! certificate, which then holds of every routing; or the first reason against them, with status 1. Of routes that are accepted
+//! `guide` writes the guides, `eco` the routes of an edited design, and `climb` another certificate. `make` writes the design of a
+//! seed, and `trial` sees one through and never finds a no.
 
 #![tactic(auto)]
 

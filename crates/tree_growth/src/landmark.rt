@@ -20,7 +20,7 @@ const MOST: u32 = 500_000;
 type Waiting = BucketQueue<(u32, u32)>;
 
 /// The distance of each tile from that of `from`, where a step to the next tile costs the least price of the open edges
-/// that lead there; half a million where that is more. They take the place of the distances before.
+/// that lead there: half a million where that is more, the greatest number where no way leads. They replace the distances before.
 pub fn landmark_distances(
     grid: &Grid,
     prices: &[u16],

@@ -1,4 +1,4 @@
-//! The program `unavoidable IN ROUTES [CERT] NEW`: what congestion no router avoids, shown by prices.
+//! The program `unavoidable IN ROUTES [CERT] NEW`: congestion that no routing on the nets' grounds avoids, shown by prices.
 #![tactic(auto)]
 
 ghost use Rattle.std.specs.Prelude.{◌≡◌, IsErr, IfOk};

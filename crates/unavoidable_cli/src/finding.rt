@@ -4,7 +4,7 @@ use crate::priced_edge::PricedEdge;
 use cert_text::Cert;
 use grid_graph::Design;
 
-/// What no router avoids, and what shows it.
+/// What no routing on the nets' grounds avoids, and what shows it.
 #[derive(Drop)]
 pub struct Finding {
     pub design: Design,

@@ -18,7 +18,7 @@ use judge_cli::Answer;
 use std::alloc::Global;
 use std::thread::Threads;
 
-/// Finds what no router avoids, writes the new certificate, reports what was found, and answers the status.
+/// Finds what no routing on the grounds avoids, writes the new certificate, reports what was found, and answers the status.
 pub(crate) fn show<R: Threads + Sync, D: Desk>(
     rt: &R,
     alloc: Global,
