@@ -1150,6 +1150,10 @@ for each in grouter reroute unavoidable congestion_map; do
 done
 program=$house/grouter
 expect 'the launcher hands on words and status' 3 'refused 3 11 44 capacity' route misspelled.gr a.routes a.cert
+ln -s "$house/grouter" "$room/linked"
+program=$room/linked
+expect 'a link to the launcher starts it' 3 'refused 3 11 44 capacity' route misspelled.gr a.routes a.cert
+rm "$room/linked"
 program=$room/grouter
 
 # ---- what all runs left
