@@ -4,6 +4,7 @@ pub mod Found
 pub mod Chosen
 pub mod DueNets
 pub mod Changes
+pub mod Kept
 pub mod Steps
 pub mod Outcome
 pub mod SamePieces

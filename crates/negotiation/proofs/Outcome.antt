@@ -18,6 +18,7 @@ use Rattle.negotiation.specs.declared.rerouted.Rerouted.{Rerouted}
 use Rattle.negotiation.specs.declared.settings.RerouteSettings.{RerouteSettings}
 use Rattle.negotiation.specs.Changes.{AreChanged}
 use Rattle.negotiation.specs.Given.{AreGiven}
+use Rattle.negotiation.specs.Kept.{AreKeptBut}
 use Rattle.negotiation.specs.Rerouted.{IsNetRerouted, IsRerouted}
 use Rattle.negotiation.specs.Steps.{IsImproved, IsRenewed}
 use Rattle.negotiation.proofs.Changes.{changed_more, no_worse_then}
@@ -40,8 +41,9 @@ pub rerouted : (d : Design) (given : List (List Piece)) (missing : List ℕ) (se
     → IsRenewed d missing first begun → (missing ≡ [] → IsNoWorse (totals_in begun) (totals_in first))
     → IsImproved d begun negotiated → IsImproved d negotiated last
     → r.trees ≡ trees_of last → r.overflow ≡ (totals_in last).overflow → r.wirelength ≡ (totals_in last).wirelength → r.rounds ≤ settings.rounds
+    → (settings.passes ≡ 0 → AreKeptBut missing (trees_of first) (trees_of begun)) → (r.rounds ≡ 0 → trees_of negotiated ≡ trees_of begun) → (settings.passes ≡ 0 → last ≡ negotiated)
     → IsRerouted d given missing settings r
-rerouted d given missing settings first begun negotiated last r are is_first same renewed no_worse one two trees overflow wirelength rounds =
+rerouted d given missing settings first begun negotiated last r are is_first same renewed no_worse one two trees overflow wirelength rounds kept same_rounds same_passes =
     let changed : AreChanged d missing given (trees_of last) =
     subst (λ (xs : List (List Piece)). AreChanged d missing xs (trees_of last)) same
     (changed_more d missing (trees_of first) (trees_of negotiated) (trees_of last)
@@ -60,4 +62,7 @@ rerouted d given missing settings first begun negotiated last r are is_first sam
           let to_given : IsNoWorse (totals_in last) (totals_of d given) = subst (λ (t : Totals). IsNoWorse (totals_in last) t) of_given down in
           rw (overflow, wirelength) to_given;
       rounds = rounds;
+      idle = λ none no_pass.
+          let still : trees_of begun ≡ r.trees = sym (trees ∙ ap trees_of (same_passes no_pass) ∙ same_rounds none) in
+          subst (λ (xs : List (List Piece)). AreKeptBut missing xs r.trees) same (subst (λ (xs : List (List Piece)). AreKeptBut missing (trees_of first) xs) still (kept no_pass));
     }

@@ -10,6 +10,7 @@ pub mod Changes
 pub mod Chosen
 pub mod Due
 pub mod Given
+pub mod Kept
 pub mod Lacking
 pub mod Limits
 pub mod Margins

@@ -1,6 +1,6 @@
 //! Descent: nets are rerouted, and keep their new sets unless these are worse.
 
-ghost use Rattle.std.specs.Prelude.{◌<◌, ◌-◌, ◌/◌, ◌↔◌, ◌⊎◌, IfOk, IsTrue, length};
+ghost use Rattle.std.specs.Prelude.{◌≡◌, ◌<◌, ◌-◌, ◌/◌, ◌↔◌, ◌⊎◌, IfOk, IsTrue, length};
 ghost use Rattle.grid_graph.specs.Grounds.{AreGrounds};
 ghost use Rattle.routing_state.specs.States.{IsStateOf};
 ghost use Rattle.negotiation.specs.Searches.{AreFound, ArePlaces, IsFoundFor};
@@ -39,6 +39,7 @@ pub(crate) fn descend<R: Threads + Sync>(
     requires state { IsStateOf design.now state.old }
     requires order { ArePlaces design.now order.now }
     ensures improved { IfOk result (λ _. IsImproved design.now state.old state.new) }
+    ensures idle { passes ≡ 0 → IfOk result (λ _. state.new ≡ state.old) }
     ensures tools { IfOk result (λ _. AreToolsFor design.now tools.new) }
 {
     let quick = if passes > 0 { QUICK_PASSES } else { 0 };
@@ -84,6 +85,7 @@ pub(crate) fn run_passes<R: Threads + Sync>(
     requires state { IsStateOf design.now state.old }
     requires order { ArePlaces design.now order.now }
     ensures improved { IfOk result (λ _. IsImproved design.now state.old state.new) }
+    ensures idle { passes ≡ 0 → IfOk result (λ _. state.new ≡ state.old) }
     ensures tools { IfOk result (λ _. AreToolsFor design.now tools.new) }
 {
     for _pass in 0..passes {

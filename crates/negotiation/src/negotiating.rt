@@ -42,6 +42,7 @@ pub(crate) fn negotiate<R: Threads + Sync>(
     requires state { IsStateOf design.now state }
     ensures improved { IfOk result (λ r. IsImproved design.now state r.0) }
     ensures rounds { IfOk result (λ r. r.1 ≤ rounds) }
+    ensures idle { IfOk result (λ r. r.1 ≡ 0 → trees_of r.0 ≡ trees_of state) }
     ensures tools { IfOk result (λ _. AreToolsFor design.now tools.new) }
 {
     let mut rerouting = Rerouting::of(alloc, state)?;
