@@ -1,6 +1,7 @@
 pub mod Lacking
 pub mod Findings
 pub mod Found
+pub mod Offers
 pub mod Chosen
 pub mod DueNets
 pub mod Changes

@@ -14,6 +14,7 @@ pub mod Kept
 pub mod Lacking
 pub mod Limits
 pub mod Margins
+pub mod Offers
 pub mod Rerouted
 pub mod RoundPrices
 pub mod Searches

@@ -3,6 +3,7 @@
 ghost use Rattle.std.specs.Prelude.{◌≡◌, ◌<◌, ◌-◌, ◌/◌, ◌↔◌, ◌⊎◌, IfOk, IsTrue, length};
 ghost use Rattle.grid_graph.specs.Grounds.{AreGrounds};
 ghost use Rattle.routing_state.specs.States.{IsStateOf};
+ghost use Rattle.negotiation.specs.Offers.{IsOffered};
 ghost use Rattle.negotiation.specs.Searches.{AreFound, ArePlaces, IsFoundFor};
 ghost use Rattle.negotiation.specs.Steps.{IsImproved};
 ghost use Rattle.negotiation.specs.Tools.{AreToolsFor};
@@ -158,6 +159,7 @@ fn offer_set(design: &Design, state: &mut RoutingState, net: usize, found: Optio
     requires net { net < length design.now.nets }
     requires found { IsFoundFor design.now net found }
     ensures improved { IsImproved design.now state.old state.new }
+    ensures offered { IsOffered design.now net found state.old state.new }
 {
     if let Some(tree) = found {
         state.exchange_unless_worse(design, net, tree);

@@ -5,6 +5,7 @@ ghost use Rattle.grid_graph.specs.Grounds.{AreGrounds};
 ghost use Rattle.routing_state.specs.Best.{best_of, IsReroutingOf};
 ghost use Rattle.routing_state.specs.States.{IsStateOf, trees_of};
 ghost use Rattle.routing_state.specs.Totals.{IsNoWorse};
+ghost use Rattle.negotiation.specs.Offers.{with_all_found, with_found};
 ghost use Rattle.negotiation.specs.Searches.{AreFound, ArePlaces, IsFoundFor};
 ghost use Rattle.negotiation.specs.Steps.{IsImproved, KeepsBest};
 ghost use Rattle.negotiation.specs.Tools.{AreToolsFor};
@@ -157,6 +158,7 @@ fn put_found(
     requires nets { ArePlaces design.now nets.now }
     requires found { AreFound design.now nets.now found.items }
     ensures kept { KeepsBest design.now rerouting.old rerouting.new }
+    ensures sets { trees_of rerouting.new.state ≡ with_all_found (trees_of rerouting.old.state) nets.now found.items }
     ensures tools { AreToolsFor design.now tools.new }
 {
     for i in 0..nets.len() {
@@ -172,6 +174,7 @@ fn put_set(design: &Design, rerouting: &mut Rerouting, net: usize, found: Option
     requires net { net < length design.now.nets }
     requires found { IsFoundFor design.now net found }
     ensures kept { KeepsBest design.now rerouting.old rerouting.new }
+    ensures sets { trees_of rerouting.new.state ≡ with_found (trees_of rerouting.old.state) net found }
 {
     if let Some(tree) = found {
         rerouting.exchange(design, net, tree);
