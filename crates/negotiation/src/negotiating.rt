@@ -1,10 +1,12 @@
 //! Negotiation: nets on overfull edges are rerouted at prices that rise, round after round.
 
-ghost use Rattle.std.specs.Prelude.{◌≡◌, ◌≤◌, ◌<◌, ◌+◌, ◌-◌, ◌^◌, ◌⊎◌, if◌then◌else◌, [], IfOk, length, ltb, min};
+ghost use Rattle.std.specs.Prelude.{◌≡◌, ◌≤◌, ◌<◌, ◌+◌, ◌-◌, ◌^◌, ◌⊎◌, if◌then◌else◌, [], IfOk, length, ltb, min, slice_index, slice_set};
 ghost use Rattle.grid_graph.specs.Grounds.{AreGrounds};
 ghost use Rattle.routing_state.specs.Best.{best_of, IsReroutingOf};
-ghost use Rattle.routing_state.specs.States.{IsStateOf, trees_of};
-ghost use Rattle.routing_state.specs.Totals.{IsNoWorse};
+ghost use Rattle.routing_state.specs.States.{IsStateOf, totals_in, trees_of};
+ghost use Rattle.routing_state.specs.Totals.{IsBetter, IsNoWorse};
+ghost use Rattle.negotiation.specs.Due.{IsOverfullNet};
+ghost use Rattle.negotiation.specs.Margins.{wider};
 ghost use Rattle.negotiation.specs.Offers.{with_all_found, with_found};
 ghost use Rattle.negotiation.specs.Searches.{AreFound, ArePlaces, IsFoundFor};
 ghost use Rattle.negotiation.specs.Steps.{IsImproved, KeepsBest};
@@ -74,6 +76,9 @@ fn keep_best(design: &Design, rerouting: &mut Rerouting, stale: u32) -> u32
     ensures state { rerouting.new.state ≡ rerouting.old.state }
     ensures best { (best_of rerouting.new ≡ trees_of rerouting.old.state) ⊎ (best_of rerouting.new ≡ best_of rerouting.old) }
     ensures no_worse { IsNoWorse rerouting.new.best rerouting.old.best }
+    ensures better { IsBetter (totals_in rerouting.old.state) rerouting.old.best → (best_of rerouting.new ≡ trees_of rerouting.old.state) × (rerouting.new.best ≡ totals_in rerouting.old.state) }
+    ensures same { ¬ IsBetter (totals_in rerouting.old.state) rerouting.old.best → rerouting.new ≡ rerouting.old }
+    ensures stale { result ≡ (if ltb rerouting.new.best.overflow rerouting.old.best.overflow then 0 else min (stale + 1) (2 ^ 32 - 1)) }
 {
     let before = rerouting.best().overflow;
     if rerouting.keep_if_better() {
@@ -187,6 +192,8 @@ fn widen_if_overfull(design: &Design, state: &RoutingState, tools: &mut Tools, n
     requires state { IsStateOf design.now state.now }
     requires net { net < length design.now.nets }
     ensures tools { AreToolsFor design.now tools.new }
+    ensures margin { IsOverfullNet design.now state.now net → tools.new.margins.items ≡ slice_set tools.old.margins.items net (wider (slice_index tools.old.margins.items net)) }
+    ensures same { ¬ IsOverfullNet design.now state.now net → tools.new ≡ tools.old }
 {
     if holds_overfull(design, state, net) {
         tools.widen(design, net);
