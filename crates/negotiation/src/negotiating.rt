@@ -6,6 +6,7 @@ ghost use Rattle.routing_state.specs.Best.{best_of, IsReroutingOf};
 ghost use Rattle.routing_state.specs.States.{IsStateOf, totals_in, trees_of};
 ghost use Rattle.routing_state.specs.Totals.{IsBetter, IsNoWorse};
 ghost use Rattle.negotiation.specs.Due.{IsOverfullNet};
+ghost use Rattle.negotiation.specs.Limits.{patience};
 ghost use Rattle.negotiation.specs.Margins.{wider};
 ghost use Rattle.negotiation.specs.Offers.{with_all_found, with_found};
 ghost use Rattle.negotiation.specs.Searches.{AreFound, ArePlaces, IsFoundFor};
@@ -45,6 +46,7 @@ pub(crate) fn negotiate<R: Threads + Sync>(
     requires state { IsStateOf design.now state }
     ensures improved { IfOk result (λ r. IsImproved design.now state r.0) }
     ensures rounds { IfOk result (λ r. r.1 ≤ rounds) }
+    ensures enough { IfOk result (λ r. r.1 < rounds → (patience ≤ r.1) ⊎ ((totals_in r.0).overflow ≡ 0)) }
     ensures idle { IfOk result (λ r. r.1 ≡ 0 → trees_of r.0 ≡ trees_of state) }
     ensures tools { IfOk result (λ _. AreToolsFor design.now tools.new) }
 {
@@ -78,6 +80,7 @@ fn keep_best(design: &Design, rerouting: &mut Rerouting, stale: u32) -> u32
     ensures no_worse { IsNoWorse rerouting.new.best rerouting.old.best }
     ensures better { IsBetter (totals_in rerouting.old.state) rerouting.old.best → (best_of rerouting.new ≡ trees_of rerouting.old.state) × (rerouting.new.best ≡ totals_in rerouting.old.state) }
     ensures same { ¬ IsBetter (totals_in rerouting.old.state) rerouting.old.best → rerouting.new ≡ rerouting.old }
+    ensures low { rerouting.new.best.overflow ≤ (totals_in rerouting.new.state).overflow }
     ensures stale { result ≡ (if ltb rerouting.new.best.overflow rerouting.old.best.overflow then 0 else min (stale + 1) (2 ^ 32 - 1)) }
 {
     let before = rerouting.best().overflow;
