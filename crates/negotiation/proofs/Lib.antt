@@ -1,9 +1,11 @@
 pub mod Lacking
 pub mod Findings
 pub mod Found
+pub mod Offers
 pub mod Chosen
 pub mod DueNets
 pub mod Changes
+pub mod Kept
 pub mod Steps
 pub mod Outcome
 pub mod SamePieces

@@ -1,5 +1,5 @@
 -- What all steps together come to.
-use Rattle.std.proofs.Common.{◌≡◌, ℕ, ◌≤◌, inl, inr, List, [], length, sym, ◌∙◌, ap, subst}
+use Rattle.std.proofs.Common.{◌≡◌, ◌<◌, ◌⊎◌, ℕ, ◌≤◌, arith, inl, inr, List, [], length, sym, ◌∙◌, ap, subst}
 use Rattle.std.proofs.lemmas.List.Elements.{All-contains}
 use Rattle.grid_base.specs.declared.piece.Piece.{Piece}
 use Rattle.grid_base.specs.Lists.{At}
@@ -18,6 +18,8 @@ use Rattle.negotiation.specs.declared.rerouted.Rerouted.{Rerouted}
 use Rattle.negotiation.specs.declared.settings.RerouteSettings.{RerouteSettings}
 use Rattle.negotiation.specs.Changes.{AreChanged}
 use Rattle.negotiation.specs.Given.{AreGiven}
+use Rattle.negotiation.specs.Limits.{patience}
+use Rattle.negotiation.specs.Kept.{AreKeptBut}
 use Rattle.negotiation.specs.Rerouted.{IsNetRerouted, IsRerouted}
 use Rattle.negotiation.specs.Steps.{IsImproved, IsRenewed}
 use Rattle.negotiation.proofs.Changes.{changed_more, no_worse_then}
@@ -40,8 +42,10 @@ pub rerouted : (d : Design) (given : List (List Piece)) (missing : List ℕ) (se
     → IsRenewed d missing first begun → (missing ≡ [] → IsNoWorse (totals_in begun) (totals_in first))
     → IsImproved d begun negotiated → IsImproved d negotiated last
     → r.trees ≡ trees_of last → r.overflow ≡ (totals_in last).overflow → r.wirelength ≡ (totals_in last).wirelength → r.rounds ≤ settings.rounds
+    → (settings.passes ≡ 0 → AreKeptBut missing (trees_of first) (trees_of begun)) → (r.rounds ≡ 0 → trees_of negotiated ≡ trees_of begun) → (settings.passes ≡ 0 → last ≡ negotiated)
+    → (r.rounds < settings.rounds → (patience ≤ r.rounds) ⊎ ((totals_in negotiated).overflow ≡ 0))
     → IsRerouted d given missing settings r
-rerouted d given missing settings first begun negotiated last r are is_first same renewed no_worse one two trees overflow wirelength rounds =
+rerouted d given missing settings first begun negotiated last r are is_first same renewed no_worse one two trees overflow wirelength rounds kept same_rounds same_passes enough =
     let changed : AreChanged d missing given (trees_of last) =
     subst (λ (xs : List (List Piece)). AreChanged d missing xs (trees_of last)) same
     (changed_more d missing (trees_of first) (trees_of negotiated) (trees_of last)
@@ -60,4 +64,12 @@ rerouted d given missing settings first begun negotiated last r are is_first sam
           let to_given : IsNoWorse (totals_in last) (totals_of d given) = subst (λ (t : Totals). IsNoWorse (totals_in last) t) of_given down in
           rw (overflow, wirelength) to_given;
       rounds = rounds;
+      enough = λ few.
+          elim (enough few) as (λ _. (patience ≤ r.rounds) ⊎ (r.overflow ≡ 0)) [
+            | inl long ↦ inl long
+            | inr none ↦ inr (elim two.no_worse as (λ _. r.overflow ≡ 0) [ inl less ↦ absurd (omega (arith, less, none)) | inr same_too ↦ omega (arith, overflow, same_too.0, none) ])
+          ];
+      idle = λ none no_pass.
+          let still : trees_of begun ≡ r.trees = sym (trees ∙ ap trees_of (same_passes no_pass) ∙ same_rounds none) in
+          subst (λ (xs : List (List Piece)). AreKeptBut missing xs r.trees) same (subst (λ (xs : List (List Piece)). AreKeptBut missing (trees_of first) xs) still (kept no_pass));
     }

@@ -10,9 +10,11 @@ pub mod Changes
 pub mod Chosen
 pub mod Due
 pub mod Given
+pub mod Kept
 pub mod Lacking
 pub mod Limits
 pub mod Margins
+pub mod Offers
 pub mod Rerouted
 pub mod RoundPrices
 pub mod Searches

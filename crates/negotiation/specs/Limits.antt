@@ -1,4 +1,4 @@
--- The limits of settings.
+-- The limits of settings and of rounds.
 use Rattle.std.specs.Prelude.{ℕ}
 
 -- the most rounds of negotiation, passes of descent and workers
@@ -10,3 +10,7 @@ max_passes = 16
 
 abbrev pub max_workers : ℕ
 max_workers = 8
+
+-- so many rounds in a row without less overflow are the last ones
+abbrev pub patience : ℕ
+patience = 30

@@ -1,5 +1,5 @@
 -- What rerouting comes to.
-use Rattle.std.specs.Prelude.{ℕ, ◌≡◌, ◌≤◌, List, [], length}
+use Rattle.std.specs.Prelude.{ℕ, ◌≡◌, ◌<◌, ◌≤◌, ◌⊎◌, List, [], length}
 use Rattle.grid_base.specs.declared.piece.Piece.{Piece}
 use Rattle.grid_base.specs.Lists.{At}
 use Rattle.grid_base.specs.Walks.{JoinsList}
@@ -12,6 +12,8 @@ use Rattle.tree_set.specs.Measures as measures
 use Rattle.tree_set.specs.Routings.{KeepsTo}
 use Rattle.routing_state.specs.Totals.{IsNoWorse, totals_of}
 use Rattle.negotiation.specs.Changes.{IsKeptOrRoute}
+use Rattle.negotiation.specs.Kept.{AreKeptBut}
+use Rattle.negotiation.specs.Limits.{patience}
 use Rattle.negotiation.specs.declared.rerouted.Rerouted.{Rerouted}
 use Rattle.negotiation.specs.declared.settings.RerouteSettings.{RerouteSettings}
 
@@ -23,7 +25,8 @@ pub record IsNetRerouted (d : Design) (given : List (List Piece)) (missing : Lis
   pub from : IsKeptOrRoute d missing given k n tree
 
 -- one such set per net, with their overflow and their wirelength; where each net was given a set, they are no worse than the
--- given ones; and there were no more rounds than were asked for
+-- given ones; there were no more rounds than were asked for, and fewer only where patience had ended or no overflow is left; and
+-- where there were none, and no passes were asked for, each net that was given a set has that very set
 pub record IsRerouted (d : Design) (given : List (List Piece)) (missing : List ℕ) (s : RerouteSettings) (r : Rerouted) : Type 0 where
   pub long : length r.trees ≡ length d.nets
   pub each : (k : ℕ) (n : NetSpec) (tree : List Piece) → At d.nets k n → At r.trees k tree → IsNetRerouted d given missing k n tree
@@ -31,3 +34,5 @@ pub record IsRerouted (d : Design) (given : List (List Piece)) (missing : List �
   pub wirelength : r.wirelength ≡ measures.wirelength r.trees
   pub no_worse : missing ≡ [] → IsNoWorse (record { overflow = r.overflow; wirelength = r.wirelength }) (totals_of d given)
   pub rounds : r.rounds ≤ s.rounds
+  pub enough : r.rounds < s.rounds → (patience ≤ r.rounds) ⊎ (r.overflow ≡ 0)
+  pub idle : r.rounds ≡ 0 → s.passes ≡ 0 → AreKeptBut missing given r.trees

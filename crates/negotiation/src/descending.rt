@@ -1,8 +1,9 @@
 //! Descent: nets are rerouted, and keep their new sets unless these are worse.
 
-ghost use Rattle.std.specs.Prelude.{◌<◌, ◌-◌, ◌/◌, ◌↔◌, ◌⊎◌, IfOk, IsTrue, length};
+ghost use Rattle.std.specs.Prelude.{◌≡◌, ◌<◌, ◌-◌, ◌/◌, ◌↔◌, ◌⊎◌, IfOk, IsTrue, length};
 ghost use Rattle.grid_graph.specs.Grounds.{AreGrounds};
 ghost use Rattle.routing_state.specs.States.{IsStateOf};
+ghost use Rattle.negotiation.specs.Offers.{IsOffered};
 ghost use Rattle.negotiation.specs.Searches.{AreFound, ArePlaces, IsFoundFor};
 ghost use Rattle.negotiation.specs.Steps.{IsImproved};
 ghost use Rattle.negotiation.specs.Tools.{AreToolsFor};
@@ -39,6 +40,7 @@ pub(crate) fn descend<R: Threads + Sync>(
     requires state { IsStateOf design.now state.old }
     requires order { ArePlaces design.now order.now }
     ensures improved { IfOk result (λ _. IsImproved design.now state.old state.new) }
+    ensures idle { passes ≡ 0 → IfOk result (λ _. state.new ≡ state.old) }
     ensures tools { IfOk result (λ _. AreToolsFor design.now tools.new) }
 {
     let quick = if passes > 0 { QUICK_PASSES } else { 0 };
@@ -84,6 +86,7 @@ pub(crate) fn run_passes<R: Threads + Sync>(
     requires state { IsStateOf design.now state.old }
     requires order { ArePlaces design.now order.now }
     ensures improved { IfOk result (λ _. IsImproved design.now state.old state.new) }
+    ensures idle { passes ≡ 0 → IfOk result (λ _. state.new ≡ state.old) }
     ensures tools { IfOk result (λ _. AreToolsFor design.now tools.new) }
 {
     for _pass in 0..passes {
@@ -156,6 +159,7 @@ fn offer_set(design: &Design, state: &mut RoutingState, net: usize, found: Optio
     requires net { net < length design.now.nets }
     requires found { IsFoundFor design.now net found }
     ensures improved { IsImproved design.now state.old state.new }
+    ensures offered { IsOffered design.now net found state.old state.new }
 {
     if let Some(tree) = found {
         state.exchange_unless_worse(design, net, tree);

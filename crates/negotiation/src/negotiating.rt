@@ -1,10 +1,14 @@
 //! Negotiation: nets on overfull edges are rerouted at prices that rise, round after round.
 
-ghost use Rattle.std.specs.Prelude.{◌≡◌, ◌≤◌, ◌<◌, ◌+◌, ◌-◌, ◌^◌, ◌⊎◌, if◌then◌else◌, [], IfOk, length, ltb, min};
+ghost use Rattle.std.specs.Prelude.{◌≡◌, ◌≤◌, ◌<◌, ◌+◌, ◌-◌, ◌^◌, ◌⊎◌, if◌then◌else◌, [], IfOk, length, ltb, min, slice_index, slice_set};
 ghost use Rattle.grid_graph.specs.Grounds.{AreGrounds};
 ghost use Rattle.routing_state.specs.Best.{best_of, IsReroutingOf};
-ghost use Rattle.routing_state.specs.States.{IsStateOf, trees_of};
-ghost use Rattle.routing_state.specs.Totals.{IsNoWorse};
+ghost use Rattle.routing_state.specs.States.{IsStateOf, totals_in, trees_of};
+ghost use Rattle.routing_state.specs.Totals.{IsBetter, IsNoWorse};
+ghost use Rattle.negotiation.specs.Due.{IsOverfullNet};
+ghost use Rattle.negotiation.specs.Limits.{patience};
+ghost use Rattle.negotiation.specs.Margins.{wider};
+ghost use Rattle.negotiation.specs.Offers.{with_all_found, with_found};
 ghost use Rattle.negotiation.specs.Searches.{AreFound, ArePlaces, IsFoundFor};
 ghost use Rattle.negotiation.specs.Steps.{IsImproved, KeepsBest};
 ghost use Rattle.negotiation.specs.Tools.{AreToolsFor};
@@ -42,6 +46,8 @@ pub(crate) fn negotiate<R: Threads + Sync>(
     requires state { IsStateOf design.now state }
     ensures improved { IfOk result (λ r. IsImproved design.now state r.0) }
     ensures rounds { IfOk result (λ r. r.1 ≤ rounds) }
+    ensures enough { IfOk result (λ r. r.1 < rounds → (patience ≤ r.1) ⊎ ((totals_in r.0).overflow ≡ 0)) }
+    ensures idle { IfOk result (λ r. r.1 ≡ 0 → trees_of r.0 ≡ trees_of state) }
     ensures tools { IfOk result (λ _. AreToolsFor design.now tools.new) }
 {
     let mut rerouting = Rerouting::of(alloc, state)?;
@@ -72,6 +78,10 @@ fn keep_best(design: &Design, rerouting: &mut Rerouting, stale: u32) -> u32
     ensures state { rerouting.new.state ≡ rerouting.old.state }
     ensures best { (best_of rerouting.new ≡ trees_of rerouting.old.state) ⊎ (best_of rerouting.new ≡ best_of rerouting.old) }
     ensures no_worse { IsNoWorse rerouting.new.best rerouting.old.best }
+    ensures better { IsBetter (totals_in rerouting.old.state) rerouting.old.best → (best_of rerouting.new ≡ trees_of rerouting.old.state) × (rerouting.new.best ≡ totals_in rerouting.old.state) }
+    ensures same { ¬ IsBetter (totals_in rerouting.old.state) rerouting.old.best → rerouting.new ≡ rerouting.old }
+    ensures low { rerouting.new.best.overflow ≤ (totals_in rerouting.new.state).overflow }
+    ensures stale { result ≡ (if ltb rerouting.new.best.overflow rerouting.old.best.overflow then 0 else min (stale + 1) (2 ^ 32 - 1)) }
 {
     let before = rerouting.best().overflow;
     if rerouting.keep_if_better() {
@@ -156,6 +166,7 @@ fn put_found(
     requires nets { ArePlaces design.now nets.now }
     requires found { AreFound design.now nets.now found.items }
     ensures kept { KeepsBest design.now rerouting.old rerouting.new }
+    ensures sets { trees_of rerouting.new.state ≡ with_all_found (trees_of rerouting.old.state) nets.now found.items }
     ensures tools { AreToolsFor design.now tools.new }
 {
     for i in 0..nets.len() {
@@ -171,6 +182,7 @@ fn put_set(design: &Design, rerouting: &mut Rerouting, net: usize, found: Option
     requires net { net < length design.now.nets }
     requires found { IsFoundFor design.now net found }
     ensures kept { KeepsBest design.now rerouting.old rerouting.new }
+    ensures sets { trees_of rerouting.new.state ≡ with_found (trees_of rerouting.old.state) net found }
 {
     if let Some(tree) = found {
         rerouting.exchange(design, net, tree);
@@ -183,6 +195,8 @@ fn widen_if_overfull(design: &Design, state: &RoutingState, tools: &mut Tools, n
     requires state { IsStateOf design.now state.now }
     requires net { net < length design.now.nets }
     ensures tools { AreToolsFor design.now tools.new }
+    ensures margin { IsOverfullNet design.now state.now net → tools.new.margins.items ≡ slice_set tools.old.margins.items net (wider (slice_index tools.old.margins.items net)) }
+    ensures same { ¬ IsOverfullNet design.now state.now net → tools.new ≡ tools.old }
 {
     if holds_overfull(design, state, net) {
         tools.widen(design, net);

@@ -1,10 +1,11 @@
 //! Rerouting as a whole.
 
-ghost use Rattle.std.specs.Prelude.{◌≡◌, [], IfOk};
+ghost use Rattle.std.specs.Prelude.{◌≡◌, ◌≢◌, ◌⊎◌, [], IfOk};
 ghost use Rattle.grid_graph.specs.Grounds.{AreGrounds};
 ghost use Rattle.routing_state.specs.States.{IsStateOf, totals_in, trees_of};
 ghost use Rattle.routing_state.specs.Totals.{IsNoWorse};
 ghost use Rattle.negotiation.specs.Given.{AreGiven};
+ghost use Rattle.negotiation.specs.Kept.{AreKeptBut};
 ghost use Rattle.negotiation.specs.Rerouted.{IsRerouted};
 ghost use Rattle.negotiation.specs.Searches.{ArePlaces};
 ghost use Rattle.negotiation.specs.Settings.{AreRerouteSettings};
@@ -103,6 +104,7 @@ fn begin<R: Threads + Sync>(
     requires order { ArePlaces design.now order.now }
     requires missing { ArePlaces design.now missing.now }
     ensures renewed { IfOk result (λ _. IsRenewed design.now missing.now state.old state.new) }
+    ensures kept { IfOk result (λ _. (passes ≡ 0) ⊎ (missing.now ≢ []) → AreKeptBut missing.now (trees_of state.old) (trees_of state.new)) }
     ensures no_worse { IfOk result (λ _. missing.now ≡ [] → IsNoWorse (totals_in state.new) (totals_in state.old)) }
     ensures tools { IfOk result (λ _. AreToolsFor design.now tools.new) }
 {

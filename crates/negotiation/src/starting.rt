@@ -1,11 +1,12 @@
 //! The start: nets without a set get one.
 
-ghost use Rattle.std.specs.Prelude.{◌<◌, ◌∷◌, [], IfOk, length};
+ghost use Rattle.std.specs.Prelude.{◌≡◌, ◌<◌, ◌∷◌, [], IfOk, length, slice_set};
 ghost use Rattle.grid_base.specs.Lists.{At};
 ghost use Rattle.grid_graph.specs.declared.net_spec.NetSpec.{NetSpec};
 ghost use Rattle.grid_graph.specs.Grounds.{AreGrounds};
 ghost use Rattle.tree_set.specs.Routings.{IsRoute};
-ghost use Rattle.routing_state.specs.States.{IsStateOf};
+ghost use Rattle.routing_state.specs.States.{IsStateOf, trees_of};
+ghost use Rattle.negotiation.specs.Kept.{AreKeptBut};
 ghost use Rattle.negotiation.specs.Searches.{AreFound, ArePlaces, IsFoundFor};
 ghost use Rattle.negotiation.specs.Steps.{IsRenewed};
 ghost use Rattle.negotiation.specs.Tools.{AreToolsFor};
@@ -37,6 +38,7 @@ pub(crate) fn start<R: Threads + Sync>(
     requires state { IsStateOf design.now state.old }
     requires missing { ArePlaces design.now missing.now }
     ensures renewed { IfOk result (λ _. IsRenewed design.now missing.now state.old state.new) }
+    ensures kept { IfOk result (λ _. AreKeptBut missing.now (trees_of state.old) (trees_of state.new)) }
     ensures tools { IfOk result (λ _. AreToolsFor design.now tools.new) }
 {
     let order = short_first(alloc, tools.extents(), missing)?;
@@ -66,6 +68,7 @@ fn put_routes(
     requires nets { ArePlaces design.now nets.now }
     requires found { AreFound design.now nets.now found.items }
     ensures renewed { IfOk result (λ _. IsRenewed design.now nets.now state.old state.new) }
+    ensures kept { IfOk result (λ _. AreKeptBut nets.now (trees_of state.old) (trees_of state.new)) }
 {
     for i in 0..nets.len() {
         let net = nets[i] as usize;
@@ -100,6 +103,7 @@ fn put_route(design: &Design, state: &mut RoutingState, net: usize, tree: Tree)
     requires net { net < length design.now.nets }
     requires route { (n : NetSpec) → At design.now.nets net n → IsRoute design.now.grid n tree }
     ensures renewed { IsRenewed design.now (net ∷ []) state.old state.new }
+    ensures set { trees_of state.new ≡ slice_set (trees_of state.old) net tree }
 {
     state.exchange(design, net, tree);
 }

@@ -1,3 +1,4 @@
+use Rattle.std.proofs.Common.{refl, rules}
 use Rattle.grid_base.specs.Lists.{At}
 use Rattle.grid_graph.specs.declared.net_spec.NetSpec.{NetSpec}
 use Rattle.tree_set.specs.Routings.{IsRoute}
@@ -18,7 +19,11 @@ returns-in-Some c =
     record {
       improved = improved_by d c.args.state.now c.exchange_unless_worse.new.self c.args.net c.in-Some.tree c.exchange_unless_worse.result route
           c.exchange_unless_worse.ensures.state c.exchange_unless_worse.ensures.got c.exchange_unless_worse.ensures.kept c.exchange_unless_worse.ensures.no_worse;
+      offered = record {
+        taken = rw c.in-Some.is (λ fine. c.exchange_unless_worse.ensures.got (c.exchange_unless_worse.ensures.decided.1 fine));
+        refused = rw c.in-Some.is (λ worse. c.exchange_unless_worse.ensures.kept (λ got. worse (c.exchange_unless_worse.ensures.decided.0 got)));
+      };
     }
 
 pub returns-in_default : goal.returns-in_default
-returns-in_default c = record { improved = improved_itself c.args.design.now c.args.state.now c.requires.state }
+returns-in_default c = record { improved = improved_itself c.args.design.now c.args.state.now c.requires.state; offered = record { taken = λ fine. search rules; refused = λ worse. refl } }

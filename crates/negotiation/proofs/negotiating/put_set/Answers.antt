@@ -1,3 +1,4 @@
+use Rattle.std.proofs.Common.{rules}
 use Rattle.grid_base.specs.Lists.{At}
 use Rattle.grid_graph.specs.declared.net_spec.NetSpec.{NetSpec}
 use Rattle.tree_set.specs.Routings.{IsRoute}
@@ -18,7 +19,8 @@ returns-in-Some c =
     record {
       kept = kept_put d c.args.rerouting.now c.exchange.new.self c.args.net c.in-Some.tree route
           c.exchange.ensures.of c.exchange.ensures.trees c.exchange.ensures.best c.exchange.ensures.totals;
+      sets = rw c.in-Some.is c.exchange.ensures.trees;
     }
 
 pub returns-in_default : goal.returns-in_default
-returns-in_default c = record { kept = kept_itself c.args.design.now c.args.rerouting.now c.requires.of }
+returns-in_default c = record { kept = kept_itself c.args.design.now c.args.rerouting.now c.requires.of; sets = search rules }

@@ -8,4 +8,5 @@ exchange-requires-clause-set c = found_no_wall c.args.design.now c.args.net c.ar
 pub returns : goal.returns
 returns c = record {
   renewed = renewed_at c.args.design.now c.args.state.now c.exchange.new.self c.args.net c.args.tree c.requires.route c.exchange.ensures.state c.exchange.ensures.trees;
+  set = c.exchange.ensures.trees;
 }

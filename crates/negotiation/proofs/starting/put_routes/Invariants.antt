@@ -1,4 +1,6 @@
 use Rattle.std.proofs.Common.{take}
+use Rattle.routing_state.specs.States.{trees_of}
+use Rattle.negotiation.specs.Kept.{AreKeptBut}
 use Rattle.negotiation.specs.Searches.{AreFound}
 use Rattle.negotiation.specs.Steps.{IsRenewed}
 use Rattle.negotiation.proofs.starting.put_routes.Given as goal
@@ -7,5 +9,6 @@ use Rattle.negotiation.proofs.starting.put_routes.Given as goal
 abbrev pub invariant-loop-i : goal.invariant-loop-i
 invariant-loop-i l = record {
   renewed : IsRenewed l.design (take l.i l.nets) l.initial.state l.state;
+  kept : AreKeptBut (take l.i l.nets) (trees_of l.initial.state) (trees_of l.state);
   found : AreFound l.design l.nets l.found.items;
 }

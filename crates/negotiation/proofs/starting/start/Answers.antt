@@ -1,13 +1,16 @@
-use Rattle.std.proofs.Common.{◌≡◌, ◌≤◌, ◌<◌, ◌+◌, ◌-◌, ◌++◌, ℕ, List, length, take, drop, sym, ◌∙◌, ap, subst, arith}
+use Rattle.std.proofs.Common.{◌≡◌, ◌≤◌, ◌<◌, ◌+◌, ◌-◌, ◌++◌, ℕ, List, [], length, take, drop, refl, sym, ◌∙◌, ap, subst, arith}
 use Rattle.std.specs.List.{slice_range}
 use Rattle.std.proofs.Math.Seq.{take-add}
 use Rattle.std.proofs.lemmas.List.{take_all}
 use Rattle.std.proofs.lemmas.List.Elements.{All-drop, All-take}
 use Rattle.std.specs.List.Sorted.{IsPermutation}
-use Rattle.std.proofs.lemmas.List.Sorted.{All-permutation, Contains-permutation}
+use Rattle.std.proofs.lemmas.List.Sorted.{All-permutation, Contains-permutation, IsPermutation-sym}
 use Rattle.grid_graph.specs.declared.design.Design.{Design}
+use Rattle.routing_state.specs.States.{trees_of}
+use Rattle.negotiation.specs.Kept.{AreKeptBut}
 use Rattle.negotiation.specs.Searches.{ArePlaces}
 use Rattle.negotiation.specs.Steps.{IsRenewed}
+use Rattle.negotiation.proofs.Kept.{kept_both, kept_same, kept_within}
 use Rattle.negotiation.proofs.Steps.{renewed_fewer, renewed_none, renewed_then}
 use Rattle.negotiation.proofs.starting.start.Goals as goal
 
@@ -18,7 +21,7 @@ front_more xs at end order =
     sym (take-add at (end - at) xs) ∙ ap (λ (k : ℕ). take k xs) both
 
 pub batches-init : goal.batches-init
-batches-init g c = record { renewed = renewed_none c.args.design.now c.args.state.now c.requires.state; tools = c.requires.tools; within = omega arith }
+batches-init g c = record { renewed = renewed_none c.args.design.now c.args.state.now c.requires.state; kept = kept_same [] (trees_of c.args.state.now) (trees_of c.args.state.now) refl; tools = c.requires.tools; within = omega arith }
 
 -- the nets of the order are those at the missing places
 ordered_places : (d : Design) (missing order : List ℕ) (at end : ℕ) → IsPermutation missing order → ArePlaces d missing → ArePlaces d (take (end - at) (drop at order))
@@ -48,6 +51,9 @@ batches-preserved g c =
     record {
       renewed = subst (λ (ks : List ℕ). IsRenewed d ks c.args.state.now c.put_routes.new.state) (front_more order at end low)
           (renewed_then d (take at order) (slice_range order at end) c.args.state.now c.batches.state c.put_routes.new.state c.batches.invariant.renewed batch);
+      kept = subst (λ (ks : List ℕ). AreKeptBut ks (trees_of c.args.state.now) (trees_of c.put_routes.new.state)) (front_more order at end low)
+          (kept_both (take at order) (slice_range order at end) (trees_of c.args.state.now) (trees_of c.batches.state) (trees_of c.put_routes.new.state) c.batches.invariant.kept
+          (subst (λ (xs : List ℕ). AreKeptBut (slice_range xs at end) (trees_of c.batches.state) (trees_of c.put_routes.new.state)) c.deref.ensures.value c.in_ok-put_routes.ensures.kept));
       tools = c.search.ensures.tools;
       within = omega (arith, c.min-end.ensures, c.in_ok-order.order.ok.0);
     }
@@ -59,3 +65,11 @@ returns-clause-renewed g c =
     let over : length order ≤ c.batches.at = omega (arith, c.batches-test.false, c.in_ok-order.order.ok.0) in
     renewed_fewer d order c.args.missing.now c.args.state.now c.batches.state (λ k. Contains-permutation c.args.missing.now order k c.in_ok-order.ensures.same)
     (subst (λ (ks : List ℕ). IsRenewed d ks c.args.state.now c.batches.state) (take_all c.batches.at order over) c.batches.invariant.renewed)
+
+pub returns-clause-kept : goal.returns-clause-kept
+returns-clause-kept g c =
+    let order : List ℕ = c.in_ok-order.order.items in
+    let missing : List ℕ = c.args.missing.now in
+    let over : length order ≤ c.batches.at = omega (arith, c.batches-test.false, c.in_ok-order.order.ok.0) in
+    kept_within order missing (trees_of c.args.state.now) (trees_of c.batches.state) (λ k. Contains-permutation order missing k (IsPermutation-sym missing order c.in_ok-order.ensures.same))
+    (subst (λ (ks : List ℕ). AreKeptBut ks (trees_of c.args.state.now) (trees_of c.batches.state)) (take_all c.batches.at order over) c.batches.invariant.kept)
