@@ -25,7 +25,7 @@ pub record IsNetRerouted (d : Design) (given : List (List Piece)) (missing : Lis
   pub from : IsKeptOrRoute d missing given k n tree
 
 -- one such set per net, with their overflow and their wirelength; where each net was given a set, they are no worse than the
--- given ones; there were no more rounds than were asked for, and fewer only where patience had ended or no overflow is left; and
+-- given ones; there were no more rounds than were asked for, and fewer only where at least 30 ran or no overflow is left; and
 -- where there were none, and no passes were asked for, each net that was given a set has that very set
 pub record IsRerouted (d : Design) (given : List (List Piece)) (missing : List ℕ) (s : RerouteSettings) (r : Rerouted) : Type 0 where
   pub long : length r.trees ≡ length d.nets
