@@ -1,9 +1,13 @@
 """Runs a program, and says what it said, how long it took and how much memory."""
 import os
+import re
 import subprocess
+import threading
 import time
 from dataclasses import dataclass
 
+# seconds between two looks at the memory of a run
+APART = 0.02
 TOP = os.path.dirname(os.path.dirname(os.path.abspath(__file__)))
 
 
@@ -14,7 +18,8 @@ def built(name):
 
 @dataclass
 class Run:
-    """One run: its status, what it printed, seconds on the clock and of the processor (in user mode, and in all), memory in MiB."""
+    """One run: its status, what it printed, seconds on the clock and of the processor (in user mode, and in all), and its memory in MiB,
+    the greatest that was seen by looks a fiftieth of a second apart."""
     status: int
     said: str
     clock: float
@@ -27,21 +32,44 @@ class Run:
         return dict(line.split(' ', 1) for line in self.said.splitlines() if ' ' in line)
 
 
+class Peak(threading.Thread):
+    """Looks at the memory of a process until it is told that the process has ended."""
+
+    def __init__(self, process):
+        super().__init__(daemon=True)
+        self.status, self.ended, self.kib = f'/proc/{process}/status', threading.Event(), 0
+
+    def run(self):
+        while not self.ended.wait(APART):
+            with open(self.status, encoding='ascii') as file:
+                found = re.search(r'VmHWM:\s+(\d+)', file.read())
+            self.kib = int(found[1]) if found else self.kib
+
+    def mebibytes(self):
+        """The greatest that was seen, once the process has ended; before that it may still be read."""
+        self.ended.set()
+        self.join()
+        return self.kib / 1024
+
+
 def run(*words, parts=()):
     """Runs a program, to whose standard input the parts go. Lists of each size from 128 KiB on have pages of their own, so that memory
     is what is in use."""
     begin = time.monotonic()
     child = subprocess.Popen(words, stdin=subprocess.PIPE if parts else subprocess.DEVNULL, stdout=subprocess.PIPE,
                              env=dict(os.environ, MALLOC_MMAP_THRESHOLD_='131072'))
+    peak = Peak(child.pid)
+    peak.start()
     for part in parts:
         child.stdin.write(part)
     if parts:
         child.stdin.close()
     said = child.stdout.read().decode()
+    memory = peak.mebibytes()
     _, status, used = os.wait4(child.pid, 0)
     clock = time.monotonic() - begin
     child.returncode = os.waitstatus_to_exitcode(status)
-    return Run(child.returncode, said, clock, used.ru_utime, used.ru_utime + used.ru_stime, used.ru_maxrss / 1024)
+    return Run(child.returncode, said, clock, used.ru_utime, used.ru_utime + used.ru_stime, memory)
 
 
 def accepted(*words):
