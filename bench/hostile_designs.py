@@ -55,6 +55,7 @@ def main():
     with tempfile.TemporaryDirectory() as room:
         print('| Design | Forced | `route`, one phase | `judge` | `unavoidable` |\n|---|---|---|---|---|')
         changed = os.path.join(room, 'changed.gr')
+        # the design as it is comes last, so its routes and certificate stay for the second table
         for name, change in [*CHANGES.items()][::-1]:
             if change:
                 script('change_design', asked.design, changed, *change)
