@@ -11,7 +11,6 @@ ghost use Rattle.grid_graph.specs.Weighed.{IsAllowed};
 ghost use Rattle.edge_prices.specs.Limits.{max_price};
 ghost use Rattle.edge_prices.specs.Weights.{AreEdgePrices};
 ghost use Rattle.shortest_paths.specs.LabelWords.{labels_size, masks_of};
-ghost use Rattle.steiner_tables.specs.Masks as masks;
 ghost use Rattle.steiner_tables.specs.Masks.{rooted_masks, few_terminals};
 ghost use Rattle.lower_bound.specs.Costs.{costed};
 ghost use Rattle.lower_bound.specs.HalfWords.{IsHalf};
@@ -22,7 +21,7 @@ ghost use Rattle.bound_climb.specs.ProofParts.{IsLeastTable, AreHalfMoats};
 use crate::label_rows::label_rows;
 use crate::net_proof::NetProof;
 use crate::tabled::{are_many, tabled};
-use brought_bounds::{Moats, Radii, Rows, Table};
+use brought_bounds::{Moats, Radii, Rows, Table, all_but_root};
 use edge_prices::Costing;
 use grid_base::{NoMemory, Vertex};
 use grid_graph::{Grid, Ground, NetSpec, Weights};
@@ -108,15 +107,6 @@ fn least_table<W: Weights>(
     Ok(Table {
         rows: Rows::of(rows),
     })
-}
-
-/// The mask of all terminals but the last one.
-fn all_but_root(terminals: &[Vertex]) -> u32
-    requires some { 1 ≤ length terminals.now }
-    requires few { length terminals.now ≤ few_terminals }
-    ensures { result ≡ masks.all_but_root terminals.now }
-{
-    (1 << (terminals.len() - 1)) - 1
 }
 
 /// Moats around the terminals, if there are more than five: half as wide as it is to the nearest other one.

@@ -20,7 +20,7 @@ use grid_base::{Size, Vertex};
 use grid_graph::Weights;
 
 /// The mask of all terminals but the last one. There are as many masks as it says.
-pub(crate) fn all_but_root(terminals: &[Vertex]) -> u32
+pub fn all_but_root(terminals: &[Vertex]) -> u32
     requires some { 1 ≤ length terminals.now }
     requires few { length terminals.now ≤ few_terminals }
     ensures { result ≡ words.all_but_root terminals.now }

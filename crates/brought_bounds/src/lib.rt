@@ -28,7 +28,7 @@ mod rows;
 mod splitting;
 mod table;
 
-pub use holding::table_holds;
+pub use holding::{all_but_root, table_holds};
 pub use limits::MAX_NUMBER;
 pub use moats::Moats;
 pub use radii::Radii;

@@ -1,5 +1,5 @@
 -- When the number of a vertex is at most the weight of each set that joins it to the source.
-use Rattle.std.proofs.Common.{◌≡◌, ℕ, ◌+◌, ◌-◌, ◌<◌, ◌≤◌, List, min, subst, ⊎_elim, arith}
+use Rattle.std.proofs.Common.{◌≡◌, ℕ, ◌+◌, ◌<◌, ◌≤◌, List, subst, ⊎_elim, arith}
 use Rattle.std.proofs.lemmas.Bool.{cases_lt}
 use Rattle.grid_base.specs.declared.piece.Piece.{Piece}
 use Rattle.grid_base.specs.declared.size.Size.{Size}
@@ -7,23 +7,18 @@ use Rattle.grid_base.specs.Walks.{WalkBetween}
 use Rattle.grid_base.proofs.Pieces.{connects_back}
 use Rattle.grid_graph.specs.Weighed.{IsAllowed}
 use Rattle.label_search.specs.Runs.{IsRelaxedWithin}
-use Rattle.label_search.specs.Searches.{IsLow}
+use Rattle.label_search.specs.Searches.{IsLow, known}
 use Rattle.label_search.specs.Sets.{IsSetOf, RisesSlowly, weight}
 use Rattle.label_search.proofs.Law.{rises_by_weight}
-
--- a search that knows all numbers whose key is below x: the number, and x less the bound where that is smaller
-known : (ℕ → ℕ) → (ℕ → ℕ) → ℕ → ℕ → ℕ
-known num rest x v = min (num v) (x - rest v)
 
 refuted : (m n : ℕ) → ¬ (n < m) → m ≤ n
 refuted m n none = ⊎_elim (λ less. absurd (none less)) (λ le. le) (cases_lt n m)
 
 -- it rises slowly where all that waits has a key of at least x and all else is relaxed within a limit that x is not past
-known_slow : (s : Size) (pieces : List (Piece × ℕ)) (num rest : ℕ → ℕ) (limit : ℕ) (Waiting : ℕ → Type 0) (x : ℕ)
+pub known_slow : (s : Size) (pieces : List (Piece × ℕ)) (num rest : ℕ → ℕ) (limit : ℕ) (Waiting : ℕ → Type 0) (x : ℕ)
     → RisesSlowly s pieces rest → ((v : ℕ) → ¬ Waiting v → IsRelaxedWithin s pieces rest limit num v)
     → ((v : ℕ) → Waiting v → x ≤ num v + rest v) → x ≤ limit + 1 →
     RisesSlowly s pieces (known num rest x)
-unfolding known
 known_slow s pieces num rest limit Waiting x slow settled far inside p k a b weighs connects =
     refuted (known num rest x b) (known num rest x a + k) (λ less.
     let back = slow p k b a weighs (connects_back s p a b connects) in
@@ -38,7 +33,6 @@ pub least_past : (s : Size) (pieces : List (Piece × ℕ)) (num rest : ℕ → �
     (source goal x : ℕ) → RisesSlowly s pieces rest → ((v : ℕ) → ¬ Waiting v → IsRelaxedWithin s pieces rest limit num v) →
     ((v : ℕ) → Waiting v → x ≤ num v + rest v) → x ≤ limit + 1 → num source ≡ 0 → x ≤ num goal + rest goal
     → (set : List (Piece × ℕ)) → IsSetOf pieces set → WalkBetween s (IsAllowed set) source goal → x ≤ weight set + rest goal
-unfolding known
 least_past s pieces num rest limit Waiting source goal x slow settled far inside start past set is walk =
     omega (
       arith,

@@ -1,5 +1,5 @@
 -- What stands in the course of a search.
-use Rattle.std.specs.Prelude.{ℕ, ◌≡◌, ◌+◌, ◌≤◌, ◌⊎◌, List}
+use Rattle.std.specs.Prelude.{ℕ, ◌≡◌, ◌+◌, ◌≤◌, ◌⊎◌, ◌-◌, List, min}
 use Rattle.grid_base.specs.declared.piece.Piece.{Piece}
 use Rattle.grid_base.specs.declared.size.Size.{Size}
 use Rattle.grid_base.specs.Numbers.{IsVertex, Connects}
@@ -40,3 +40,7 @@ IsLow s pieces source num v = (set : List (Piece × ℕ)) → IsSetOf pieces set
 -- no neighbour of v by an allowed piece has a number that v could lower
 abbrev pub IsRelaxed : Size → List (Piece × ℕ) → (ℕ → ℕ) → ℕ → Type 0
 IsRelaxed s pieces num v = (p : Piece) (k u : ℕ) → Weighs pieces p k → Connects s p v u → num u ≤ num v + k
+
+-- what is known of a search in which no key is below x: a number, or x less what is still to go from there where that is smaller
+abbrev pub known : (ℕ → ℕ) → (ℕ → ℕ) → ℕ → ℕ → ℕ
+known num rest x v = min (num v) (x - rest v)

@@ -6,7 +6,8 @@ ghost use Rattle.grid_base.specs.Spots.{IsSpot};
 ghost use Rattle.label_search.specs.Founds.{FindsMore};
 ghost use Rattle.label_search.specs.Rows.{size_in, number_in, IsWaiting, work_left};
 ghost use Rattle.label_search.specs.Runs.{IsSearch, IsSettled, IsRelaxedWithin, IsAnswered, TakesOffer, FallsFrom, Advances};
-ghost use Rattle.label_search.specs.Searches.{IsLow};
+ghost use Rattle.label_search.specs.Searches.{IsLow, known};
+ghost use Rattle.label_search.specs.Sets.{RisesSlowly};
 ghost use Rattle.label_search.specs.Starts.{IsStarted};
 ghost use Rattle.label_search.specs.Stamped.{far, max_key};
 
@@ -110,7 +111,7 @@ pub fn exhaust<W: Weights, B: Bound>(row: &mut Row, weights: &W, bound: &B, limi
 /// Whether the number of the goal, from which this is still to go, may fall.
 fn is_open(row: &Row, goal: Vertex, rest: u64) -> bool
     requires goal { IsVertex (size_in row.now) goal.0 }
-    requires rest { rest ≤ far }
+    requires rest { rest ≤ far + far }
     ensures open { result ≡ true → 0 < row.now.heap.len }
     ensures closed { result ≡ false → (v key : ℕ) → IsWaiting row.now v key → number_in row.now goal.0 + rest ≤ key }
 {
@@ -120,8 +121,16 @@ fn is_open(row: &Row, goal: Vertex, rest: u64) -> bool
     }
 }
 
-/// Goes on with a search until the number of the goal can't fall any more.
-pub fn settle<W: Weights, B: Bound>(row: &mut Row, weights: &W, bound: &B, limit: u64, goal: Vertex)
+/// Goes on with a search until the number of the goal can't fall any more, and until no key is below it and what is still to go
+/// from there by as much as the slack.
+pub fn settle<W: Weights, B: Bound>(
+    row: &mut Row,
+    weights: &W,
+    bound: &B,
+    limit: u64,
+    goal: Vertex,
+    slack: u64,
+)
     requires size { size_in row.old ≡ W.size weights.now }
     requires bound_size { B.size bound.now ≡ W.size weights.now }
     requires search { IsSearch (B.rest bound.now) limit row.old }
@@ -129,14 +138,17 @@ pub fn settle<W: Weights, B: Bound>(row: &mut Row, weights: &W, bound: &B, limit
     requires bound { B.pieces bound.now ≡ W.pieces weights.now }
     requires limit { max_key ≤ limit }
     requires goal { IsVertex (W.size weights.now) goal.0 }
+    requires slack { slack ≤ far }
     ensures search { IsSearch (B.rest bound.now) limit row.new }
     ensures settled { IsSettled (W.size weights.now) (W.pieces weights.now) (B.rest bound.now) limit row.new }
     ensures fell { FallsFrom (W.size weights.now) (W.pieces weights.now) row.old row.new }
     ensures low { (source : ℕ) → number_in row.old source ≡ 0 → IsLow (W.size weights.now) (W.pieces weights.now) source (number_in row.new) goal.0 }
+    ensures known { (x : ℕ) → x ≤ number_in row.new goal.0 + slack → x ≤ limit
+        → RisesSlowly (W.size weights.now) (W.pieces weights.now) (known (number_in row.new) (B.rest bound.now) x) }
 {
     let place = row.size().place_of(goal);
     let rest = bound.rest(goal, place);
-    while is_open(row, goal, rest) {
+    while is_open(row, goal, rest + slack) {
         advance(row, weights, bound, limit);
     }
 }
@@ -160,6 +172,6 @@ pub fn settle_each<W: Weights, B: Bound>(
     ensures low { (source : ℕ) → number_in row.old source ≡ 0 → All (λ v. IsLow (W.size weights.now) (W.pieces weights.now) source (number_in row.new) v.0) goals.now }
 {
     for goal in goals {
-        settle(row, weights, bound, limit, *goal);
+        settle(row, weights, bound, limit, *goal, 0);
     }
 }

@@ -1,3 +1,2 @@
 pub mod FewVertices
-mod GoalRests
 mod NearestLed

@@ -1,2 +1,2 @@
-pub mod GoalRests
 pub mod KeptCosts
+pub mod NearestWithin

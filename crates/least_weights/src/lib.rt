@@ -20,7 +20,6 @@
 #![tactic(auto)]
 
 mod by_tiles;
-mod goal_bound;
 mod keeping;
 mod kept_costs;
 mod least;

@@ -1,100 +1,53 @@
 //! The nearest other terminal, by a search that is led.
 
-ghost use Rattle.std.specs.Prelude.{◌≡◌, ◌≢◌, ◌≤◌, ◌<◌, ◌⊎◌, ℕ, All, IfOk, IsTrue, length};
+ghost use Rattle.std.specs.Prelude.{◌≡◌, ◌≢◌, ◌≤◌, ◌<◌, ◌⊎◌, ℕ, All, IfOk, IsTrue};
 ghost use Rattle.grid_base.specs.Numbers.{IsVertex};
 ghost use Rattle.grid_base.specs.Walks.{InVertices};
 ghost use Rattle.grid_graph.specs.Flat.{IsFlatOf, tile_of};
 ghost use Rattle.grid_graph.specs.TilePieces.{tiles_of};
-ghost use Rattle.label_search.specs.Sets.{RisesSlowly};
-ghost use Rattle.label_search.specs.Stamped.{most, far};
-ghost use Rattle.shortest_paths.specs.LabelWords.{labels_size, masks_of, label_of};
+ghost use Rattle.label_search.specs.Stamped.{most};
+ghost use Rattle.shortest_paths.specs.LabelWords.{labels_size, labels_number};
 ghost use Rattle.shortest_paths.specs.Nearest.{IsGoal, IsNearestDistance};
-ghost use Rattle.steiner_tables.specs.Tables.{IsPrunedTable};
-ghost use Rattle.steiner_exact.specs.FlatPieces.{edges_with};
 ghost use Rattle.steiner_exact.specs.TreeLabelWords.{AreTreeLabels};
-ghost use Rattle.landmarks.specs.Numbers.{across_at};
-ghost use Rattle.least_weights.specs.GoalRests.{IsNearestWithin};
+ghost use Rattle.least_weights.specs.NearestWithin.{IsNearestWithin};
 
-use crate::goal_bound::GoalBound;
 use grid_base::{NoMemory, Size, Vertex};
-use grid_graph::{FlooredWeights, Weights};
+use grid_graph::FlooredWeights;
 use label_search::MOST;
-use shortest_paths::{Labels, NoFamily};
+use shortest_paths::{Labels, NoBound, SearchBound};
 use std::alloc::Global;
-use steiner_exact::{FlatWeights, TreeLabels};
+use steiner_exact::{FlatWeights, GoalBound, TreeLabels, tile_under};
 
 /// So many vias more than the way between tiles a way on the grid has at first.
 const FIRST_VIAS: u64 = 4;
 
-/// The tile of a vertex, as a vertex of the flat grid.
-fn tile_under(size: Size, v: Vertex) -> Vertex
-    ensures { result.0 ≡ tile_of size v.0 }
-{
-    Vertex(v.0 % (size.cols() * size.rows()))
-}
-
-/// Searches the flat grid from a tile, as far as the limit.
-fn search_tiles<W: FlooredWeights>(weights: &W, tile: Vertex, limit: u64, labels: &mut TreeLabels)
-    requires labels { AreTreeLabels (W.size weights.now) labels.old }
-    requires tile { IsVertex (labels_size labels.old.flat) tile.0 }
-    requires limit { limit ≤ most }
-    ensures labels { AreTreeLabels (W.size weights.now) labels.new }
-    ensures flat { labels_size labels.new.flat ≡ labels_size labels.old.flat }
-    ensures own { label_of labels.new.flat 1 tile.0 ≡ 0 }
-    ensures across { RisesSlowly (labels_size labels.new.flat) (edges_with (labels_size labels.new.flat) (W.over weights.now))
-        (across_at labels.new.flat limit) }
-{
-    let ground = FlatWeights::new(weights, labels.flat.size(), labels.flat_edges.as_slice());
-    search_from(&ground, &[tile, tile], limit, &mut labels.flat);
-}
-
-/// Searches from the first of two vertices, as far as the limit.
-fn search_from<W: Weights>(weights: &W, vertices: &[Vertex], limit: u64, labels: &mut Labels)
-    requires size { labels_size labels.old ≡ W.size weights.now }
-    requires room { 1 ≤ masks_of labels.old }
-    requires two { length vertices.now ≡ 2 }
-    requires vertices { All (λ v. IsVertex (W.size weights.now) v.0) vertices.now }
-    requires limit { limit ≤ most }
-    ensures size { labels_size labels.new ≡ labels_size labels.old }
-    ensures masks { masks_of labels.new ≡ masks_of labels.old }
-    ensures table { IsPrunedTable (W.size weights.now) (W.pieces weights.now) vertices.now 1 (λ _ _. 0) limit far
-        (label_of labels.new) }
-{
-    let family = NoFamily {
-        weights,
-        terminals: vertices,
-    };
-    labels.pruned(weights, &family, vertices, 1, limit);
-}
-
-/// Whether a terminal stands elsewhere than here, and the search of the flat grid found its tile.
-fn is_found_goal(flat: &Labels, size: Size, here: Vertex, terminal: Vertex) -> bool
+/// Whether a terminal stands elsewhere than here, and the search of the flat grid found its tile within the limit.
+fn is_found_goal(flat: &Labels, size: Size, here: Vertex, limit: u64, terminal: Vertex) -> bool
     requires tiled { IsFlatOf (labels_size flat.now) size }
-    requires room { 1 ≤ masks_of flat.now }
     ensures elsewhere { IsTrue result → terminal.0 ≢ here.0 }
-    ensures others { terminal.0 ≢ here.0 → IsTrue result ⊎ (far ≤ label_of flat.now 1 (tile_of size terminal.0)) }
+    ensures others { terminal.0 ≢ here.0 → IsTrue result ⊎ (limit < labels_number flat.now (tile_of size terminal.0)) }
 {
-    terminal != here && flat.label(1, tile_under(size, terminal)).is_some()
+    terminal != here && flat.number(tile_under(size, terminal)) <= limit
 }
 
-/// The other terminals whose tiles the search of the flat grid found.
+/// The other terminals whose tiles the search of the flat grid found within the limit.
 fn found_goals(
     alloc: Global,
     flat: &Labels,
     size: Size,
     terminals: &[Vertex],
     here: Vertex,
+    limit: u64,
 ) -> Result<Vec<Vertex>, NoMemory>
     requires tiled { IsFlatOf (labels_size flat.now) size }
-    requires room { 1 ≤ masks_of flat.now }
     requires vertices { All (λ v. IsVertex size v.0) terminals.now }
     ensures goals { IfOk result (λ found. All (λ v. IsGoal terminals.now here.0 v.0) found.items) }
     ensures others { IfOk result (λ found. (v : ℕ) → IsGoal terminals.now here.0 v
-        → InVertices found.items v ⊎ (far ≤ label_of flat.now 1 (tile_of size v))) }
+        → InVertices found.items v ⊎ (limit < labels_number flat.now (tile_of size v))) }
 {
     let mut found = Vec::new(alloc);
     for terminal in terminals {
-        if is_found_goal(flat, size, here, *terminal) {
+        if is_found_goal(flat, size, here, limit, *terminal) {
             found.push(*terminal)?;
         }
     }
@@ -102,7 +55,7 @@ fn found_goals(
 }
 
 /// The distance of a terminal to the nearest other one, if it is within the limit. The search begins at those of the others
-/// whose tiles are no further, and a search of the flat grid leads it.
+/// whose tiles are no further, and one of the flat grid, from the terminal's tile as far as the limit, leads it.
 fn nearest_within<W: FlooredWeights>(
     alloc: Global,
     weights: &W,
@@ -119,9 +72,15 @@ fn nearest_within<W: FlooredWeights>(
     ensures labels { AreTreeLabels (W.size weights.now) labels.new }
 {
     let size = labels.grid.size();
-    search_tiles(weights, tile_under(size, here), limit, labels);
-    let sources = found_goals(alloc, &labels.flat, size, terminals, here)?;
-    let bound = GoalBound::new(weights, size, here, &labels.flat, limit);
+    let tile = tile_under(size, here);
+    let ground = FlatWeights::new(weights, labels.flat.size(), labels.flat_edges.as_slice());
+    let lead = NoBound { weights: &ground };
+    let past = labels
+        .flat
+        .distance_past(&ground, &lead, tile, tile, limit + 1);
+    let sources = found_goals(alloc, &labels.flat, size, terminals, here, limit)?;
+    let across = SearchBound::new(&ground, &lead, &labels.flat, past);
+    let bound = GoalBound::new(weights, size, here, &across);
     labels
         .grid
         .distance_from_any(weights, &bound, sources.as_slice(), here);

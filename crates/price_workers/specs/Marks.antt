@@ -9,11 +9,11 @@ use Rattle.tree_set.specs.Loads.{net_load, tree_load}
 abbrev pub entries_per_mark : ℕ
 entries_per_mark = 64
 
--- the mark of an entry, 0 where it has none
+-- the mark of the run of entries that an entry is in, 0 where there is none
 abbrev pub mark_for : List ℕ → ℕ → ℕ
 mark_for marks entry = slice_index marks (entry / entries_per_mark)
 
--- each entry has a mark, and an entry without one is seen as it was last found
+-- there is a mark for each run of entries, and an entry whose run has mark 0 is seen as it was last found
 pub record MarksChanges (g : Grid) (marks last loads : List ℕ) : Type 0 where
   pub long : length marks ≡ entries g / entries_per_mark + 1
   pub same : (e : ℕ) → e < entries g → mark_for marks e ≡ 0 → slice_index loads e ≡ slice_index last e

@@ -24,7 +24,7 @@ pub struct Labels {
 }
 
 impl Labels {
-    ghost use Rattle.std.specs.Prelude.{◌≡◌, ◌≢◌, ◌<◌, ◌≤◌, ◌+◌, ◌-◌, ◌↔◌, ◌⊎◌, ℕ, List, [], All, IfOk, IfSome, IsSome, IsTrue, length};
+    ghost use Rattle.std.specs.Prelude.{◌≡◌, ◌≢◌, ◌<◌, ◌≤◌, ◌+◌, ◌-◌, ◌↔◌, ◌⊎◌, ℕ, List, [], All, IfOk, IfSome, IsSome, IsTrue, length, min};
     ghost use Rattle.grid_base.specs.declared.piece.Piece.{Piece};
     ghost use Rattle.grid_base.specs.Numbers.{IsVertex, Connects};
     ghost use Rattle.shortest_paths.specs.LabelWords.{labels_size, masks_of, source_of, labels_number, distance_of, label_of, HasDistance, LeadsBack};
@@ -32,7 +32,8 @@ impl Labels {
     ghost use Rattle.label_search.specs.Paths.{IsPath, IsStepBack, IsPieceBack, NoneWeighsNothing};
     ghost use Rattle.label_search.specs.Rows.{number_in, IsWaiting};
     ghost use Rattle.label_search.specs.Runs.{IsSearch};
-    ghost use Rattle.label_search.specs.Searches.{IsLow};
+    ghost use Rattle.label_search.specs.Searches.{IsLow, known};
+    ghost use Rattle.label_search.specs.Sets.{RisesSlowly};
     ghost use Rattle.label_search.specs.Starts.{IsStarted};
     ghost use Rattle.shortest_paths.specs.Sources.{IsFromAny};
     ghost use Rattle.label_search.specs.Stamped.{most, far};
@@ -111,9 +112,39 @@ impl Labels {
         ensures goal { HasDistance (W.size weights.now) (W.pieces weights.now) self.new goal.0 }
         ensures back { LeadsBack (W.size weights.now) (W.pieces weights.now) self.new }
     {
+        self.distance_past(weights, bound, source, goal, 0);
+    }
+
+    /// The same search, which goes on until no key is below the goal's number and the slack together. That sum is the
+    /// answer, as far as numbers reach: with it `SearchBound` knows what is still to go to the source.
+    pub fn distance_past<W: Weights, B: Bound>(
+        &mut self,
+        weights: &W,
+        bound: &B,
+        source: Vertex,
+        goal: Vertex,
+        slack: u64,
+    ) -> u64
+        requires size { labels_size self.old ≡ W.size weights.now }
+        requires bound_size { B.size bound.now ≡ W.size weights.now }
+        requires bound { B.pieces bound.now ≡ W.pieces weights.now }
+        requires source { IsVertex (W.size weights.now) source.0 }
+        requires goal { IsVertex (W.size weights.now) goal.0 }
+        requires slack { slack ≤ far }
+        ensures size { labels_size self.new ≡ labels_size self.old }
+        ensures masks { masks_of self.new ≡ masks_of self.old }
+        ensures source { source_of self.new ≡ source.0 }
+        ensures goal { HasDistance (W.size weights.now) (W.pieces weights.now) self.new goal.0 }
+        ensures back { LeadsBack (W.size weights.now) (W.pieces weights.now) self.new }
+        ensures start { labels_number self.new source.0 ≡ 0 }
+        ensures past { result ≡ min (labels_number self.new goal.0 + slack) far }
+        ensures known { RisesSlowly (W.size weights.now) (W.pieces weights.now)
+            (known (labels_number self.new) (B.rest bound.now) result) }
+    {
         self.start(bound, &[source]);
         self.source = source;
-        settle(&mut self.row, weights, bound, NO_LIMIT, goal);
+        settle(&mut self.row, weights, bound, NO_LIMIT, goal, slack);
+        (self.row.number(goal) + slack).min(FAR)
     }
 
     /// Searches from several sources at once until the goal's distance from the nearest of them is known, led by a bound
@@ -136,7 +167,7 @@ impl Labels {
         ensures from { (v : ℕ) → labels_number self.new v < far → IsFromAny (W.size weights.now) (W.pieces weights.now) sources.now v (labels_number self.new v) }
     {
         self.start(bound, sources);
-        settle(&mut self.row, weights, bound, NO_LIMIT, goal);
+        settle(&mut self.row, weights, bound, NO_LIMIT, goal, 0);
     }
 
     /// The distance of a vertex that the latest search asked for; `None` where no walk of allowed pieces leads there.

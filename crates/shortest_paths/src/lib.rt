@@ -20,6 +20,8 @@
 //! labels.distance_between(&weights, &bound, source, goal);
 //! ```
 //!
+//! `distance_past` goes on for a while, and what it found leads other searches back to its source, as a `SearchBound`.
+//!
 //! A vertex is joined to a tree, or to any other vertices, by `distance_from_any`, which begins at all of them.
 //!
 //! The same search finds least trees of up to five terminals, one row of numbers for each set of them (Dreyfus and Wagner
@@ -53,10 +55,12 @@ mod labels;
 mod laws;
 mod led_search;
 mod nearest;
+mod search_bound;
 
 pub use label_search::{Bound, FloorBound, NoBound, apart};
 pub use labels::Labels;
 pub use laws::least_weights_are_those_of_tiles;
+pub use search_bound::SearchBound;
 pub use steiner_tables::{
     Family, NoFamily, holding_tables_bound_sets, pruned_tables_hold_completed,
 };

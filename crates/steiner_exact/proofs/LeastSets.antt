@@ -30,6 +30,13 @@ first_of terminals = let none : Vertex = record { 0 = 0 } in (get_or terminals 0
 abbrev pub second_of : List Vertex → ℕ
 second_of terminals = let none : Vertex = record { 0 = 0 } in (get_or terminals 1 none).0
 
+-- both of two terminals that are joined are vertices
+pub first_vertex : (s : Size) (F : Piece → Type 0) (terminals : List Vertex) → length terminals ≡ 2 → Joins s F (InVertices terminals) → IsVertex s (first_of terminals)
+first_vertex s F terminals two joins = joined_vertices s F terminals joins 0 (record { 0 = 0 }) (omega (arith, two))
+
+pub second_vertex : (s : Size) (F : Piece → Type 0) (terminals : List Vertex) → length terminals ≡ 2 → Joins s F (InVertices terminals) → IsVertex s (second_of terminals)
+second_vertex s F terminals two joins = joined_vertices s F terminals joins 1 (record { 0 = 0 }) (omega (arith, two))
+
 -- what joins two terminals or more joins the first two
 pub joins_first_two : (s : Size) (F : Piece → Type 0) (terminals : List Vertex) → 2 ≤ length terminals → Joins s F (InVertices terminals) → Joins s F (IsEither (first_of terminals) (second_of terminals))
 joins_first_two s F terminals two joins v w at_v at_w =

@@ -1,5 +1,6 @@
 pub mod Boxes
 pub mod FlatPieces
+pub mod GoalRests
 pub mod LeastSets
 pub mod Reading
 pub mod Roots

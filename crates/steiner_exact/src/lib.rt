@@ -8,7 +8,7 @@
 //! ```
 //!
 //! A table of the flat grid, searched under boxes of terminals, bounds a table of the grid; the tree is read back from its
-//! numbers. Both bounds are families of `steiner_tables`, and so is any other that a caller has.
+//! numbers. Between two terminals one search of the flat grid leads one of the grid. Both bounds are families of `steiner_tables`, and so is any other that a caller has.
 //!
 //! It stands on `shortest_paths` for searches, on `tree_set` for sets of pieces and on `grid_graph` for weights that know
 //! lower bounds of themselves. A tree takes memory for its own pieces, its terminals
@@ -24,6 +24,7 @@ mod extent;
 mod flat_edges;
 mod flat_size;
 mod flat_weights;
+mod goal_bound;
 mod guess;
 mod least_path;
 mod limits;
@@ -43,12 +44,13 @@ pub use boxes::{MASKS, boxes_of};
 pub use extent::Extent;
 pub use flat_size::flat_of;
 pub use flat_weights::FlatWeights;
+pub use goal_bound::GoalBound;
 pub use guess::tree_guess;
 pub use limits::FIRST_SLACK;
 pub use masks::has_terminal;
 pub use root_search::least_at_root;
 pub use row_family::RowFamily;
 pub use terminal_box::TerminalBox;
-pub use tiles::tiles_of;
+pub use tiles::{tile_under, tiles_of};
 pub use tree_labels::TreeLabels;
 pub use trees::{least_by_tiles, least_tree};

@@ -10,5 +10,9 @@ pub const FIRST_SLACK: u64 = 32;
 /// it must stay above the limits of the searches that it bounds.
 pub(crate) const TABLE_SLACK: u64 = 512;
 
+/// Where a via weighs no more, a search between tiles leads one of the grid from a terminal to another: it goes on by the weight
+/// of some vias. Elsewhere floors do, since what vias weigh tells the ways apart.
+pub(crate) const LED_VIA: u64 = TABLE_SLACK / 8;
+
 /// The greatest lower bound.
 pub(crate) const MOST_LOW: u64 = 1 << 61;

@@ -50,7 +50,7 @@ pub fn least_tree<W: FlooredWeights>(
         return Ok((Tree::empty(alloc), 0));
     }
     if terminals.len() == 2 {
-        return least_path(weights, terminals, &mut labels.grid);
+        return least_path(weights, terminals, labels);
     }
     let ordered = with_far_root(alloc, labels.grid.size(), terminals)?;
     let found = least_of_several(alloc, weights, ordered.as_slice(), labels)?;

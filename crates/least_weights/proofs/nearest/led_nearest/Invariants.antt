@@ -1,7 +1,7 @@
 use Rattle.std.proofs.Common.{◌-◌, ◌<◌, ◌≤◌}
 use Rattle.label_search.specs.Stamped.{most}
 use Rattle.steiner_exact.specs.TreeLabelWords.{AreTreeLabels}
-use Rattle.least_weights.specs.GoalRests.{IsNearestWithin}
+use Rattle.least_weights.specs.NearestWithin.{IsNearestWithin}
 use Rattle.least_weights.proofs.nearest.led_nearest.Given as goal
 
 abbrev pub invariant-loop-found : goal.invariant-loop-found

@@ -1,4 +1,4 @@
--- What is still to go to a goal, by a search of the flat grid, rises slowly on the grid.
+-- What is still to go to a goal, by a bound of what is still to go between tiles, rises slowly on the grid.
 use Rattle.std.proofs.Common.{ℕ, ◌≡◌, ◌+◌, ◌-◌, ◌*◌, ◌^◌, ◌≤◌, List, min, refl, sym, ap, ⊎_elim, arith}
 use Rattle.std.proofs.lemmas.Nat.{mul-le}
 use Rattle.grid_base.specs.declared.piece.Piece.{Piece}
@@ -12,7 +12,7 @@ use Rattle.grid_graph.proofs.TileSteps.{edge_connects, via_goes, flat_tiles}
 use Rattle.label_search.specs.Sets.{RisesSlowly}
 use Rattle.steiner_exact.specs.FlatPieces.{edges_with}
 use Rattle.steiner_exact.proofs.EdgeLists.{edges_with-lists}
-use Rattle.least_weights.specs.GoalRests.{rest_to}
+use Rattle.steiner_exact.specs.GoalRests.{rest_to}
 
 -- a step that stays on its layer
 stays : (a b w v via k over : ℕ) → b ≤ a + over → over ≤ k → w ≡ v → min (b + w * via) (2 ^ 61) ≤ min (a + v * via) (2 ^ 61) + k

@@ -2,7 +2,7 @@ use Rattle.std.proofs.Common.{◌^◌, ◌∙◌, arith}
 use Rattle.label_search.specs.Rows.{number_in}
 use Rattle.label_search.proofs.Starts.{sources_settled}
 use Rattle.shortest_paths.proofs.Distances.{fallen_reached, distance_of_least}
-use Rattle.shortest_paths.proofs.labels.Labels.distance_between.Goals as goal
+use Rattle.shortest_paths.proofs.labels.Labels.distance_past.Goals as goal
 
 pub settle-requires-clause-settled : goal.settle-requires-clause-settled
 settle-requires-clause-settled g c =
@@ -33,3 +33,11 @@ returns-clause-back g c =
       behind = (fallen_reached (g.W.Weights.size w) (g.W.Weights.pieces w) c.args.source c.start.new.self.row c.settle.new.row size
           c.requires.source begun.zero begun.started fell).behind;
     }
+
+pub returns-clause-known : goal.returns-clause-known
+returns-clause-known g c = c.settle.ensures.known _ (omega (arith, c.min.ensures)) (omega (arith, c.min.ensures))
+
+pub returns-clause-start : goal.returns-clause-start
+returns-clause-start g c =
+    let begun = c.start.ensures.zero 0 c.args.source (omega arith) in
+    omega (arith, begun, c.settle.ensures.fell.falls c.args.source.0)
