@@ -11,7 +11,7 @@ ghost use Rattle.grid_graph.specs.Weighed.{IsAllowed};
 ghost use Rattle.edge_prices.specs.Limits.{max_price};
 ghost use Rattle.edge_prices.specs.Weights.{AreEdgePrices};
 ghost use Rattle.shortest_paths.specs.LabelWords.{labels_size, masks_of};
-ghost use Rattle.steiner_tables.specs.Masks.{rooted_masks, few_terminals};
+ghost use Rattle.steiner_tables.specs.Masks.{rooted_masks};
 ghost use Rattle.lower_bound.specs.Costs.{costed};
 ghost use Rattle.lower_bound.specs.HalfWords.{IsHalf};
 ghost use Rattle.lower_bound.specs.NetBounds.{AreHalves};
