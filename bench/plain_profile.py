@@ -15,7 +15,7 @@ import subprocess
 
 HERE = os.path.dirname(os.path.abspath(__file__))
 # what a function may be for, by its types, the first of which counts
-KINDS = {'RowFamily': 'on the grid', 'FlatWeights': 'between tiles', 'TileCosts': 'between tiles of a class'}
+KINDS = {'RowFamily': 'on the grid', 'GoalBound': 'on the grid', 'FlatWeights': 'between tiles', 'TileCosts': 'between tiles of a class'}
 # by crate and file, the functions that are told apart
 NAMED = {
     'command_runs/sources': ['read_grounded'],
@@ -30,7 +30,7 @@ NAMED = {
     'steiner_exact/guess': ['tree_guess'],
     'steiner_exact/root_search': ['least_at_root'],
     'steiner_exact/reading': ['read_tree'],
-    'shortest_paths/labels': ['pruned', 'distance_between', 'path_to', 'distance_from_any'],
+    'shortest_paths/labels': ['pruned', 'distance_past', 'path_to', 'distance_from_any'],
     'steiner_span/spanning': ['spanning_tree'],
     'steiner_span/grow': ['grow_tree'],
     'steiner_span/way_back': ['way_back'],

@@ -19,7 +19,7 @@ use crate::table::Table;
 use grid_base::{Size, Vertex};
 use grid_graph::Weights;
 
-/// The mask of all terminals but the last one. There are as many masks as it says.
+/// The mask of all terminals but the last one, which is also how many masks these have.
 pub fn all_but_root(terminals: &[Vertex]) -> u32
     requires some { 1 ≤ length terminals.now }
     requires few { length terminals.now ≤ few_terminals }

@@ -41,6 +41,7 @@ IsLow s pieces source num v = (set : List (Piece × ℕ)) → IsSetOf pieces set
 abbrev pub IsRelaxed : Size → List (Piece × ℕ) → (ℕ → ℕ) → ℕ → Type 0
 IsRelaxed s pieces num v = (p : Piece) (k u : ℕ) → Weighs pieces p k → Connects s p v u → num u ≤ num v + k
 
--- what is known of a search in which no key is below x: a number, or x less what is still to go from there where that is smaller
+-- what a search knows in which no waiting key is below x: a vertex's number, or x less what is still to go from it, where that
+-- is smaller
 abbrev pub known : (ℕ → ℕ) → (ℕ → ℕ) → ℕ → ℕ → ℕ
 known num rest x v = min (num v) (x - rest v)

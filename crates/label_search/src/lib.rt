@@ -6,7 +6,7 @@
 //! ```text
 //! let mut row = Row::new(alloc, size)?;
 //! start_each(&mut row, &bound, limit, sources);
-//! settle(&mut row, &weights, &bound, limit, goal);
+//! settle(&mut row, &weights, &bound, limit, goal, 0);
 //! ```
 //!
 //! A `Bound` of what is still to go leads the search: the key of a vertex is its number and the bound together (Hart,

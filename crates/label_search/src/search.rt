@@ -108,21 +108,21 @@ pub fn exhaust<W: Weights, B: Bound>(row: &mut Row, weights: &W, bound: &B, limi
     }
 }
 
-/// Whether the number of the goal, from which this is still to go, may fall.
-fn is_open(row: &Row, goal: Vertex, rest: u64) -> bool
+/// Whether a vertex waits whose key is below the goal's number and this much more.
+fn is_open(row: &Row, goal: Vertex, more: u64) -> bool
     requires goal { IsVertex (size_in row.now) goal.0 }
-    requires rest { rest ≤ far + far }
+    requires more { more ≤ far + far }
     ensures open { result ≡ true → 0 < row.now.heap.len }
-    ensures closed { result ≡ false → (v key : ℕ) → IsWaiting row.now v key → number_in row.now goal.0 + rest ≤ key }
+    ensures closed { result ≡ false → (v key : ℕ) → IsWaiting row.now v key → number_in row.now goal.0 + more ≤ key }
 {
     match row.least() {
-        Some(least) => least < row.number(goal) + rest,
+        Some(least) => least < row.number(goal) + more,
         None => false,
     }
 }
 
-/// Goes on with a search until the number of the goal can't fall any more, and until no key is below it and what is still to go
-/// from there by as much as the slack.
+/// Goes on with a search until the number of the goal can't fall any more, and until no waiting key is below the sum of that
+/// number, what is still to go from the goal, and the slack.
 pub fn settle<W: Weights, B: Bound>(
     row: &mut Row,
     weights: &W,

@@ -31,7 +31,7 @@ across_most s pieces terminals labels limit v table = ⊎_elim
     (cases_lt (label_of labels 1 v) far)
 
 -- those of a search that a limit alone ends
-pub across_slow : (s : Size) (pieces : List (Piece × ℕ)) (terminals : List Vertex) (labels : Labels) (limit : ℕ) → limit ≤ most
+across_slow : (s : Size) (pieces : List (Piece × ℕ)) (terminals : List Vertex) (labels : Labels) (limit : ℕ) → limit ≤ most
     → IsPrunedTable s pieces terminals 1 (λ _ _. 0) limit far (label_of labels) → RisesSlowly s pieces (across_at labels limit)
 across_slow s pieces terminals labels limit small table p k a b weighs connects =
     let top = across_most s pieces terminals labels limit b table in

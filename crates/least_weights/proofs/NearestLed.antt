@@ -30,7 +30,7 @@ use Rattle.least_weights.specs.NearestWithin.{IsNearestWithin}
 abbrev nowhere : Vertex
 nowhere = record { 0 = 0 }
 
--- goals alone among the first so many terminals, and each of these but for those whose tiles have no number
+-- goals alone among the first so many terminals, and each of these but for those whose tiles' numbers are above the limit
 pub record FoundSoFar (s : Size) (flat : Labels) (limit : ℕ) (terminals : List Vertex) (here count : ℕ) (found : List Vertex) : Type 0 where
   pub goals : All (λ (v : Vertex). IsGoal terminals here v.0) found
   pub others : (i : ℕ) → i < count → (get_or terminals i (record { 0 = 0 })).0 ≢ here

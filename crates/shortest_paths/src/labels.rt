@@ -11,10 +11,10 @@ use steiner_tables::{Family, KeptRows, NoFamily, fill};
 /// Above each number with what is still to go: no offer is refused for this limit.
 pub(crate) const NO_LIMIT: u64 = 1 << 62;
 
-/// Numbers of the vertices of a grid by the latest search: after `distances` or `distance_between` distances from a
-/// source, after `subsets` or `pruned` least weights of trees.
+/// Numbers of the vertices of a grid by the latest search: after `distances`, `distance_between` or `distance_past`
+/// distances from a source, after `subsets` or `pruned` least weights of trees.
 ///
-/// After `distances` other vertices than those asked for may have a number too, which is at least their distance.
+/// After the first three other vertices than those asked for may have a number too, which is at least their distance.
 #[derive(Drop)]
 pub struct Labels {
     pub(crate) source: Vertex,
@@ -115,8 +115,8 @@ impl Labels {
         self.distance_past(weights, bound, source, goal, 0);
     }
 
-    /// The same search, which goes on until no key is below the goal's number and the slack together. That sum is the
-    /// answer, as far as numbers reach: with it `SearchBound` knows what is still to go to the source.
+    /// The same search, which goes on until no waiting key is below the goal's number and the slack together. That sum is
+    /// the answer, as far as numbers reach: with it `SearchBound` knows what is still to go to the source.
     pub fn distance_past<W: Weights, B: Bound>(
         &mut self,
         weights: &W,

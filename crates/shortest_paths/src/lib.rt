@@ -20,7 +20,7 @@
 //! labels.distance_between(&weights, &bound, source, goal);
 //! ```
 //!
-//! `distance_past` goes on for a while, and what it found leads other searches back to its source, as a `SearchBound`.
+//! `distance_past` goes on past its goal by a slack; what it found then leads other searches to its source, as a `SearchBound`.
 //!
 //! A vertex is joined to a tree, or to any other vertices, by `distance_from_any`, which begins at all of them.
 //!

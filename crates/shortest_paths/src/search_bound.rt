@@ -32,7 +32,8 @@ impl<'a, W: Weights, B: Bound> SearchBound<'a, W, B> {
     ghost use Rattle.label_search.specs.Sets.{RisesSlowly};
     ghost use Rattle.label_search.specs.Stamped.{far};
 
-    /// The bound by labels that were searched with by these weights and this bound, where no key is below `least`.
+    /// The bound by labels whose latest search went by these weights and this lead, and ended with no waiting key below
+    /// `least`.
     pub fn new(weights: &'a W, lead: &'a B, labels: &'a Labels, least: u64) -> SearchBound<'a, W, B>
         requires size { labels_size labels.now ≡ W.size weights.now }
         requires lead_size { B.size lead.now ≡ W.size weights.now }

@@ -5,6 +5,6 @@ use Rattle.grid_base.specs.Numbers.{layer_of}
 use Rattle.grid_graph.specs.Flat.{tile_of}
 use Rattle.label_search.specs.Stamped.{far}
 
--- what is still to go across tiles, for a vertex with each layer to go to the goal's at so much for a via
+-- what is still to go from a vertex: across tiles, and so much for each layer between it and the goal's; at most far
 abbrev pub rest_to : Size → ℕ → ℕ → (ℕ → ℕ) → ℕ → ℕ
 rest_to s layer via across v = min (across (tile_of s v) + (layer_of s v - layer + (layer - layer_of s v)) * via) far

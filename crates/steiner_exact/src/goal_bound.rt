@@ -32,7 +32,7 @@ impl<'a, W: FlooredWeights, B: Bound> GoalBound<'a, W, B> {
     ghost use Rattle.steiner_exact.specs.FlatPieces.{edges_with};
 
     /// The bound on a grid of this size by one of its flat grid, where each edge between tiles weighs the least that edges
-    /// over it do.
+    /// over it do. Of the goal its layer alone is taken; `across` should lead to its tile.
     pub fn new(weights: &'a W, size: Size, goal: Vertex, across: &'a B) -> GoalBound<'a, W, B>
         requires size { size ≡ W.size weights.now }
         requires goal { IsVertex size goal.0 }

@@ -10,16 +10,16 @@ ghost use Rattle.steiner_exact.specs.TreeLabelWords.{AreTreeLabels};
 
 use crate::flat_weights::FlatWeights;
 use crate::goal_bound::GoalBound;
-use crate::limits::{LED_VIA, TABLE_SLACK};
+use crate::limits::{FIRST_SLACK, LED_VIA};
 use crate::tiles::tile_under;
 use crate::tree_labels::TreeLabels;
 use grid_base::{NoMemory, Vertex};
-use grid_graph::{FlooredWeights, Weights};
+use grid_graph::FlooredWeights;
 use shortest_paths::{Bound, FloorBound, Labels, SearchBound};
 use tree_set::Tree;
 
-/// A set of least weight that joins two terminals, and its weight. Where vias weigh little, a search between tiles leads the one
-/// of the grid; elsewhere floors do.
+/// A set of least weight that joins two terminals, and its weight. Where there are several layers and vias weigh little, a
+/// search between tiles leads the one of the grid; elsewhere floors do.
 pub(crate) fn least_path<W: FlooredWeights>(
     weights: &W,
     terminals: &[Vertex],
@@ -41,8 +41,8 @@ pub(crate) fn least_path<W: FlooredWeights>(
     path_by(weights, &bound, terminals, &mut labels.grid)
 }
 
-/// The same, by a search that one of the flat grid leads: from the second terminal's tile to the first one's, and on by the
-/// slack of tables.
+/// The same, by a search that one of the flat grid leads: from the second terminal's tile to the first one's, and on by a
+/// slack.
 fn led_path<W: FlooredWeights>(
     weights: &W,
     terminals: &[Vertex],
@@ -63,7 +63,7 @@ fn led_path<W: FlooredWeights>(
     let lead = FloorBound::new(&ground, flat, from, ground.floors());
     let least = labels
         .flat
-        .distance_past(&ground, &lead, to, from, TABLE_SLACK);
+        .distance_past(&ground, &lead, to, from, FIRST_SLACK);
     let across = SearchBound::new(&ground, &lead, &labels.flat, least);
     let bound = GoalBound::new(weights, size, terminals[1], &across);
     path_by(weights, &bound, terminals, &mut labels.grid)

@@ -8,7 +8,8 @@
 //! ```
 //!
 //! A table of the flat grid, searched under boxes of terminals, bounds a table of the grid; the tree is read back from its
-//! numbers. Between two terminals one search of the flat grid leads one of the grid. Both bounds are families of `steiner_tables`, and so is any other that a caller has.
+//! numbers. Both bounds are families of `steiner_tables`, and so is any other that a caller has. Between two terminals there
+//! is one search of the grid, led by a search of the flat grid where vias weigh little, and by floors elsewhere.
 //!
 //! It stands on `shortest_paths` for searches, on `tree_set` for sets of pieces and on `grid_graph` for weights that know
 //! lower bounds of themselves. A tree takes memory for its own pieces, its terminals
