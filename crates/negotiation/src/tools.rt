@@ -87,6 +87,9 @@ impl Tools {
         requires nets { ArePlaces design.now nets.now }
         ensures found { IfOk result (λ found. AreFound design.now nets.now found.items) }
         ensures tools { AreToolsFor design.now self.new }
+        ensures turn { self.new.turn ≡ self.old.turn }
+        ensures margins { self.new.margins ≡ self.old.margins }
+        ensures prices { self.new.prices ≡ self.old.prices }
     {
         let sight = Sight {
             design,
@@ -110,6 +113,8 @@ impl Tools {
         requires state { IsStateOf design.now state.now }
         ensures tools { AreToolsFor design.now self.new }
         ensures prices { ArePricesAfterRound (map clipped (rooms_of state.now)) self.old.prices.prices.items self.new.prices.prices.items }
+        ensures turn { self.new.turn ≡ (self.old.turn + 1) % 2 ^ 64 }
+        ensures margins { self.new.margins ≡ self.old.margins }
     {
         self.pass_on();
         self.prices.go_on(&design.grid, state.narrow_rooms())
@@ -129,6 +134,8 @@ impl Tools {
         requires net { net < length design.now.nets }
         ensures tools { AreToolsFor design.now self.new }
         ensures margin { self.new.margins.items ≡ slice_set self.old.margins.items net (wider (slice_index self.old.margins.items net)) }
+        ensures turn { self.new.turn ≡ self.old.turn }
+        ensures prices { self.new.prices ≡ self.old.prices }
     {
         let margin = self.margins[net];
         self.margins[net] = margin.saturating_add(1 + margin / 4).min(MOST_MARGIN);

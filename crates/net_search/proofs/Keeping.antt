@@ -1,16 +1,17 @@
 -- Labels whose edges keep their kinds.
-use Rattle.std.proofs.Common.{ℕ, Bool, true, false, List, ◌≡◌, length, set, get_or, refl, ap, sym, ◌∙◌, inl, inr}
+use Rattle.std.proofs.Common.{ℕ, suc, ◌+◌, ◌<◌, ◌≤◌, Bool, true, false, List, ◌∷◌, drop, ◌≡◌, length, set, get_or, refl, ap, sym, subst, ◌∙◌, inl, inr, add-one, drop-cons}
 use Rattle.std.proofs.lemmas.Bool.{cases_eq, cases_lt}
 use Rattle.std.proofs.lemmas.List.{get_or-set_same, get_or-set_other, set_past}
-use Rattle.std.proofs.Math.ListN.{length-set}
+use Rattle.std.proofs.Math.ListN.{length-set, drop_of_length-le}
 use Rattle.grid_base.specs.declared.axis.Axis.{Axis}
 use Rattle.grid_base.specs.declared.axis.Axis.TheVariants.{X, Y}
+use Rattle.grid_base.specs.declared.piece.Piece.{Piece}
 use Rattle.grid_graph.specs.declared.kind.Kind.{Kind}
 use Rattle.grid_graph.specs.declared.kind.Kind.TheVariants as kinds
 use Rattle.net_search.specs.declared.label.Label.{Label}
 use Rattle.net_search.specs.declared.labels.Labels.{Labels}
 use Rattle.net_search.specs.Kinds.{kind_of_road}
-use Rattle.net_search.specs.Known.{KeepsKinds, known_of, laid, blank}
+use Rattle.net_search.specs.Known.{KeepsKinds, known_of, laid, laid_piece, laid_all, blank}
 use Rattle.net_search.specs.Roads.{road_for}
 
 -- whether the net has got an edge says nothing of its kind
@@ -48,3 +49,24 @@ keeps_laid first old new at axis own kept put = record {
   north = λ v. ap (λ xs. kind_of_road (get_or xs v blank).north) put
       ∙ (kept_at (λ label. kind_of_road label.north) old.labels.items at (laid (known_of old at) axis own) (laid_north (known_of old at) axis own) v ∙ kept.north v);
 }
+
+-- one more piece of a set
+pub laid_on : (labels : List Label) (pieces xs : List Piece) (i : ℕ) (d p : Piece) (own : Bool) (whole : List Label) → xs ≡ pieces
+    → i < length xs → get_or xs i d ≡ p → laid_all labels (drop i pieces) own ≡ whole
+    → laid_all (laid_piece labels p own) (drop (i + 1) pieces) own ≡ whole
+unfolding laid_all
+laid_on labels pieces xs i d p own whole listed within at before =
+    let this : laid_all labels (drop i xs) own ≡ whole = subst (λ (ys : List Piece). laid_all labels (drop i ys) own ≡ whole) (sym listed) before in
+    let split : laid_all labels (get_or xs i d ∷ drop (suc i) xs) own ≡ whole = subst (λ (ys : List Piece). laid_all labels ys own ≡ whole) (drop-cons xs i d within) this in
+    let met : laid_all (laid_piece labels p own) (drop (suc i) xs) own ≡ whole =
+    subst (λ (q : Piece). laid_all (laid_piece labels q own) (drop (suc i) xs) own ≡ whole) at split in
+    subst (λ (ys : List Piece). laid_all (laid_piece labels p own) (drop (i + 1) ys) own ≡ whole) listed
+    (subst (λ (n : ℕ). laid_all (laid_piece labels p own) (drop n xs) own ≡ whole) (sym (add-one i)) met)
+
+-- all pieces of a set
+pub laid_end : (labels : List Label) (pieces xs : List Piece) (i : ℕ) (own : Bool) (whole : List Label) → xs ≡ pieces → length xs ≤ i
+    → laid_all labels (drop i pieces) own ≡ whole → labels ≡ whole
+unfolding laid_all
+laid_end labels pieces xs i own whole listed past before =
+    let this : laid_all labels (drop i xs) own ≡ whole = subst (λ (ys : List Piece). laid_all labels (drop i ys) own ≡ whole) (sym listed) before in
+    subst (λ (ys : List Piece). laid_all labels ys own ≡ whole) (drop_of_length-le xs past) this

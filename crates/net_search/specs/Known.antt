@@ -1,10 +1,12 @@
 -- What searches know of vertices.
-use Rattle.std.specs.Prelude.{ℕ, Bool, false, true, ◌≡◌, ◌≢◌, ◌<◌, ◌⊎◌, length, slice_index_or}
+use Rattle.std.specs.Prelude.{ℕ, Bool, false, true, ◌≡◌, ◌≢◌, ◌<◌, ◌⊎◌, List, [], ◌∷◌, length, slice_index_or, slice_set}
 use Rattle.grid_base.specs.declared.axis.Axis.{Axis}
 use Rattle.grid_base.specs.declared.axis.Axis.TheVariants.{X, Y}
 use Rattle.grid_graph.specs.declared.grid.Grid.{Grid}
 use Rattle.grid_graph.specs.Grids.{size_of}
-use Rattle.grid_base.specs.Numbers.{vertices}
+use Rattle.grid_base.specs.declared.piece.Piece.{Piece}
+use Rattle.grid_base.specs.declared.piece.Piece.TheVariants.{Edge, Via}
+use Rattle.grid_base.specs.Numbers.{vertices, edge_start, edge_axis}
 use Rattle.net_search.specs.declared.label.Label.{Label}
 use Rattle.net_search.specs.declared.labels.Labels.{Labels}
 use Rattle.net_search.specs.declared.road.Road.TheVariants as roads
@@ -29,6 +31,17 @@ as_forgotten label = record label { search = 0 }
 abbrev pub laid : Label → Axis → Bool → Label
 laid label X is_own = record label { east = road_for (kind_of_road label.east) is_own }
 laid label Y is_own = record label { north = road_for (kind_of_road label.north) is_own }
+
+-- labels where the net has got the edge that a piece is, or hasn't
+unfoldable pub laid_piece : List Label → Piece → Bool → List Label
+laid_piece labels (Edge e) is_own =
+    slice_set labels (edge_start e.0) (laid (slice_index_or labels (edge_start e.0) blank) (edge_axis e.0) is_own)
+laid_piece labels (Via v) is_own = labels
+
+-- the same of all pieces of a set, one after another
+unfoldable pub laid_all : List Label → List Piece → Bool → List Label
+laid_all labels [] is_own = labels
+laid_all labels (p ∷ rest) is_own = laid_all (laid_piece labels p is_own) rest is_own
 
 -- the label of a vertex that a search has reached at this cost from this neighbour
 abbrev pub lowered : Label → ℕ → ℕ → Side → Label

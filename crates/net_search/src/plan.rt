@@ -40,6 +40,9 @@ impl<'a> Plan<'a> {
     ) -> Plan<'a>
         requires net { IsNet grid.now net.now }
         ensures size { size_of_plan result ≡ size_of grid.now }
+        ensures field { result.weights.field ≡ field.entry }
+        ensures over { result.weights.over ≡ over }
+        ensures margin { result.margin ≡ margin }
     {
         let layers = layers_for(grid, &tables.directions, net.width);
         Plan {

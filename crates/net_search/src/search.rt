@@ -22,7 +22,7 @@ pub struct NetSearch {
 impl NetSearch {
     ghost use Rattle.std.specs.Prelude.{◌≡◌, IfOk, IfSome, map};
     ghost use Rattle.std.specs.List.{Any};
-    ghost use Rattle.net_search.specs.Known.{AreFor, KeepsKinds, known_of};
+    ghost use Rattle.net_search.specs.Known.{AreFor, KeepsKinds, known_of, laid_all};
     ghost use Rattle.net_search.specs.Sites.{IsStepBack};
 
     /// The tables for searches on this grid.
@@ -38,7 +38,8 @@ impl NetSearch {
     /// Says of the edges of a set that they are those which the net of the next searches has got, or that they are no longer.
     /// Loads are weighed as if its own set were taken away.
     pub fn lay_own(&mut self, own: &Tree, is_own: bool)
-        ensures { KeepsKinds self.old.wave.labels self.new.wave.labels }
+        ensures kinds { KeepsKinds self.old.wave.labels self.new.wave.labels }
+        ensures laid { self.new.wave.labels.labels.items ≡ laid_all self.old.wave.labels.labels.items own.now is_own }
     {
         for piece in own.pieces() {
             if let Piece::Edge(edge) = *piece {
