@@ -14,7 +14,7 @@ use crate::limits::{FIRST_SLACK, LED_VIA};
 use crate::tiles::tile_under;
 use crate::tree_labels::TreeLabels;
 use grid_base::{NoMemory, Vertex};
-use grid_graph::FlooredWeights;
+use grid_graph::{FlooredWeights, Weights};
 use shortest_paths::{Bound, FloorBound, Labels, SearchBound};
 use tree_set::Tree;
 
@@ -70,7 +70,7 @@ fn led_path<W: FlooredWeights>(
 }
 
 /// The same, by a search that this bound leads.
-fn path_by<W: FlooredWeights, B: Bound>(
+fn path_by<W: Weights, B: Bound>(
     weights: &W,
     bound: &B,
     terminals: &[Vertex],

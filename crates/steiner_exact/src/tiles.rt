@@ -19,10 +19,9 @@ pub fn tiles_of(alloc: Global, size: Size, terminals: &[Vertex]) -> Result<Vec<V
     ensures tiles { IfOk result (λ tiles. tiles.items ≡ tiles_of size terminals.now) }
     ensures long { IfOk result (λ tiles. length tiles.items ≡ length terminals.now) }
 {
-    let per_layer = size.cols() * size.rows();
     let mut tiles = Vec::new(alloc);
     for terminal in terminals {
-        tiles.push(Vertex(terminal.0 % per_layer))?;
+        tiles.push(tile_under(size, *terminal))?;
     }
     Ok(tiles)
 }

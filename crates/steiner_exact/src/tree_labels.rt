@@ -2,17 +2,20 @@
 
 use crate::flat_edges::flags_of;
 use crate::flat_size::flat_of;
+use crate::gaps::Gaps;
 use grid_base::{NoMemory, Size};
 use shortest_paths::Labels;
 use std::alloc::Global;
 use steiner_tables::{PROPER_MASKS, ROOTED_MASKS};
 
-/// Labels of a grid and of its flat grid, and the flat grid's edges, made once and used for many trees.
+/// Labels of a grid and of its flat grid, the flat grid's edges, and by how much trees of the one weigh more than those of the
+/// other; made once and used for many trees.
 #[derive(Drop)]
 pub struct TreeLabels {
     pub grid: Labels,
     pub flat: Labels,
     pub flat_edges: Vec<bool>,
+    pub gaps: Gaps,
 }
 
 impl TreeLabels {
@@ -28,6 +31,7 @@ impl TreeLabels {
             grid: Labels::new(alloc, size, ROOTED_MASKS)?,
             flat: Labels::new(alloc, flat, PROPER_MASKS)?,
             flat_edges: flags_of(alloc, flat)?,
+            gaps: Gaps::new(alloc)?,
         })
     }
 }

@@ -15,7 +15,7 @@ use crate::box_family::BoxFamily;
 use crate::flat_weights::FlatWeights;
 use crate::guess::tree_guess;
 use crate::least_path::least_path;
-use crate::limits::{FIRST_SLACK, MOST, TABLE_SLACK};
+use crate::limits::{FIRST_SLACK, MOST, TABLE_SLACK, TABLE_VIAS};
 use crate::masks::{all_but_root_of, all_of};
 use crate::nearness::with_far_root;
 use crate::reading::read_tree;
@@ -73,7 +73,10 @@ fn least_of_several<W: FlooredWeights>(
     ensures tree { IfOk result (λ found. IsLeastTree (W.size weights.now) (W.pieces weights.now) terminals.now found.0 found.1) }
     ensures labels { AreTreeLabels (W.size weights.now) labels.new }
 {
-    let weight = least_by_tiles(alloc, weights, terminals, FIRST_SLACK, TABLE_SLACK, labels)?;
+    let via = weights.floors().via;
+    let slack = FIRST_SLACK.max(via);
+    let table_slack = TABLE_SLACK.max(TABLE_VIAS * via);
+    let weight = least_by_tiles(alloc, weights, terminals, slack, table_slack, labels)?;
     let mask = all_but_root_of(terminals.len());
     let root = terminals[terminals.len() - 1];
     let tree = read_tree(alloc, weights, &labels.grid, terminals, mask, root)?;
@@ -82,7 +85,7 @@ fn least_of_several<W: FlooredWeights>(
 
 /// The least weight of a set that joins two to five terminals, with the table that tells it. Where there are several layers,
 /// a table of the terminals' tiles bounds it. The limit of that table is above the weight of a tree by one slack, and that of
-/// the search above what the table tells by the other, by which it is then raised.
+/// the search above what the table tells by the other, by which it is then raised, or by what such searches came to.
 pub fn least_by_tiles<W: FlooredWeights>(
     alloc: Global,
     weights: &W,
@@ -111,10 +114,23 @@ pub fn least_by_tiles<W: FlooredWeights>(
     let last = all_of(tiles.len()) - 1;
     labels.flat.pruned(&ground, &bounds, tiles, last, limit);
     let across = root_label(&labels.flat, tiles).unwrap_or(guess);
-    let within = across.saturating_add(slack);
+    let via = weights.floors().via;
+    let slacks = labels.gaps.slacks(tiles.len(), across, via, slack);
+    let within = across.saturating_add(slacks.first);
     let size = labels.grid.size();
     let family = RowFamily::new(weights, size, terminals, &bounds, &labels.flat, limit);
-    Ok(least_at_root(weights, &family, terminals, within, slack, &mut labels.grid))
+    let least = least_at_root(
+        weights,
+        &family,
+        terminals,
+        within,
+        slacks.more,
+        &mut labels.grid,
+    );
+    labels
+        .gaps
+        .learn(tiles.len(), across, via, least.saturating_sub(across));
+    Ok(least)
 }
 
 /// The same by a search under boxes.

@@ -64,16 +64,16 @@ pub new-family-requires-clause-terminals : goal.new-family-requires-clause-termi
 new-family-requires-clause-terminals g c =
     subst (λ (x : Size). All (λ (v : Vertex). IsVertex x v.0) c.args.terminals.now) (sym (c.size-size.ensures ∙ c.requires.labels.grid)) c.requires.terminals
 
-pub least_at_root-requires-clause-room : goal.least_at_root-requires-clause-room
-least_at_root-requires-clause-room g c = omega (arith, few_masks c.args.terminals.now c.requires.few, c.requires.labels.grid_room)
+pub least_at_root-least-requires-clause-room : goal.least_at_root-least-requires-clause-room
+least_at_root-least-requires-clause-room g c = omega (arith, few_masks c.args.terminals.now c.requires.few, c.requires.labels.grid_room)
 
 pub returns-clause-labels : goal.returns-clause-labels
 returns-clause-labels g c =
     let old = c.requires.labels in
     let flat = c.pruned.ensures.size ∙ c.tree_guess.ensures.size in
     record {
-      grid = c.least_at_root.ensures.size ∙ old.grid;
-      grid_room = omega (arith, c.least_at_root.ensures.masks, old.grid_room);
+      grid = c.least_at_root-least.ensures.size ∙ old.grid;
+      grid_room = omega (arith, c.least_at_root-least.ensures.masks, old.grid_room);
       flat = subst (λ (x : Size). IsFlatOf x (g.W.Weights.size c.args.weights.now)) (sym flat) old.flat;
       flat_room = omega (arith, c.pruned.ensures.masks, c.tree_guess.ensures.masks, old.flat_room);
       flat_edges = old.flat_edges ∙ ap edge_flags (sym flat);
