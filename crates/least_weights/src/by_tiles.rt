@@ -18,7 +18,7 @@ const FIRST_VIAS: u64 = 2;
 
 /// By so many vias the limit of a table of tiles is above the weight of a tree. It must stay above the limits of the searches
 /// that it bounds.
-const TABLE_VIAS: u64 = 8;
+const TABLE_VIAS: u64 = 12;
 
 /// The least weight of a set of allowed pieces that joins at most five terminals. As in the search of a least tree, a table of
 /// the terminals' tiles bounds that of the grid; but limits are raised by vias, which may weigh little or much.

@@ -33,15 +33,22 @@ pub struct Gaps {
 }
 
 impl Gaps {
+    ghost use Rattle.std.specs.Prelude.{◌≡◌, ◌≤◌, ◌*◌, IfOk, length};
+
     /// No search was made yet.
-    pub(crate) fn new(alloc: Global) -> Result<Gaps, NoMemory> {
+    pub(crate) fn new(alloc: Global) -> Result<Gaps, NoMemory>
+        ensures { IfOk result (λ gaps. length gaps.means.items ≡ 6 * 65) }
+    {
         let mut means = vec![in alloc; 0; SIZES * LENGTHS]?;
         Ok(Gaps { means })
     }
 
     /// The slacks for so many terminals, whose least tree of the flat grid weighs so much. Where vias weigh little or no search
     /// tells, both are the given one.
-    pub(crate) fn slacks(&self, terminals: usize, across: u64, via: u64, slack: u64) -> Slacks {
+    pub(crate) fn slacks(&self, terminals: usize, across: u64, via: u64, slack: u64) -> Slacks
+        ensures first { via ≤ 4 → result.first ≡ slack }
+        ensures more { via ≤ 4 → result.more ≡ slack }
+    {
         let mean = self.means.get(place_of(terminals, across, via));
         match mean {
             Some(mean) if *mean > 0 && via > LED_VIA => {
@@ -59,7 +66,9 @@ impl Gaps {
     }
 
     /// Takes in the gap of a search.
-    pub(crate) fn learn(&mut self, terminals: usize, across: u64, via: u64, gap: u64) {
+    pub(crate) fn learn(&mut self, terminals: usize, across: u64, via: u64, gap: u64)
+        ensures { length self.new.means.items ≡ length self.old.means.items }
+    {
         let place = place_of(terminals, across, via);
         if place < self.means.len() {
             let parts = gap.saturating_mul(PARTS) / via.max(1);

@@ -6,6 +6,7 @@ ghost use Rattle.shortest_paths.specs.LabelWords.{labels_size, masks_of, labels_
 ghost use Rattle.steiner_tables.specs.Masks.{few_terminals};
 ghost use Rattle.label_search.specs.Stamped.{most};
 
+use crate::fork::fork_of;
 use crate::limits::MOST;
 use crate::masks::single_of;
 use crate::nearness::next_nearest;
@@ -15,8 +16,9 @@ use shortest_paths::{FloorBound, Labels};
 use std::alloc::Global;
 
 /// The weight of a tree to which the terminals are joined one after the other, each by a shortest path from the whole tree,
-/// and first those that are near by grid distance (after Takahashi and Matsuyama, 1980). A search for the least tree begins
-/// under this limit, and it is right whatever the limit is.
+/// and first those that are near by grid distance (after Takahashi and Matsuyama, 1980). The path to one leads by where that
+/// to the next one should fork from it. A search for the least tree begins under this limit, and it is right whatever the
+/// limit is.
 pub fn tree_guess<W: FlooredWeights>(
     alloc: Global,
     weights: &W,
@@ -36,10 +38,13 @@ pub fn tree_guess<W: FlooredWeights>(
     let mut joined = 1u32;
     let mut guess = 0;
     for _ in 1..terminals.len() {
-        let next = next_nearest(labels.size(), terminals, joined);
+        let size = labels.size();
+        let next = next_nearest(size, terminals, joined);
         joined |= single_of(next as u32);
+        let fork = fork_of(size, terminals, joined, terminals[next], tree.as_slice());
+        let to_fork = join(weights, fork, labels, &mut tree)?;
         let between = join(weights, terminals[next], labels, &mut tree)?;
-        guess = (guess + between).min(MOST);
+        guess = (guess + to_fork + between).min(MOST);
     }
     Ok(guess)
 }

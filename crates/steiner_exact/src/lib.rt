@@ -25,6 +25,7 @@ mod extent;
 mod flat_edges;
 mod flat_size;
 mod flat_weights;
+mod fork;
 mod gaps;
 mod goal_bound;
 mod guess;

@@ -12,7 +12,7 @@ pub const FIRST_SLACK: u64 = 32;
 pub(crate) const TABLE_SLACK: u64 = 512;
 
 /// The same in vias.
-pub(crate) const TABLE_VIAS: u64 = 8;
+pub(crate) const TABLE_VIAS: u64 = 12;
 
 /// The greatest weight of a via at which a search between tiles leads the one of the grid between two terminals: its slack is
 /// then worth eight vias or more. Above it ways differ most by their vias, of which the flat grid knows nothing.

@@ -104,7 +104,7 @@ fn distance_to_mask(size: Size, terminals: &[Vertex], mask: u32, here: Place) ->
 }
 
 /// The grid distance of two places.
-fn grid_distance(one: Place, other: Place) -> u64
+pub(crate) fn grid_distance(one: Place, other: Place) -> u64
     ensures { result < 2 ^ 34 }
 {
     u64::from(one.col.abs_diff(other.col))
