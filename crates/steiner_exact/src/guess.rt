@@ -17,7 +17,7 @@ use std::alloc::Global;
 
 /// The weight of a tree to which the terminals are joined one after the other, each by a shortest path from the whole tree,
 /// and first those that are near by grid distance (after Takahashi and Matsuyama, 1980). The path to one leads by where that
-/// to the next one should fork from it. A search for the least tree begins under this limit, and it is right whatever the
+/// to the next one should fork from it, if that is found on the way. A search for the least tree begins under this limit, and it is right whatever the
 /// limit is.
 pub fn tree_guess<W: FlooredWeights>(
     alloc: Global,
@@ -42,21 +42,23 @@ pub fn tree_guess<W: FlooredWeights>(
         let next = next_nearest(size, terminals, joined);
         joined |= single_of(next as u32);
         let fork = fork_of(size, terminals, joined, terminals[next], tree.as_slice());
-        let to_fork = join(weights, fork, labels, &mut tree)?;
-        let between = join(weights, terminals[next], labels, &mut tree)?;
-        guess = (guess + to_fork + between).min(MOST);
+        let between = join(weights, fork, terminals[next], labels, &mut tree)?;
+        guess = (guess + between).min(MOST);
     }
     Ok(guess)
 }
 
-/// Joins a vertex to a tree by a shortest path, and answers what that weighs, where it isn't above the limit of searches.
+/// Joins a vertex to a tree by a shortest path, and answers what that weighs, where it isn't above the limit of searches. If
+/// the search for it finds the fork too, the path leads by that.
 fn join<W: FlooredWeights>(
     weights: &W,
+    fork: Vertex,
     goal: Vertex,
     labels: &mut Labels,
     tree: &mut Vec<Vertex>,
 ) -> Result<u64, NoMemory>
     requires size { labels_size labels.old ≡ W.size weights.now }
+    requires fork { IsVertex (W.size weights.now) fork.0 }
     requires goal { IsVertex (W.size weights.now) goal.0 }
     requires tree { All (λ v. IsVertex (W.size weights.now) v.0) tree.old.items }
     ensures limit { IfOk result (λ between. between ≤ most) }
@@ -66,8 +68,18 @@ fn join<W: FlooredWeights>(
 {
     let bound = FloorBound::new(weights, labels.size(), goal, weights.floors());
     labels.distance_from_any(weights, &bound, tree.as_slice(), goal);
+    let to_fork = if fork == goal {
+        0
+    } else {
+        labels.distance(fork).unwrap_or(0).min(MOST)
+    };
+    if to_fork > 0 {
+        list_way(weights, labels, fork, tree)?;
+        labels.distance_from_any(weights, &bound, tree.as_slice(), goal);
+    }
     list_way(weights, labels, goal, tree)?;
-    Ok(labels.distance(goal).unwrap_or(MOST).min(MOST))
+    let between = labels.distance(goal).unwrap_or(MOST).min(MOST);
+    Ok((to_fork + between).min(MOST))
 }
 
 /// Lists the vertices of the way back from a vertex, as far as numbers fall.

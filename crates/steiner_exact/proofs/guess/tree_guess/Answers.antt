@@ -27,10 +27,10 @@ fork_of-fork-requires-clause-next g c =
     subst (λ (x : Size). IsVertex x (get_or c.args.terminals.now c.next_nearest-next.result (record { 0 = 0 })).0) (sym (c.size-size.ensures ∙ c.loop.invariant.size ∙ c.requires.size))
     (All-get_or (λ (v : Vertex). IsVertex (g.W.Weights.size c.args.weights.now) v.0) c.args.terminals.now c.next_nearest-next.result (record { 0 = 0 }) c.next_nearest-next.ensures c.requires.terminals)
 
-pub join-requires-clause-goal : goal.join-requires-clause-goal
-join-requires-clause-goal g c =
+pub join-requires-clause-fork : goal.join-requires-clause-fork
+join-requires-clause-fork g c =
     subst (λ (x : Size). IsVertex x c.fork_of-fork.result.0) (c.size-size.ensures ∙ c.loop.invariant.size ∙ c.requires.size) c.fork_of-fork.ensures
 
-pub join-requires-in-loop-clause-goal : goal.join-requires-in-loop-clause-goal
-join-requires-in-loop-clause-goal g c =
+pub join-requires-clause-goal : goal.join-requires-clause-goal
+join-requires-clause-goal g c =
     All-get_or (λ (v : Vertex). IsVertex (g.W.Weights.size c.args.weights.now) v.0) c.args.terminals.now c.next_nearest-next.result (record { 0 = 0 }) c.next_nearest-next.ensures c.requires.terminals
