@@ -15,8 +15,8 @@ def is_stale(folder, edit):
     """Whether an edit of the crate in this folder doesn't apply."""
     lines = edit.read_text(encoding='utf-8').splitlines()
     said = {word: [line[len(word) + 2:] for line in lines if line.startswith(word + ': ')] for word in ('file', 'old')}
-    text = (folder / said['file'][0]).read_text(encoding='utf-8')
-    return any(text.count(old) != 1 for old in said['old'])
+    file = folder / said['file'][0]
+    return not file.is_file() or any(file.read_text(encoding='utf-8').count(old) != 1 for old in said['old'])
 
 
 def main():

@@ -11,17 +11,13 @@ ghost use Rattle.steiner_tables.specs.Masks.{few_terminals};
 use grid_base::{NoMemory, Vertex};
 use grid_graph::FlooredWeights;
 use std::alloc::Global;
-use steiner_exact::{TreeLabels, least_by_tiles};
+use steiner_exact::{TABLE_VIAS, TreeLabels, least_by_tiles};
 
 /// So many vias more than a set of tile edges a set of the grid has at first.
 const FIRST_VIAS: u64 = 2;
 
-/// By so many vias the limit of a table of tiles is above the weight of a tree. It must stay above the limits of the searches
-/// that it bounds.
-const TABLE_VIAS: u64 = 12;
-
 /// The least weight of a set of allowed pieces that joins at most five terminals. As in the search of a least tree, a table of
-/// the terminals' tiles bounds that of the grid; but limits are raised by vias, which may weigh little or much.
+/// the terminals' tiles bounds that of the grid; but limits are counted in vias, which may weigh little or much.
 pub fn led_least<W: FlooredWeights>(
     alloc: Global,
     weights: &W,

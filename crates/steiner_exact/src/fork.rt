@@ -9,8 +9,8 @@ use crate::nearness::{grid_distance, next_nearest};
 use grid_base::{Place, Size, Vertex};
 
 /// A vertex through which the way from a tree to the next terminal should lead, so that it comes near the one after that: the
-/// median of a nearest vertex of the tree and the two, by columns, rows and layers. Three terminals that are joined there have
-/// no longer tree than any by grid distance (Hanan, "On Steiner's problem with rectilinear distance", 1966). It is the next
+/// median of a nearest vertex of the tree and the two, by columns, rows and layers. Three terminals that are joined there
+/// have a tree of least length by grid distance (Hanan, "On Steiner's problem with rectilinear distance", 1966). It is the next
 /// terminal itself where none comes after it.
 pub(crate) fn fork_of(
     size: Size,

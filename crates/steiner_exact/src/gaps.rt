@@ -1,11 +1,11 @@
 //! By how much trees of the grid weigh more than those of the flat grid.
 
-use crate::limits::LED_VIA;
+use crate::limits::{LED_VIA, TABLE_VIAS};
 use grid_base::NoMemory;
 use std::alloc::Global;
 
 /// So many numbers of terminals are told apart.
-const SIZES: usize = 6;
+const COUNTS: usize = 6;
 
 /// So many lengths are told apart, each from a power of two to the next.
 const LENGTHS: usize = 65;
@@ -24,11 +24,11 @@ pub(crate) struct Slacks {
 }
 
 /// What searches came to of as many terminals that lie as far apart: the gap between a least tree of the grid and one of the
-/// flat grid, as a mean in which the latest ones count most. A limit that is too high costs more than one that is too low,
-/// and the tree is the same under any.
+/// flat grid, as a mean in which the latest ones count most, and none for more than twice as much as those before. A limit that
+/// is too high costs more than one that is too low, and the tree is the same under any.
 #[derive(Drop)]
 pub struct Gaps {
-    /// In parts of a via; 0 where no search was made yet.
+    /// In parts of a via; 0 where no search was made yet, or none that had a gap.
     means: Vec<u64>,
 }
 
@@ -39,7 +39,7 @@ impl Gaps {
     pub(crate) fn new(alloc: Global) -> Result<Gaps, NoMemory>
         ensures { IfOk result (λ gaps. length gaps.means.items ≡ 6 * 65) }
     {
-        let mut means = vec![in alloc; 0; SIZES * LENGTHS]?;
+        let mut means = vec![in alloc; 0; COUNTS * LENGTHS]?;
         Ok(Gaps { means })
     }
 
@@ -49,7 +49,7 @@ impl Gaps {
         ensures first { via ≤ 4 → result.first ≡ slack }
         ensures more { via ≤ 4 → result.more ≡ slack }
     {
-        let mean = self.means.get(place_of(terminals, across, via));
+        let mean = self.means.get(mean_place(terminals, across, via));
         match mean {
             Some(mean) if *mean > 0 && via > LED_VIA => {
                 let expected = mean.saturating_mul(via) / PARTS;
@@ -65,14 +65,19 @@ impl Gaps {
         }
     }
 
-    /// Takes in the gap of a search.
+    /// Takes in the gap of a search, where vias weigh enough.
     pub(crate) fn learn(&mut self, terminals: usize, across: u64, via: u64, gap: u64)
         ensures { length self.new.means.items ≡ length self.old.means.items }
     {
-        let place = place_of(terminals, across, via);
-        if place < self.means.len() {
-            let parts = gap.saturating_mul(PARTS) / via.max(1);
+        let place = mean_place(terminals, across, via);
+        if place < self.means.len() && via > LED_VIA {
             let mean = self.means[place];
+            let most = if mean == 0 {
+                TABLE_VIAS * PARTS
+            } else {
+                mean.saturating_mul(2)
+            };
+            let parts = (gap.saturating_mul(PARTS) / via).min(most);
             self.means[place] = if mean == 0 {
                 parts
             } else {
@@ -83,7 +88,7 @@ impl Gaps {
 }
 
 /// Where the mean of so many terminals stands, whose least tree of the flat grid weighs so much.
-fn place_of(terminals: usize, across: u64, via: u64) -> usize {
+fn mean_place(terminals: usize, across: u64, via: u64) -> usize {
     let vias = across / via.max(1);
     let length = (u64::BITS - vias.leading_zeros()) as usize;
     terminals.saturating_mul(LENGTHS).saturating_add(length)

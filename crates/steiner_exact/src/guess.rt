@@ -15,10 +15,9 @@ use grid_graph::{FlooredWeights, Weights};
 use shortest_paths::{FloorBound, Labels};
 use std::alloc::Global;
 
-/// The weight of a tree to which the terminals are joined one after the other, each by a shortest path from the whole tree,
-/// and first those that are near by grid distance (after Takahashi and Matsuyama, 1980). The path to one leads by where that
-/// to the next one should fork from it, if that is found on the way. A search for the least tree begins under this limit, and it is right whatever the
-/// limit is.
+/// The weight of a tree to which the terminals are joined one after the other, first those that are near by grid distance (after
+/// Takahashi and Matsuyama, 1980): each by a shortest path from the whole tree, or by one to where the next path should fork
+/// off and one from there. A search for the least tree begins under this limit, and it is right whatever the limit is.
 pub fn tree_guess<W: FlooredWeights>(
     alloc: Global,
     weights: &W,
@@ -48,8 +47,8 @@ pub fn tree_guess<W: FlooredWeights>(
     Ok(guess)
 }
 
-/// Joins a vertex to a tree by a shortest path, and answers what that weighs, where it isn't above the limit of searches. If
-/// the search for it finds the fork too, the path leads by that.
+/// Joins a vertex to a tree and answers what that weighs, where it isn't above the limit of searches: by a shortest path, or
+/// by way of the fork, if the search finds that no farther away than the vertex.
 fn join<W: FlooredWeights>(
     weights: &W,
     fork: Vertex,
@@ -68,10 +67,9 @@ fn join<W: FlooredWeights>(
 {
     let bound = FloorBound::new(weights, labels.size(), goal, weights.floors());
     labels.distance_from_any(weights, &bound, tree.as_slice(), goal);
-    let to_fork = if fork == goal {
-        0
-    } else {
-        labels.distance(fork).unwrap_or(0).min(MOST)
+    let to_fork = match (labels.distance(fork), labels.distance(goal)) {
+        (Some(near), Some(far)) if fork != goal && near <= far => near.min(MOST),
+        _ => 0,
     };
     if to_fork > 0 {
         list_way(weights, labels, fork, tree)?;
@@ -82,7 +80,7 @@ fn join<W: FlooredWeights>(
     Ok((to_fork + between).min(MOST))
 }
 
-/// Lists the vertices of the way back from a vertex, as far as numbers fall.
+/// Lists a vertex and those of the way back from it, as far as numbers fall.
 fn list_way<W: Weights>(
     weights: &W,
     labels: &Labels,
@@ -95,9 +93,10 @@ fn list_way<W: Weights>(
     ensures { IfOk result (λ _. All (λ v. IsVertex (W.size weights.now) v.0) tree.new.items) }
 {
     let mut here = goal;
+    tree.push(here)?;
     while let Some(before) = step_back(weights, labels, here) {
-        tree.push(here)?;
         here = before;
+        tree.push(here)?;
     }
     Ok(())
 }

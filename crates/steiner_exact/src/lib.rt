@@ -50,7 +50,7 @@ pub use flat_weights::FlatWeights;
 pub use gaps::Gaps;
 pub use goal_bound::GoalBound;
 pub use guess::tree_guess;
-pub use limits::FIRST_SLACK;
+pub use limits::{FIRST_SLACK, TABLE_VIAS};
 pub use masks::has_terminal;
 pub use root_search::least_at_root;
 pub use row_family::RowFamily;

@@ -11,11 +11,12 @@ pub const FIRST_SLACK: u64 = 32;
 /// so it must stay above the limits of the searches that it bounds.
 pub(crate) const TABLE_SLACK: u64 = 512;
 
-/// The same in vias.
-pub(crate) const TABLE_VIAS: u64 = 12;
+/// The same in vias; the greater of the two counts.
+pub const TABLE_VIAS: u64 = 12;
 
 /// The greatest weight of a via at which a search between tiles leads the one of the grid between two terminals: its slack is
-/// then worth eight vias or more. Above it ways differ most by their vias, of which the flat grid knows nothing.
+/// then worth eight vias or more. Above it ways differ most by their vias, of which the flat grid knows nothing,
+/// and limits are learned.
 pub(crate) const LED_VIA: u64 = FIRST_SLACK / 8;
 
 /// The greatest lower bound.

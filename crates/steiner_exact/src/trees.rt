@@ -84,8 +84,9 @@ fn least_of_several<W: FlooredWeights>(
 }
 
 /// The least weight of a set that joins two to five terminals, with the table that tells it. Where there are several layers,
-/// a table of the terminals' tiles bounds it. The limit of that table is above the weight of a tree by one slack, and that of
-/// the search above what the table tells by the other, by which it is then raised, or by what such searches came to.
+/// a table of the terminals' tiles bounds it, whose limit is `table_slack` above the weight of a tree. The search begins `slack`
+/// above what that table tells, and is raised by as much at first; where vias weigh more than 4, what such searches came to
+/// stands in its place.
 pub fn least_by_tiles<W: FlooredWeights>(
     alloc: Global,
     weights: &W,
