@@ -1,6 +1,6 @@
 //! By how much trees of the grid weigh more than those of the flat grid.
 
-use crate::limits::{LED_VIA, TABLE_VIAS};
+use crate::limits::LED_VIA;
 use grid_base::NoMemory;
 use std::alloc::Global;
 
@@ -12,6 +12,9 @@ const LENGTHS: usize = 65;
 
 /// A gap counts in so many parts of a via.
 const PARTS: u64 = 256;
+
+/// The first gap counts for so many vias at most, so that one net that goes far out of its way floods nothing for the next.
+const FIRST_VIAS: u64 = 32;
 
 /// A search counts for one part of so many in what is kept.
 const WINDOW: u64 = 8;
@@ -73,7 +76,7 @@ impl Gaps {
         if place < self.means.len() && via > LED_VIA {
             let mean = self.means[place];
             let most = if mean == 0 {
-                TABLE_VIAS * PARTS
+                FIRST_VIAS * PARTS
             } else {
                 mean.saturating_mul(2)
             };
