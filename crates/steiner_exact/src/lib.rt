@@ -19,6 +19,7 @@
 //! own.
 #![tactic(auto)]
 
+mod ball_family;
 mod box_family;
 mod boxes;
 mod extent;
@@ -42,6 +43,7 @@ mod tiles;
 mod tree_labels;
 mod trees;
 
+pub use ball_family::BallFamily;
 pub use box_family::BoxFamily;
 pub use boxes::{MASKS, boxes_of};
 pub use extent::Extent;
