@@ -115,7 +115,15 @@ pub fn least_by_tiles<W: FlooredWeights>(
     }
     let kept = labels.balls.take();
     let balls = grown_balls(alloc, weights, labels.grid.size(), terminals, kept)?;
-    let found = least_over_tiles(alloc, weights, terminals, Some(&balls), slack, table_slack, labels);
+    let found = least_over_tiles(
+        alloc,
+        weights,
+        terminals,
+        Some(&balls),
+        slack,
+        table_slack,
+        labels,
+    );
     labels.balls = Some(balls);
     found
 }
@@ -149,14 +157,24 @@ fn least_over_tiles<W: FlooredWeights>(
     let guess = tree_guess(alloc, &ground, tiles, &mut labels.flat)?;
     let above = labels.gaps.slacks(count, guess, via, table_slack).first;
     let limit = guess.saturating_add(above).min(MOST);
-    labels.flat.pruned(&ground, &bounds, tiles, all_of(count) - 1, limit);
+    labels
+        .flat
+        .pruned(&ground, &bounds, tiles, all_of(count) - 1, limit);
     let across = root_label(&labels.flat, tiles).unwrap_or(guess);
     let base = across.saturating_add(whole_of(balls, count));
     let slacks = labels.gaps.slacks(count, across, via, slack);
     let size = labels.grid.size();
     let row = RowFamily::new(weights, size, terminals, &bounds, &labels.flat, limit);
     let within = base.saturating_add(slacks.first);
-    let least = least_by_row(weights, &row, terminals, balls, within, slacks.more, &mut labels.grid);
+    let least = least_by_row(
+        weights,
+        &row,
+        terminals,
+        balls,
+        within,
+        slacks.more,
+        &mut labels.grid,
+    );
     labels
         .gaps
         .learn(count, across, via, least.saturating_sub(base));

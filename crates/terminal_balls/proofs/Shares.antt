@@ -1,5 +1,5 @@
 -- What the terminals of a mask have together at a vertex.
-use Rattle.std.proofs.Common.{ℕ, zero, suc, ◌≡◌, ◌≢◌, ◌+◌, ◌-◌, ◌*◌, ◌<◌, ◌≤◌, ◌⊎◌, ◌==◌, cond, min, ltb, List, refl, sym, ap, ◌∙◌, ⊎_elim, arith}
+use Rattle.std.proofs.Common.{ℕ, zero, suc, ◌≡◌, ◌≢◌, ◌+◌, ◌*◌, ◌<◌, ◌≤◌, ◌==◌, cond, min, List, refl, sym, ap, ◌∙◌, ⊎_elim, arith}
 use Rattle.std.proofs.lemmas.Bool.{cases_eq, cases_lt}
 use Rattle.std.proofs.lemmas.Bool.Decides.{nat_tests}
 use Rattle.std.proofs.lemmas.Nat.{mul-le}
@@ -95,10 +95,10 @@ steps_of balls mask a b (suc n) more owned =
     let y = share balls n a in
     let same : balls.owner a ≢ n → bit mask n * x ≤ bit mask n * y = λ other. mul-le (bit mask n) x (bit mask n) y (omega arith) (no_more balls n a b other) in
     let own : balls.owner a ≡ n → bit mask n * x ≤ bit mask n * y + more = λ is.
-        let grows : x ≤ y + more = rw (sym is) owned in
-        let both : bit mask n * x ≤ bit mask n * (y + more) = mul-le (bit mask n) x (bit mask n) (y + more) (omega arith) grows in
-        let once = bit_times (bit mask n) more more (bit-small mask n) (omega arith) in
-        grind (arith, both, once)
+    let grows : x ≤ y + more = rw (sym is) owned in
+    let both : bit mask n * x ≤ bit mask n * (y + more) = mul-le (bit mask n) x (bit mask n) (y + more) (omega arith) grows in
+    let once = bit_times (bit mask n) more more (bit-small mask n) (omega arith) in
+    grind (arith, both, once)
     in (
       (λ low. omega (arith, before.0 (omega (arith, low)), same (λ is. omega (arith, is, low)))),
       ⊎_elim (λ is. omega (arith, before.0 (omega (arith, is)), own is)) (λ other. omega (arith, before.1, same other)) (cases_eq (balls.owner a) n),
