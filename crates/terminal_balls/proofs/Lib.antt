@@ -1,2 +1,6 @@
-pub mod Shares
+pub mod Growing
+pub mod Lowering
 pub mod MaskSums
+pub mod Offering
+pub mod Shares
+pub mod Taking

@@ -17,6 +17,9 @@
 //! terminal has anything at itself. How great the balls get no clause says.
 #![tactic(auto)]
 
+mod beyond;
+mod cut;
+mod growth;
 mod limits;
 mod sums;
 mod terminal_balls;

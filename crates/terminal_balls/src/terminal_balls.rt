@@ -1,6 +1,6 @@
 //! Balls around the terminals of a net.
 
-use crate::limits::{MASKS, MOST_TERMINALS};
+use crate::limits::{MASKS, MOST_TERMINALS, VERTICES};
 use crate::sums::sums_of;
 use grid_base::{NoMemory, Size, Vertex};
 use grid_graph::FlooredWeights;
@@ -44,7 +44,12 @@ impl TerminalBalls {
         ensures balls { AreBalls (W.size weights.now) (W.pieces weights.now) (W.over weights.now) terminals.now (balls_of self.new) }
         ensures grid { AreInGrid (W.size weights.now) self.new }
     {
-        self.radii = [0; MOST_TERMINALS];
+        self.clear();
+        self.begin(terminals);
+        for _ in 0..VERTICES * terminals.len() {
+            self.advance(weights);
+        }
+        self.end();
         self.sums = sums_of(&self.radii);
     }
 
