@@ -1,9 +1,8 @@
 -- Balls that grow on: what was met stays met.
-use Rattle.std.proofs.Common.{◌≡◌, ℕ, ◌+◌, ◌<◌, ◌≤◌, ◌⊎◌, List, sym, ◌∙◌, refl, subst, inl, inr, ⊎_elim, arith}
+use Rattle.std.proofs.Common.{ℕ, ◌+◌, ◌≤◌, List, sym, ◌∙◌, refl, subst, inl, inr, ⊎_elim, arith}
 use Rattle.std.proofs.lemmas.Bool.{cases_lt}
 use Rattle.grid_base.specs.declared.piece.Piece.{Piece}
 use Rattle.grid_base.specs.declared.size.Size.{Size}
-use Rattle.label_search.specs.Stamped.{far}
 use Rattle.terminal_balls.specs.declared.terminal_balls.TerminalBalls.{TerminalBalls}
 use Rattle.terminal_balls.specs.Balls.{Balls, beyond, balls_of, widest}
 use Rattle.terminal_balls.specs.Growths.{IsMet, IsRelaxed, IsSame, IsOwn, Shrink, GrowOn}

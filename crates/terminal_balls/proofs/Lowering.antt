@@ -1,5 +1,5 @@
 -- A vertex gets an owner and a lower number, under which it waits.
-use Rattle.std.proofs.Common.{◌≡◌, ◌≢◌, ℕ, ◌+◌, ◌<◌, ◌≤◌, ◌⊎◌, List, length, slice_index, slice_set, sym, ◌∙◌, ap, refl, subst, inl, inr, ⊎_elim, arith, get_or-set_other, length-set}
+use Rattle.std.proofs.Common.{◌≡◌, ◌≢◌, ℕ, ◌+◌, ◌<◌, ◌≤◌, ◌⊎◌, List, length, slice_index, slice_set, sym, ◌∙◌, ap, subst, inl, inr, ⊎_elim, arith, get_or-set_other, length-set}
 use Rattle.std.specs.Vec.{with_item}
 use Rattle.std.proofs.lemmas.Bool.{cases_eq, cases_lt}
 use Rattle.std.proofs.lemmas.Grind.{get_or-set_at}
@@ -10,12 +10,12 @@ use Rattle.grid_base.specs.Lists.{At}
 use Rattle.grid_base.specs.Numbers.{vertices}
 use Rattle.label_search.specs.Stamped.{far}
 use Rattle.shortest_paths.specs.declared.labels.Labels.{Labels}
-use Rattle.shortest_paths.specs.LabelWords.{labels_size, labels_number}
-use Rattle.shortest_paths.specs.LedSearches.{Lowers, HasKey, IsOpen}
+use Rattle.shortest_paths.specs.LabelWords.{labels_number}
+use Rattle.shortest_paths.specs.LedSearches.{Lowers, IsOpen}
 use Rattle.steiner_tables.specs.Masks.{few_terminals}
 use Rattle.terminal_balls.specs.declared.terminal_balls.TerminalBalls.{TerminalBalls}
-use Rattle.terminal_balls.specs.Balls.{Balls, balls_of, widest}
-use Rattle.terminal_balls.specs.Growths.{AreKept, AreBegun, GrowOn, IsSame, IsOwn}
+use Rattle.terminal_balls.specs.Balls.{balls_of, widest}
+use Rattle.terminal_balls.specs.Growths.{AreKept, AreBegun, GrowOn, IsSame}
 
 -- an entry below a bound is put among such
 pub put_below : (xs : List ℕ) (i x bound v : ℕ) → x < bound → slice_index xs v < bound → slice_index (slice_set xs i x) v < bound

@@ -1,5 +1,5 @@
 -- A vertex is taken out and relaxed, until balls end where one waits.
-use Rattle.std.proofs.Common.{◌≡◌, ◌≢◌, ℕ, ◌+◌, ◌<◌, ◌≤◌, ◌⊎◌, List, min, cond, ◌==◌, slice_index, sym, ◌∙◌, ap, refl, subst, inl, inr, ⊎_elim, arith}
+use Rattle.std.proofs.Common.{◌≡◌, ℕ, ◌≤◌, List, slice_index, sym, ◌∙◌, ap, refl, subst, inl, inr, ⊎_elim, arith}
 use Rattle.std.proofs.lemmas.Bool.{cases_eq}
 use Rattle.std.proofs.lemmas.Bool.Decides.{nat_tests}
 use Rattle.grid_base.specs.declared.piece.Piece.{Piece}
@@ -7,7 +7,7 @@ use Rattle.grid_base.specs.declared.size.Size.{Size}
 use Rattle.grid_base.specs.declared.vertex.Vertex.{Vertex}
 use Rattle.grid_base.specs.Numbers.{vertices}
 use Rattle.shortest_paths.specs.declared.labels.Labels.{Labels}
-use Rattle.shortest_paths.specs.LabelWords.{labels_size, labels_number}
+use Rattle.shortest_paths.specs.LabelWords.{labels_number}
 use Rattle.shortest_paths.specs.LedSearches.{IsTakenOut, IsOpen}
 use Rattle.terminal_balls.specs.declared.terminal_balls.TerminalBalls.{TerminalBalls}
 use Rattle.terminal_balls.specs.Balls.{Balls, AreBalls, share, balls_of, widest}
@@ -47,8 +47,13 @@ growing_on s pieces over terminals old new l at kept taken grow relaxed growing 
           (λ here. inr (subst (IsRelaxed s pieces over (balls_of new)) (sym here) (relaxed (subst (IsWithin (balls_of new)) here within))))
           (λ other.
           let still : IsSame (balls_of old) (balls_of new) a = (same.0 ∙ taken.numbers a, same.1) in
-          let was : IsWithin (balls_of old) a = omega (arith, within, still.0, shrink.radii (slice_index new.owners.items a),
-          ap (λ o. slice_index old.radii o) still.1) in
+          let was : IsWithin (balls_of old) a = omega (
+            arith,
+            within,
+            still.0,
+            shrink.radii (slice_index new.owners.items a),
+            ap (λ o. slice_index old.radii o) still.1,
+          ) in
           ⊎_elim
           (λ held. inl (grow.waits a (held.0, taken.kept a held.0 other held.1)))
           (λ met. inr (relaxed_on s pieces over (balls_of old) (balls_of new) shrink kept.small a still met))

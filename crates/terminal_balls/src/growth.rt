@@ -4,7 +4,7 @@ use crate::beyond::weight_beyond;
 use crate::cut::cut_at;
 use crate::limits::{MOST_TERMINALS, WIDEST};
 use crate::terminal_balls::TerminalBalls;
-use grid_base::{Piece, Size, Spot, Vertex, spot_steps};
+use grid_base::{Spot, Vertex, spot_steps};
 use grid_graph::FlooredWeights;
 use label_search::FAR;
 
@@ -47,7 +47,7 @@ impl TerminalBalls {
         }
     }
 
-    /// Begins the ball of the terminal at a place. It has none where its vertex is that of an earlier terminal.
+    /// Begins the ball of the terminal at a place. It has none where an earlier terminal has the same vertex.
     fn begin_ball(&mut self, terminals: &[Vertex], place: usize)
         requires kept { AreKept self.old }
         requires few { place < few_terminals }
@@ -123,8 +123,7 @@ impl TerminalBalls {
         }
     }
 
-    /// Offers a vertex a number for a terminal, if its ball reaches farther. The ball ends there where the vertex is of
-    /// another one.
+    /// Offers a vertex a number from a terminal's ball, if that reaches so far. Where the vertex is of another ball this one ends.
     fn offer(&mut self, to: Spot, owner: u8, offered: u64)
         requires kept { AreKept self.old }
         requires to { IsSpot (labels_size self.old.labels) to }
@@ -146,7 +145,7 @@ impl TerminalBalls {
         }
     }
 
-    /// Ends balls where a vertex waits that is not relaxed. No other one that waits has a smaller number than the least.
+    /// Ends all balls at the least number of those that wait, so that each vertex within one is relaxed.
     pub(crate) fn end(&mut self)
         requires kept { AreKept self.old }
         ensures size { labels_size self.new.labels ≡ labels_size self.old.labels }

@@ -1,4 +1,4 @@
-use Rattle.std.proofs.Common.{◌≡◌, ◌-◌, ◌*◌, ◌%◌, ℕ, sym, ◌∙◌, ap, subst, arith}
+use Rattle.std.proofs.Common.{◌≡◌, ◌-◌, ◌*◌, ◌%◌, sym, ◌∙◌, ap, subst, arith}
 use Rattle.grid_base.specs.declared.piece.Piece.{Piece}
 use Rattle.grid_base.specs.declared.piece.Piece.TheVariants.{Edge}
 use Rattle.grid_base.specs.declared.size.Size.{Size}
@@ -22,8 +22,12 @@ overflow_sub-result g c =
     let pieces = g.W.Weights.pieces c.args.weights.now in
     let allowed : IsAllowed pieces c.args.by = c.requires.allowed in
     let weighs : Weighs pieces (Edge c.in-Edge.edge) allowed.0 = subst (λ (p : Piece). Weighs pieces p allowed.0) c.in-Edge.is allowed.1 in
-    omega (arith, tile g c, (g.met.W.FlooredWeights.under c.args.weights.now).below c.in-Edge.edge allowed.0 weighs,
-    c.weight-weight.ensures.value allowed.0 allowed.1)
+    omega (
+      arith,
+      tile g c,
+      (g.met.W.FlooredWeights.under c.args.weights.now).below c.in-Edge.edge allowed.0 weighs,
+      c.weight-weight.ensures.value allowed.0 allowed.1,
+    )
 
 pub returns-in-Edge-clause-value : goal.returns-in-Edge-clause-value
 returns-in-Edge-clause-value g c = λ k weighs.

@@ -1,6 +1,6 @@
-use Rattle.std.proofs.Common.{◌≡◌, ◌+◌, ◌*◌, ◌<◌, ◌≤◌, ℕ, sym, ◌∙◌, slice_index, arith, refl}
+use Rattle.std.proofs.Common.{slice_index, arith, refl}
 use Rattle.steiner_tables.proofs.Masks.{bit-small}
-use Rattle.terminal_balls.specs.Balls.{radii_sum, widest}
+use Rattle.terminal_balls.specs.Balls.{radii_sum}
 use Rattle.terminal_balls.proofs.MaskSums.{sum_more}
 use Rattle.terminal_balls.proofs.sums.sum_of.Goals as goal
 use Rattle.terminal_balls.proofs.sums.sum_of.Goals.{then-mask-place-eq1, else-mask-place-eq1}
@@ -17,11 +17,11 @@ loop-place-preserved c =
     let small = c.requires place in
     elim c.if-mask-place-eq1.branch [
       | then-mask-place-eq1 w ↦ rw w.sum-is (record {
-          sum = more.0 w.if-mask-place-eq1.true;
-          small = omega (arith, small, c.loop-place.invariant.small);
-        })
+        sum = more.0 w.if-mask-place-eq1.true;
+        small = omega (arith, small, c.loop-place.invariant.small);
+      })
       | else-mask-place-eq1 w ↦ rw w.sum-is (record {
-          sum = more.1 (omega (arith, bit-small c.args.mask place, w.if-mask-place-eq1.false));
-          small = omega (arith, c.loop-place.invariant.small);
-        })
+        sum = more.1 (omega (arith, bit-small c.args.mask place, w.if-mask-place-eq1.false));
+        small = omega (arith, c.loop-place.invariant.small);
+      })
     ]

@@ -1,4 +1,4 @@
-use Rattle.std.proofs.Common.{ℕ, ◌≡◌, ◌≤◌, ◌*◌, ◌^◌, slice_index}
+use Rattle.std.proofs.Common.{◌≡◌, ◌≤◌, ◌*◌, slice_index}
 use Rattle.terminal_balls.specs.Balls.{radii_sum, widest}
 use Rattle.terminal_balls.proofs.sums.sum_of.Given as goal
 

@@ -1,4 +1,4 @@
-use Rattle.std.proofs.Common.{◌≡◌, ◌<◌, ◌∙◌, sym, ap, inl, inr, slice_index, arith, get_or-set_other, length-set}
+use Rattle.std.proofs.Common.{◌∙◌, sym, ap, inl, inr, slice_index, arith, get_or-set_other, length-set}
 use Rattle.std.proofs.lemmas.Bool.{cases_eq}
 use Rattle.std.proofs.lemmas.Grind.{get_or-set_at}
 use Rattle.steiner_tables.specs.Masks.{few_terminals}

@@ -1,4 +1,4 @@
-use Rattle.std.proofs.Common.{ℕ, ◌≡◌, ◌≤◌, ◌<◌, length, slice_index}
+use Rattle.std.proofs.Common.{ℕ, ◌≡◌, ◌<◌, length, slice_index}
 use Rattle.steiner_tables.specs.Masks.{few_terminals}
 use Rattle.terminal_balls.specs.Balls.{radii_sum}
 use Rattle.terminal_balls.proofs.sums.sums_of.Given as goal

@@ -1,7 +1,7 @@
-use Rattle.std.proofs.Common.{◌≡◌, ◌≤◌, ℕ, slice_index, refl, sym, ◌∙◌, ap, subst, arith}
+use Rattle.std.proofs.Common.{sym, ap, subst, arith}
 use Rattle.shortest_paths.specs.declared.labels.Labels.{Labels}
 use Rattle.shortest_paths.specs.LabelWords.{labels_size, labels_number}
-use Rattle.terminal_balls.specs.Growths.{AreKept, AreGrowing}
+use Rattle.terminal_balls.specs.Growths.{AreKept}
 use Rattle.terminal_balls.proofs.Taking.{with_labels, kept_taken, ended}
 use Rattle.terminal_balls.proofs.terminal_balls.TerminalBalls.end.Goals as goal
 
@@ -18,8 +18,15 @@ returns-in-Some-clause-balls c = λ s pieces over terminals.
     let at = c.in-Some.at.vertex.0 in
     ended s pieces over terminals c.args.self.now c.next.new.self c.cut_at-self.result kept taken.numbers
     (λ place. omega (arith, c.cut_at-self.ensures place))
-    (λ v held place. omega (arith, c.cut_at-self.ensures place, c.number-least.ensures.number, taken.numbers at,
-    kept.keys at taken.least.key taken.least.has, taken.least.least v held.0 held.1, kept.keys v held.0 held.1))
+    (λ v held place. omega (
+      arith,
+      c.cut_at-self.ensures place,
+      c.number-least.ensures.number,
+      taken.numbers at,
+      kept.keys at taken.least.key taken.least.has,
+      taken.least.least v held.0 held.1,
+      kept.keys v held.0 held.1,
+    ))
 
 pub returns-in_default-clause-size : goal.returns-in_default-clause-size
 returns-in_default-clause-size c = ap (λ (l : Labels). labels_size l) (c.next.ensures.same c.in_default.is)

@@ -1,4 +1,4 @@
-use Rattle.std.proofs.Common.{◌≡◌, ◌<◌, ◌≤◌, ℕ, List, replicate, length, sym, ◌∙◌, ap, subst, slice_index, arith}
+use Rattle.std.proofs.Common.{◌≡◌, ℕ, List, replicate, length, sym, ◌∙◌, ap, slice_index, arith}
 use Rattle.std.proofs.lemmas.List.{length-replicate}
 use Rattle.grid_base.specs.Numbers.{vertices}
 use Rattle.terminal_balls.proofs.MaskSums.{no_sum, zeros}

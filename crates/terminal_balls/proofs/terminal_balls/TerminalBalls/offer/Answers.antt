@@ -1,4 +1,4 @@
-use Rattle.std.proofs.Common.{◌≡◌, ◌+◌, ◌<◌, ◌≤◌, ◌⊎◌, ℕ, sym, ◌∙◌, inl, inr, slice_index, slice_set, arith}
+use Rattle.std.proofs.Common.{◌≡◌, ◌+◌, ◌≤◌, ◌⊎◌, sym, ◌∙◌, inl, inr, slice_index, arith}
 use Rattle.std.proofs.lemmas.Grind.{get_or_default_zero}
 use Rattle.label_search.specs.Stamped.{far}
 use Rattle.shortest_paths.specs.LabelWords.{labels_number}

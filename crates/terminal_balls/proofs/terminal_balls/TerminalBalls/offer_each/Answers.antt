@@ -1,23 +1,28 @@
-use Rattle.std.proofs.Common.{◌≡◌, ◌+◌, ◌<◌, ◌≤◌, ℕ, false, refl, sym, ◌∙◌, ap, subst, arith}
+use Rattle.std.proofs.Common.{◌≡◌, ◌+◌, ℕ, false, sym, ◌∙◌, ap, subst, arith}
 use Rattle.std.specs.Bool.{IsTrue}
 use Rattle.grid_base.specs.declared.size.Size.{Size}
 use Rattle.grid_base.specs.Spots.{IsSpot, spot_steps}
 use Rattle.label_search.proofs.Relaxing.{spot_step, no_step}
 use Rattle.shortest_paths.specs.LabelWords.{labels_size}
 use Rattle.terminal_balls.specs.Balls.{balls_of}
-use Rattle.terminal_balls.specs.Growths.{IsMet, IsSame}
+use Rattle.terminal_balls.specs.Growths.{IsMet}
 use Rattle.terminal_balls.proofs.Growing.{GrowOn-refl, GrowOn-trans, IsSame-trans}
 use Rattle.terminal_balls.proofs.Offering.{AreMetBelow, met_more, met_past, met_all}
 use Rattle.terminal_balls.proofs.terminal_balls.TerminalBalls.offer_each.Goals as goal
-use Rattle.terminal_balls.proofs.terminal_balls.TerminalBalls.offer_each.Goals.{in-Some+then-allows, in-Some+else-allows, in_default}
+use Rattle.terminal_balls.proofs.terminal_balls.TerminalBalls.offer_each.Goals.{After-spot_steps, in-Some+then-allows, in-Some+else-allows, in_default}
+
+table : (g : _) (c : After-spot_steps g)
+    → c.spot_steps.result ≡ spot_steps (g.W.Weights.size c.args.weights.now) c.args.from.vertex.0
+table g c =
+    let from = c.args.from.vertex.0 in
+    let size : c.size-size.result ≡ g.W.Weights.size c.args.weights.now = c.size-size.ensures ∙ c.requires.size in
+    ◌∙◌ {b = spot_steps c.size-size.result from} c.spot_steps.ensures (ap (λ (x : Size). spot_steps x from) size)
 
 pub offer-requires-clause-to : goal.offer-requires-clause-to
 offer-requires-clause-to g c =
     let s = g.W.Weights.size c.args.weights.now in
-    let table : c.spot_steps.result ≡ spot_steps s c.args.from.vertex.0 =
-    c.spot_steps.ensures ∙ ap (λ (x : Size). spot_steps x c.args.from.vertex.0) (c.size-size.ensures ∙ c.requires.size) in
     let step = spot_step s c.args.from c.loop-step.step-index c.spot_steps.result c.in-Some.to c.in-Some.by c.requires.from
-    table c.loop-step-test.true c.in-Some.is in
+    (table g (goal.at.offer-requires-clause-to g c).After-spot_steps) c.loop-step-test.true c.in-Some.is in
     let same : s ≡ labels_size c.loop-step.self.labels = sym (c.loop-step.invariant.grow_on.size ∙ c.requires.size) in
     subst (λ (x : Size). IsSpot x c.in-Some.to) same step.spot
 
@@ -33,14 +38,13 @@ loop-step-preserved g c =
     let here = c.loop-step.step-index in
     let first = c.args.self.now in
     let old = c.loop-step.self in
-    let table : c.spot_steps.result ≡ spot_steps s from =
-    c.spot_steps.ensures ∙ ap (λ (x : Size). spot_steps x from) (c.size-size.ensures ∙ c.requires.size) in
+    let steps : c.spot_steps.result ≡ spot_steps s from = table g (goal.at.loop-step-preserved g c).After-spot_steps in
     elim c.match-step.branch [
       | in-Some+then-allows w ↦
           let after = w.offer.ensures in
           let to = w.in-Some.to.vertex in
           let new = w.offer.new.self in
-          let step = spot_step s c.args.from here c.spot_steps.result w.in-Some.to w.in-Some.by c.requires.from table
+          let step = spot_step s c.args.from here c.spot_steps.result w.in-Some.to w.in-Some.by c.requires.from steps
           c.loop-step-test.true w.in-Some.is in
           rw w.self-is (record {
             kept = after.kept;
@@ -53,7 +57,7 @@ loop-step-preserved g c =
                 (w.weight_beyond.ensures.value k weighs) after.met);
           })
       | in-Some+else-allows w ↦
-          let step = spot_step s c.args.from here c.spot_steps.result w.in-Some.to w.in-Some.by c.requires.from table
+          let step = spot_step s c.args.from here c.spot_steps.result w.in-Some.to w.in-Some.by c.requires.from steps
           c.loop-step-test.true w.in-Some.is in
           rw w.self-is (record {
             kept = before.kept;
@@ -69,7 +73,7 @@ loop-step-preserved g c =
             grow_on = before.grow_on;
             same = before.same;
             met = met_past s pieces over (balls_of old) from owner reached here before.met
-                (no_step s from here c.spot_steps.result table w.in_default.is);
+                (no_step s from here c.spot_steps.result steps w.in_default.is);
           })
     ]
 

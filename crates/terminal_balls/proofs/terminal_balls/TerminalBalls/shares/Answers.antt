@@ -1,4 +1,4 @@
-use Rattle.std.proofs.Common.{◌≡◌, ◌<◌, ◌≤◌, ◌-◌, ℕ, min, sym, ◌∙◌, ap, refl, slice_index, arith}
+use Rattle.std.proofs.Common.{◌≡◌, min, ◌∙◌, ap, refl, slice_index, arith}
 use Rattle.std.proofs.lemmas.Grind.{get_or_default_zero}
 use Rattle.terminal_balls.specs.Balls.{balls_of}
 use Rattle.terminal_balls.proofs.MaskSums.{IsWhole, is_whole}
