@@ -1,5 +1,5 @@
 -- Balls around terminals: how much more than the tile edges under it a set weighs around each terminal that it leaves.
-use Rattle.std.specs.Prelude.{ℕ, zero, suc, ◌≡◌, ◌+◌, ◌-◌, ◌*◌, ◌<◌, ◌≤◌, ◌⊎◌, ◌==◌, cond, min, List, length, slice_index}
+use Rattle.std.specs.Prelude.{ℕ, zero, suc, ◌≡◌, ◌+◌, ◌-◌, ◌*◌, ◌^◌, ◌<◌, ◌≤◌, ◌⊎◌, ◌==◌, cond, min, List, length, slice_index}
 use Rattle.grid_base.specs.declared.piece.Piece.{Piece}
 use Rattle.grid_base.specs.declared.piece.Piece.TheVariants.{Edge, Via}
 use Rattle.grid_base.specs.declared.size.Size.{Size}
@@ -52,7 +52,23 @@ balls_of t = record {
   radius = slice_index t.radii;
 }
 
--- they are of a grid of this size
+-- the sum of the radii of the first n terminals, of those of a mask
+unfoldable pub radii_sum : (ℕ → ℕ) → ℕ → ℕ → ℕ
+radii_sum radius mask zero = 0
+radii_sum radius mask (suc n) = radii_sum radius mask n + bit mask n * radius n
+
+-- no ball is wider
+abbrev pub widest : ℕ
+widest = 2 ^ 56
+
+-- of each mask the sum of its radii is kept
+abbrev pub AreSums : List ℕ → List ℕ → Type 0
+AreSums radii sums = (mask : ℕ) → mask < 32 → slice_index sums mask ≡ radii_sum (slice_index radii) mask few_terminals
+
+-- they are of a grid of this size, and sums are those of the radii
 pub record AreInGrid (s : Size) (t : TerminalBalls) : Type 0 where
   pub size : labels_size t.labels ≡ s
   pub owners : length t.owners.items ≡ vertices s
+  pub few : (v : ℕ) → slice_index t.owners.items v < few_terminals
+  pub small : (place : ℕ) → slice_index t.radii place ≤ widest
+  pub summed : AreSums t.radii t.sums

@@ -1,1 +1,2 @@
 pub mod Balls
+pub mod Growths

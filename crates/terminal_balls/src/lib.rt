@@ -10,14 +10,18 @@
 //! let beyond = balls.shares(mask, v);
 //! ```
 //!
-//! It stands on `shortest_paths` for a search that its caller leads, on `steiner_tables` for masks, and on `grid_graph` and
-//! `grid_base`. A growth takes no memory.
+//! It stands on `shortest_paths` for a search that its caller leads, on `label_search` for what stands for no number, on
+//! `steiner_tables` for masks, and on `grid_graph` and `grid_base`. A growth takes no memory.
 //!
 //! Promised: along no piece what any terminals have together rises by more than the piece weighs beyond its tile edge, and no
 //! terminal has anything at itself. How great the balls get no clause says.
 #![tactic(auto)]
 
+mod beyond;
+mod cut;
+mod growth;
 mod limits;
+mod sums;
 mod terminal_balls;
 
 pub use terminal_balls::TerminalBalls;

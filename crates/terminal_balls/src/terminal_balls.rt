@@ -1,6 +1,7 @@
 //! Balls around the terminals of a net.
 
-use crate::limits::{MASKS, MOST_TERMINALS};
+use crate::limits::{MASKS, MOST_TERMINALS, VERTICES};
+use crate::sums::sums_of;
 use grid_base::{NoMemory, Size, Vertex};
 use grid_graph::FlooredWeights;
 use shortest_paths::Labels;
@@ -10,10 +11,10 @@ use std::alloc::Global;
 /// radius of its own. Of a mask's terminals the sum of radii is kept.
 #[derive(Drop)]
 pub struct TerminalBalls {
-    labels: Labels,
-    owners: Vec<u8>,
-    radii: [u64; MOST_TERMINALS],
-    sums: [u64; MASKS],
+    pub(crate) labels: Labels,
+    pub(crate) owners: Vec<u8>,
+    pub(crate) radii: [u64; MOST_TERMINALS],
+    pub(crate) sums: [u64; MASKS],
 }
 
 impl TerminalBalls {
@@ -43,8 +44,13 @@ impl TerminalBalls {
         ensures balls { AreBalls (W.size weights.now) (W.pieces weights.now) (W.over weights.now) terminals.now (balls_of self.new) }
         ensures grid { AreInGrid (W.size weights.now) self.new }
     {
-        self.radii = [0; MOST_TERMINALS];
-        self.sums = [0; MASKS];
+        self.clear();
+        self.begin(terminals);
+        for _ in 0..VERTICES * terminals.len() {
+            self.advance(weights);
+        }
+        self.end();
+        self.sums = sums_of(&self.radii);
     }
 
     /// What the terminals of a mask have together at a vertex.
@@ -59,7 +65,7 @@ impl TerminalBalls {
             return 0;
         }
         let owner = u32::from(self.owners[v.0 as usize]);
-        if owner >= MOST_TERMINALS as u32 || (mask >> owner) % 2 == 0 {
+        if (mask >> owner) % 2 == 0 {
             return whole;
         }
         let radius = self.radii[owner as usize];
