@@ -18,11 +18,12 @@ pub struct TerminalBalls {
 }
 
 impl TerminalBalls {
-    ghost use Rattle.std.specs.Prelude.{◌≡◌, ◌≤◌, ◌<◌, All, IfOk, length};
+    ghost use Rattle.std.specs.Prelude.{◌≡◌, ◌≤◌, ◌<◌, All, IfOk, length, slice_index};
+    ghost use Rattle.grid_base.specs.declared.size.Size.{Size};
     ghost use Rattle.grid_base.specs.Numbers.{IsVertex};
     ghost use Rattle.shortest_paths.specs.LabelWords.{labels_size};
     ghost use Rattle.steiner_tables.specs.Masks.{few_terminals};
-    ghost use Rattle.terminal_balls.specs.Balls.{AreBalls, AreInGrid, balls_of, shares};
+    ghost use Rattle.terminal_balls.specs.Balls.{AreBalls, AreInGrid, balls_of, radii_sum, shares};
 
     /// Room for balls in a grid of this size.
     pub fn new(alloc: Global, size: Size) -> Result<TerminalBalls, NoMemory>
@@ -75,6 +76,7 @@ impl TerminalBalls {
     /// What the terminals of a mask have together outside of all balls.
     pub fn radii_of(&self, mask: u32) -> u64
         requires mask { mask < 32 }
+        ensures { (s : Size) → AreInGrid s self.now → result ≡ radii_sum (slice_index self.now.radii) mask few_terminals }
     {
         self.sums[mask as usize]
     }
