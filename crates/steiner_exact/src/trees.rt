@@ -89,8 +89,8 @@ fn least_of_several<W: FlooredWeights>(
 
 /// The least weight of a set that joins two to five terminals, with the table that tells it. Where there are several layers,
 /// a table of the terminals' tiles bounds it, whose limit is `table_slack` above the weight of a tree. The search begins `slack`
-/// above what that table tells, and is raised by as much at first; where vias weigh more than 4, what such searches came to
-/// stands in its place.
+/// above what that table tells, and is raised by as much at first. Where vias weigh more than 4, balls around the terminals
+/// bound it too, and what such searches came to stands in place of both slacks.
 pub fn least_by_tiles<W: FlooredWeights>(
     alloc: Global,
     weights: &W,
