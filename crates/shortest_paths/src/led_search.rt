@@ -79,6 +79,7 @@ impl Labels {
         ensures spot { IfSome result (λ at. IsSpot (labels_size self.old) at) }
         ensures next { IfSome result (λ at. IsTakenOut self.old self.new at.vertex.0) }
         ensures none { result ≡ None → (v key : ℕ) → ¬ HasKey self.old v key }
+        ensures same { result ≡ None → self.new ≡ self.old }
     {
         if self.row.is_waiting() {
             Some(self.row.take())

@@ -19,15 +19,15 @@ const FIRST_VIAS: u64 = 32;
 /// A search counts for one part of so many in what is kept.
 const WINDOW: u64 = 8;
 
-/// How far above a tree of the flat grid the limit of a search begins, and by how much it is raised first.
+/// How far above what tiles and balls tell the limit of a search begins, and by how much it is raised first.
 #[derive(Clone, Copy)]
 pub(crate) struct Slacks {
     pub(crate) first: u64,
     pub(crate) more: u64,
 }
 
-/// What searches came to of as many terminals that lie as far apart: the gap between a least tree of the grid and one of the
-/// flat grid, as a mean in which the latest ones count most, and none for more than twice as much as those before. A limit that
+/// What searches came to of as many terminals that lie as far apart: the gap between a least tree of the grid and what
+/// tiles and balls tell of it, as a mean in which the latest ones count most, and none for more than twice as much as those before. A limit that
 /// is too high costs more than one that is too low, and the tree is the same under any.
 #[derive(Drop)]
 pub struct Gaps {

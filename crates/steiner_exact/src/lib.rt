@@ -7,18 +7,20 @@
 //! let (tree, weight) = least_tree(alloc, &weighing, terminals.list(), &mut labels)?;
 //! ```
 //!
-//! A table of the flat grid, searched under boxes of terminals, bounds a table of the grid; the tree is read back from its
-//! numbers. Both bounds are families of `steiner_tables`, and so is any other that a caller has. Between two terminals there
-//! is one search of the grid, led by a search of the flat grid where vias weigh little, and by floors elsewhere.
+//! A table of the flat grid, searched under boxes of terminals, bounds a table of the grid, together with balls around the
+//! terminals where vias weigh much; the tree is read back from its numbers. These bounds are families of `steiner_tables`, and
+//! so is any other that a caller has. Between two terminals there is one search of the grid, led by a search of the flat grid
+//! where vias weigh little, and by floors elsewhere.
 //!
-//! It stands on `shortest_paths` for searches, on `tree_set` for sets of pieces and on `grid_graph` for weights that know
-//! lower bounds of themselves. A tree takes memory for its own pieces, its terminals
-//! and the vertices of one guessed tree, and none that grows with the grid.
+//! It stands on `terminal_balls` for balls, on `shortest_paths` for searches, on `tree_set` for sets of pieces and on
+//! `grid_graph` for weights that know lower bounds of themselves. A tree takes memory for its own pieces, its terminals
+//! and the vertices of one guessed tree, and none that grows with the grid, but for the first one of which balls are grown.
 //!
 //! Promised: the tree is a set of allowed pieces that joins the terminals, no such set weighs less, and the weight is its
 //! own.
 #![tactic(auto)]
 
+mod ball_family;
 mod box_family;
 mod boxes;
 mod extent;
@@ -42,6 +44,7 @@ mod tiles;
 mod tree_labels;
 mod trees;
 
+pub use ball_family::BallFamily;
 pub use box_family::BoxFamily;
 pub use boxes::{MASKS, boxes_of};
 pub use extent::Extent;

@@ -7,8 +7,8 @@ pub(crate) const MOST: u64 = (1 << 61) - 1;
 /// the weights of edges.
 pub const FIRST_SLACK: u64 = 32;
 
-/// By how much the limit of a table of tiles is above the weight of a tree at least. The numbers left out of it are weak bounds,
-/// so it must stay above the limits of the searches that it bounds.
+/// By how much the limit of a table of tiles is above the weight of a tree at least, where no search tells. The numbers left out
+/// of it are weak bounds, so it must stay above the limits of the searches that it bounds.
 pub(crate) const TABLE_SLACK: u64 = 512;
 
 /// The same in vias; the greater of the two counts.
@@ -16,7 +16,7 @@ pub const TABLE_VIAS: u64 = 12;
 
 /// The greatest weight of a via at which a search between tiles leads the one of the grid between two terminals: its slack is
 /// then worth eight vias or more. Above it ways differ most by their vias, of which the flat grid knows nothing,
-/// and limits are learned.
+/// so balls grow around terminals, and limits are learned.
 pub(crate) const LED_VIA: u64 = FIRST_SLACK / 8;
 
 /// The greatest lower bound.

@@ -1,16 +1,16 @@
 //! Lower bounds by a table of the flat grid.
 
-ghost use Rattle.std.specs.Prelude.{◌≡◌, ◌≤◌, ◌-◌, All, length};
+ghost use Rattle.std.specs.Prelude.{ℕ, ◌≡◌, ◌≤◌, ◌-◌, All, length};
 ghost use Rattle.grid_base.specs.Numbers.{IsVertex};
 ghost use Rattle.grid_graph.specs.Flat.{IsFlatOf};
 ghost use Rattle.grid_graph.specs.Limits.{max_weight};
 ghost use Rattle.shortest_paths.specs.LabelWords.{labels_size, masks_of, label_of};
 ghost use Rattle.steiner_tables.specs.Masks.{proper_masks, few_terminals};
 ghost use Rattle.label_search.specs.Stamped.{most, far};
-ghost use Rattle.steiner_tables.specs.Tables.{IsFamily};
+ghost use Rattle.steiner_tables.specs.Tables.{IsFamily, completed};
 ghost use Rattle.steiner_exact.specs.Boxes.{AreBoxes};
 ghost use Rattle.grid_graph.specs.TilePieces.{tiles_of};
-ghost use Rattle.steiner_exact.specs.RowLows.{row_low};
+ghost use Rattle.steiner_exact.specs.RowLows.{IsBeside, layers_low, raised_by};
 
 use crate::boxes::{MASKS, boxes_of};
 use crate::limits::MOST_LOW;
@@ -41,19 +41,21 @@ pub struct RowFamily<'a, W: FlooredWeights, B: Family> {
     ghost within: { limit ≤ most },
     ghost low_via: { via ≤ max_weight },
     ghost boxed: { AreBoxes size terminals.now boxes },
-    ghost holds: { IsFamily size (W.pieces weights.now) terminals.now (row_low size terminals.now via (B.low bounds.now) limit (label_of labels.now)) },
+    ghost layered: { IsBeside size (W.pieces weights.now) (W.over weights.now) terminals.now (layers_low size terminals.now via) },
+    ghost over: { (beside : ℕ → ℕ → ℕ) → IsBeside size (W.pieces weights.now) (W.over weights.now) terminals.now beside → IsFamily size (W.pieces weights.now) terminals.now (raised_by size (completed (tiles_of size terminals.now) (B.low bounds.now) limit far (label_of labels.now)) beside) },
 }
 
 impl<'a, W: FlooredWeights, B: Family> RowFamily<'a, W, B> {
-    ghost use Rattle.std.specs.Prelude.{◌≡◌, ◌≤◌, ◌+◌, ◌-◌, ◌<◌, All, length};
+    ghost use Rattle.std.specs.Prelude.{◌≡◌, ◌≤◌, ◌+◌, ◌-◌, ◌^◌, ◌<◌, All, length};
     ghost use Rattle.grid_base.specs.Numbers.{IsVertex, place_at};
-    ghost use Rattle.grid_graph.specs.Flat.{IsFlatOf};
+    ghost use Rattle.grid_graph.specs.Flat.{IsFlatOf, tile_of};
     ghost use Rattle.shortest_paths.specs.LabelWords.{labels_size, masks_of, label_of};
     ghost use Rattle.label_search.specs.Stamped.{most, far};
     ghost use Rattle.steiner_tables.specs.Masks.{proper_masks, few_terminals, all_of};
     ghost use Rattle.steiner_tables.specs.Tables.{IsPrunedTable, completed};
     ghost use Rattle.steiner_exact.specs.FlatPieces.{edges_with};
     ghost use Rattle.grid_graph.specs.TilePieces.{tiles_of};
+    ghost use Rattle.steiner_exact.specs.RowLows.{layers_low};
 
     /// The bounds by these labels, which are those of the tiles of at most five terminals by a search under `bounds` and
     /// this limit.
@@ -92,6 +94,28 @@ impl<'a, W: FlooredWeights, B: Family> RowFamily<'a, W, B> {
         }
     }
 
+    /// The completed number of a mask at the tile under a vertex, and what its layers to go weigh.
+    pub(crate) fn parts(&self, mask: u32, v: Vertex, place: Place) -> (u64, u64)
+        requires some { 0 < mask }
+        requires mask { mask < all_of self.now.terminals.now }
+        requires vertex { IsVertex self.now.size v.0 }
+        requires place { place ≡ place_at self.now.size v.0 }
+        ensures across { result.0 ≡ completed (tiles_of self.now.size self.now.terminals.now) (B.low self.now.bounds.now) self.now.limit far (label_of self.now.labels.now) mask (tile_of self.now.size v.0) }
+        ensures layers { result.1 ≡ layers_low self.now.size self.now.terminals.now self.now.via mask v.0 }
+        ensures across_limit { result.0 ≤ far }
+        ensures layers_limit { result.1 ≤ 2 ^ 42 }
+    {
+        let tile = Vertex(place.row * self.size.cols() + place.col);
+        let ground = Place {
+            col: place.col,
+            row: place.row,
+            layer: 0,
+        };
+        let across = self.across(mask, tile, ground);
+        let layers = self.boxes[mask as usize].layers.width_with(place.layer);
+        (across, u64::from(layers) * self.via)
+    }
+
     /// The completed number of a mask at a tile, which stands at this place of the flat grid.
     fn across(&self, mask: u32, tile: Vertex, place: Place) -> u64
         requires some { 0 < mask }
@@ -116,7 +140,7 @@ impl<'a, W: FlooredWeights, B: Family> RowFamily<'a, W, B> {
 
 impl<'a, W: FlooredWeights, B: Family> Family for RowFamily<'a, W, B> {
     ghost use Rattle.shortest_paths.specs.LabelWords.{label_of};
-    ghost use Rattle.steiner_exact.specs.RowLows.{row_low};
+    ghost use Rattle.steiner_exact.specs.RowLows.{layers_low, row_low};
 
     ghost size = { λ x. x.size };
 
@@ -126,17 +150,10 @@ impl<'a, W: FlooredWeights, B: Family> Family for RowFamily<'a, W, B> {
 
     ghost low = { λ x. row_low x.size x.terminals.now x.via (B.low x.bounds.now) x.limit (label_of x.labels.now) };
 
-    ghost holds = { λ x. x.holds };
+    ghost holds = { λ x. x.over (layers_low x.size x.terminals.now x.via) x.layered };
 
     fn low(&self, mask: u32, v: Vertex, place: Place) -> u64 {
-        let tile = Vertex(place.row * self.size.cols() + place.col);
-        let ground = Place {
-            col: place.col,
-            row: place.row,
-            layer: 0,
-        };
-        let across = self.across(mask, tile, ground);
-        let layers = self.boxes[mask as usize].layers.width_with(place.layer);
-        (across + u64::from(layers) * self.via).min(MOST_LOW)
+        let (across, layers) = self.parts(mask, v, place);
+        (across + layers).min(MOST_LOW)
     }
 }

@@ -7,15 +7,18 @@ use grid_base::{NoMemory, Size};
 use shortest_paths::Labels;
 use std::alloc::Global;
 use steiner_tables::{PROPER_MASKS, ROOTED_MASKS};
+use terminal_balls::TerminalBalls;
 
-/// Labels of a grid and of its flat grid, the flat grid's edges, and by how much trees of the one weigh more than those of the
-/// other; made once and used for many trees.
+/// Labels of a grid and of its flat grid, the flat grid's edges, by how much trees of the one weigh more than those of the
+/// other, and balls around terminals; made once and used for many trees.
 #[derive(Drop)]
 pub struct TreeLabels {
     pub grid: Labels,
     pub flat: Labels,
     pub flat_edges: Vec<bool>,
     pub gaps: Gaps,
+    /// None before any are grown: they take memory only where vias weigh much.
+    pub balls: Option<TerminalBalls>,
 }
 
 impl TreeLabels {
@@ -32,6 +35,7 @@ impl TreeLabels {
             flat: Labels::new(alloc, flat, PROPER_MASKS)?,
             flat_edges: flags_of(alloc, flat)?,
             gaps: Gaps::new(alloc)?,
+            balls: None,
         })
     }
 }

@@ -10,7 +10,7 @@ use Rattle.steiner_exact.proofs.BoxSteps.{few_masks_all, some_masks_all}
 use Rattle.grid_graph.proofs.TileLists.{tiles_vertices}
 use Rattle.grid_graph.proofs.TileSteps.{flat_tiles}
 use Rattle.steiner_exact.specs.FlatPieces.{edge_flags}
-use Rattle.steiner_exact.proofs.trees.least_by_tiles.Goals as goal
+use Rattle.steiner_exact.proofs.trees.least_over_tiles.Goals as goal
 
 -- tiles of terminals, however the sizes are called
 vertices_of : (flat s grid : Size) (terminals tiles : List Vertex) → IsFlatOf flat s → grid ≡ s → tiles ≡ tiles_of grid terminals → All (λ (v : Vertex). IsVertex flat v.0) tiles
@@ -20,19 +20,19 @@ vertices_of flat s grid terminals tiles is same made =
 pub new-bounds-requires-clause-terminals : goal.new-bounds-requires-clause-terminals
 new-bounds-requires-clause-terminals g c =
     let tiles = c.as_slice-tiles in
-    subst (λ (x : Size). All (λ (v : Vertex). IsVertex x v.0) tiles.result.now) (sym c.size-4.ensures)
-    (vertices_of (labels_size c.args.labels.now.flat) (g.W.Weights.size c.args.weights.now) c.size-2.result c.args.terminals.now
-    tiles.result.now c.requires.labels.flat (c.size-2.ensures ∙ c.requires.labels.grid) (tiles.ensures.value ∙ c.in_ok-listed.ensures.tiles))
+    subst (λ (x : Size). All (λ (v : Vertex). IsVertex x v.0) tiles.result.now) (sym c.size-3.ensures)
+    (vertices_of (labels_size c.args.labels.now.flat) (g.W.Weights.size c.args.weights.now) c.size.result c.args.terminals.now
+    tiles.result.now c.requires.labels.flat (c.size.ensures ∙ c.requires.labels.grid) (tiles.ensures.value ∙ c.in_ok-listed.ensures.tiles))
 
-pub overflow_sub-last : goal.overflow_sub-last
-overflow_sub-last g c =
-    omega (arith, c.all_of-last.ensures, some_masks_all (length c.as_slice-tiles.result.now) (omega (arith, c.as_slice-tiles.ensures.len, c.in_ok-listed.ensures.long, c.requires.two)))
+pub overflow_sub-all_of : goal.overflow_sub-all_of
+overflow_sub-all_of g c =
+    omega (arith, c.all_of.ensures, some_masks_all (length c.as_slice-tiles.result.now) (omega (arith, c.as_slice-tiles.ensures.len, c.in_ok-listed.ensures.long, c.requires.two)))
 
 pub pruned-requires-clause-room : goal.pruned-requires-clause-room
 pruned-requires-clause-room g c =
     omega (
       arith,
-      c.all_of-last.ensures,
+      c.all_of.ensures,
       few_masks_all (length c.as_slice-tiles.result.now) (omega (arith, c.as_slice-tiles.ensures.len, c.in_ok-listed.ensures.long, c.requires.few)),
       c.requires.labels.flat_room,
       c.tree_guess.ensures.masks,
@@ -40,14 +40,14 @@ pruned-requires-clause-room g c =
 
 pub pruned-requires-clause-last : goal.pruned-requires-clause-last
 pruned-requires-clause-last g c =
-    omega (arith, c.all_of-last.ensures, some_masks_all (length c.as_slice-tiles.result.now) (omega (arith, c.as_slice-tiles.ensures.len, c.in_ok-listed.ensures.long, c.requires.two)))
+    omega (arith, c.all_of.ensures, some_masks_all (length c.as_slice-tiles.result.now) (omega (arith, c.as_slice-tiles.ensures.len, c.in_ok-listed.ensures.long, c.requires.two)))
 
 pub root_label-requires-clause-terminals : goal.root_label-requires-clause-terminals
 root_label-requires-clause-terminals g c =
     let tiles = c.as_slice-tiles in
     subst (λ (x : Size). All (λ (v : Vertex). IsVertex x v.0) tiles.result.now) (sym (c.pruned.ensures.size ∙ c.tree_guess.ensures.size))
-    (vertices_of (labels_size c.args.labels.now.flat) (g.W.Weights.size c.args.weights.now) c.size-2.result c.args.terminals.now
-    tiles.result.now c.requires.labels.flat (c.size-2.ensures ∙ c.requires.labels.grid) (tiles.ensures.value ∙ c.in_ok-listed.ensures.tiles))
+    (vertices_of (labels_size c.args.labels.now.flat) (g.W.Weights.size c.args.weights.now) c.size.result c.args.terminals.now
+    tiles.result.now c.requires.labels.flat (c.size.ensures ∙ c.requires.labels.grid) (tiles.ensures.value ∙ c.in_ok-listed.ensures.tiles))
 
 pub root_label-requires-clause-room : goal.root_label-requires-clause-room
 root_label-requires-clause-room g c =
@@ -60,21 +60,15 @@ root_label-requires-clause-room g c =
       c.tree_guess.ensures.masks,
     )
 
-pub new-family-requires-clause-terminals : goal.new-family-requires-clause-terminals
-new-family-requires-clause-terminals g c =
-    subst (λ (x : Size). All (λ (v : Vertex). IsVertex x v.0) c.args.terminals.now) (sym (c.size-size.ensures ∙ c.requires.labels.grid)) c.requires.terminals
-
-pub least_at_root-least-requires-clause-room : goal.least_at_root-least-requires-clause-room
-least_at_root-least-requires-clause-room g c = omega (arith, few_masks c.args.terminals.now c.requires.few, c.requires.labels.grid_room)
-
 pub returns-clause-labels : goal.returns-clause-labels
 returns-clause-labels g c =
     let old = c.requires.labels in
     let flat = c.pruned.ensures.size ∙ c.tree_guess.ensures.size in
     record {
-      grid = c.least_at_root-least.ensures.size ∙ old.grid;
-      grid_room = omega (arith, c.least_at_root-least.ensures.masks, old.grid_room);
+      grid = c.least_by_row-least.ensures.size ∙ old.grid;
+      grid_room = omega (arith, c.least_by_row-least.ensures.masks, old.grid_room);
       flat = subst (λ (x : Size). IsFlatOf x (g.W.Weights.size c.args.weights.now)) (sym flat) old.flat;
       flat_room = omega (arith, c.pruned.ensures.masks, c.tree_guess.ensures.masks, old.flat_room);
       flat_edges = old.flat_edges ∙ ap edge_flags (sym flat);
+      balls = old.balls;
     }

@@ -1,0 +1,13 @@
+//! The limits of growths.
+
+/// So many terminals have balls at most.
+pub(crate) const MOST_TERMINALS: usize = 5;
+
+/// So many masks there are of them.
+pub(crate) const MASKS: usize = 32;
+
+/// No ball is wider. No number that a vertex is offered within it is as great as what stands for none.
+pub(crate) const WIDEST: u64 = 1 << 56;
+
+/// So many vertices are taken out for each terminal, after which the balls end. More make them hardly wider.
+pub(crate) const VERTICES: usize = 50;
