@@ -1,5 +1,6 @@
 -- Labels for the search of trees.
-use Rattle.std.specs.Prelude.{◌≡◌, ◌≤◌, IfSome}
+use Rattle.std.specs.Prelude.{◌≡◌, ◌≤◌}
+use Rattle.std.specs.Option.{ForSome}
 use Rattle.grid_base.specs.declared.size.Size.{Size}
 use Rattle.grid_graph.specs.Flat.{IsFlatOf}
 use Rattle.shortest_paths.specs.LabelWords.{labels_size, masks_of}
@@ -16,4 +17,4 @@ pub record AreTreeLabels (s : Size) (labels : TreeLabels) : Type 0 where
   pub flat : IsFlatOf (labels_size labels.flat) s
   pub flat_room : proper_masks ≤ masks_of labels.flat
   pub flat_edges : labels.flat_edges.items ≡ edge_flags (labels_size labels.flat)
-  pub balls : IfSome labels.balls (λ b. AreInGrid s b)
+  pub balls : ForSome labels.balls (λ b. AreInGrid s b)

@@ -1,6 +1,6 @@
 //! Trees of least weight.
 
-ghost use Rattle.std.specs.Prelude.{◌≡◌, ◌≤◌, ◌<◌, [], All, IfOk, IfSome, length};
+ghost use Rattle.std.specs.Prelude.{◌≡◌, ◌≤◌, ◌<◌, [], All, IfOk, length};
 ghost use Rattle.std.specs.Option.{ForSome};
 ghost use Rattle.grid_base.specs.Numbers.{IsVertex};
 ghost use Rattle.grid_base.specs.Walks.{Joins, InVertices};
@@ -190,7 +190,7 @@ fn grown_balls<W: FlooredWeights>(
     kept: Option<TerminalBalls>,
 ) -> Result<TerminalBalls, NoMemory>
     requires size { size ≡ W.size weights.now }
-    requires kept { IfSome kept (λ b. AreInGrid (W.size weights.now) b) }
+    requires kept { ForSome kept (λ b. AreInGrid (W.size weights.now) b) }
     requires terminals { All (λ v. IsVertex (W.size weights.now) v.0) terminals.now }
     requires few { length terminals.now ≤ few_terminals }
     ensures balls { IfOk result (λ b. AreBalls (W.size weights.now) (W.pieces weights.now) (W.over weights.now) terminals.now (balls_of b)) }
