@@ -26,9 +26,9 @@ pub(crate) struct Slacks {
     pub(crate) more: u64,
 }
 
-/// What searches came to of as many terminals that lie as far apart: the gap between a least tree of the grid and what
-/// tiles and balls tell of it, as a mean in which the latest ones count most, and none for more than twice as much as those before. A limit that
-/// is too high costs more than one that is too low, and the tree is the same under any.
+/// What searches came to of as many terminals that lie as far apart: the gap between a least tree of the grid and what tiles and
+/// balls tell of it, as a mean in which the latest ones count most, and none for more than twice as much as those before. A limit
+/// that is too high costs more than one that is too low, and the tree is the same under any.
 #[derive(Drop)]
 pub struct Gaps {
     /// In parts of a via; 0 where no search was made yet, or none that had a gap.

@@ -204,7 +204,7 @@ fn grown_balls<W: FlooredWeights>(
     Ok(balls)
 }
 
-/// What balls around so many terminals have together outside of them all.
+/// What balls around so many terminals have together outside of them all. Where two of them meet at a piece, both count it.
 fn whole_of(balls: Option<&TerminalBalls>, count: usize) -> u64
     requires { count ≤ few_terminals }
 {

@@ -9,5 +9,6 @@ pub(crate) const MASKS: usize = 32;
 /// No ball is wider. No number that a vertex is offered within it is as great as what stands for none.
 pub(crate) const WIDEST: u64 = 1 << 56;
 
-/// So many vertices are taken out for each terminal, after which the balls end. More make them hardly wider.
-pub(crate) const VERTICES: usize = 50;
+/// So many vertices are taken out for each terminal, after which the balls end. With twice as many, searches of trees take out a
+/// fiftieth less.
+pub(crate) const VERTICES_EACH: usize = 50;

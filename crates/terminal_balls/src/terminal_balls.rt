@@ -1,6 +1,6 @@
 //! Balls around the terminals of a net.
 
-use crate::limits::{MASKS, MOST_TERMINALS, VERTICES};
+use crate::limits::{MASKS, MOST_TERMINALS, VERTICES_EACH};
 use crate::sums::sums_of;
 use grid_base::{NoMemory, Size, Vertex};
 use grid_graph::FlooredWeights;
@@ -47,7 +47,7 @@ impl TerminalBalls {
     {
         self.clear();
         self.begin(terminals);
-        for _ in 0..VERTICES * terminals.len() {
+        for _ in 0..VERTICES_EACH * terminals.len() {
             self.advance(weights);
         }
         self.end();
