@@ -26,7 +26,7 @@ pub(crate) fn mixed(seed: u32, i: u32) -> u32 {
 
 /// One piece in four is a wall, one in eight is as heavy as a choked edge, and some weigh the least.
 fn drawn_weight(draw: u32, least: u64) -> Option<u64>
-    requires { least ≤ 1 }
+    requires { least ≤ 6 }
 {
     match draw % 8 {
         0 | 1 => None,
@@ -42,7 +42,7 @@ pub(crate) fn drawn(
     seed: u32,
     least: u64,
 ) -> Result<Option<Listed>, NoMemory>
-    requires { least ≤ 1 }
+    requires { least ≤ 6 }
     ensures { IfOk result (λ found. IfSome found (λ x. x.size ≡ size)) }
 {
     let mut pieces = Vec::new(alloc);

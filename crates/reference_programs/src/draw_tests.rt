@@ -56,6 +56,14 @@ tree|6 5 1|16|none
 tree|4 3 3|16|none
 tree|5 4 2|16|none
 tree|9 1 2|16|none
+# the same where vias weigh so much that balls grow around terminals, and limits are learned
+heavy tree|2 2 2|16|none
+heavy tree|2 1 3|16|none
+heavy tree|1 1 5|16|none
+heavy tree|3 2 2|16|none
+heavy tree|4 3 3|16|none
+heavy tree|5 4 2|16|none
+heavy tree|9 1 2|16|none
 # no spanning tree by distances is lighter
 span|3 2 1|21|none
 span|2 2 2|21|none
@@ -76,12 +84,12 @@ fn joined_agree(
     requires labels { AreTreeLabels size labels.old }
     ensures labels { AreTreeLabels size labels.new }
 {
-    let more = if what == "tree" { seed % 4 } else { seed % 7 };
+    let more = if what == "span" { seed % 7 } else { seed % 4 };
     let terminals = drawn_terminals(alloc, size, seed.wrapping_add(99), 2 + more)?;
-    if what == "tree" {
-        tree_agrees(alloc, weights, size, terminals.as_slice(), labels)
-    } else {
+    if what == "span" {
         is_light(alloc, weights, size, terminals.as_slice(), &mut labels.grid)
+    } else {
+        tree_agrees(alloc, weights, size, terminals.as_slice(), labels)
     }
 }
 
@@ -102,7 +110,7 @@ fn weighed_agree(
         "path" => path_agrees(alloc, weights, size),
         "distances" => Ok(distances_agree(alloc, weights, size)?),
         "weights" => weights_agree(alloc, weights, size),
-        "tree" | "span" => joined_agree(alloc, what, weights, size, seed, labels),
+        "tree" | "heavy tree" | "span" => joined_agree(alloc, what, weights, size, seed, labels),
         _ => Err(Fail::new(what)),
     }
 }
@@ -126,6 +134,7 @@ fn agree(
         "merging" => return merging_agrees(alloc, size, number),
         "row" => return row_agrees(alloc, size),
         "distances" | "weights" => 0,
+        "heavy tree" => 6,
         _ => 1,
     };
     let weights = drawn(alloc, size, number, least)?.ok_or("pieces")?;
