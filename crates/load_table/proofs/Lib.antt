@@ -1,2 +1,3 @@
 pub mod HeldAfter
 pub mod KeptRule
+pub mod RunSteps

@@ -2,4 +2,6 @@ pub use Rattle.load_core.specs.Entries
 pub use Rattle.load_core.specs.Parties
 pub use Rattle.load_core.specs.Soundness
 pub mod Holdings
+pub mod Runs
+pub mod Shortened
 pub mod Tables

@@ -1,11 +1,14 @@
 //! A share of a table.
 
-ghost use Rattle.std.specs.Prelude.{◌≡◌, ◌<◌, ◌≤◌, ◌+◌, [], replicate, slice_index, true, false, IfOk, OnErr};
+ghost use Rattle.std.specs.Prelude.{◌≡◌, ◌<◌, ◌≤◌, ◌+◌, ℕ, [], replicate, slice_index, true, IfOk, OnErr};
 ghost use Rattle.load_core.specs.Events.{MayAdd, MayLoad, MaySub};
 ghost use Rattle.load_core.specs.Parties.{IsPart, added, first_party, joined, kept_after_split, loaded, share_at, split_off, taken, whole_allotment};
 ghost use Rattle.load_core.specs.Soundness.{IsCloseTo};
 ghost use Rattle.load_table.specs.Holdings.{IsShare, held};
+ghost use Rattle.load_table.specs.Runs.{LoadsRun};
 
+use crate::found::Found;
+use crate::reloading::load_while_same;
 use crate::table::LoadTable;
 use crate::{handing, steps};
 use atomic_table::Seat;
@@ -22,7 +25,7 @@ pub struct Share {
     seat: Seat<u8, Party>,
     allotment: u64,
     shares: Vec<u64>,
-    last: Vec<u64>,
+    last: Found,
 }
 
 impl Model for Share {
@@ -32,14 +35,14 @@ impl Model for Share {
 
     ghost view = { λ s. held s.seat.table_id s.seat.me.0 };
 
-    ghost invariant = { λ s. IsHolding s.seat.table_id s.seat.me s.allotment s.shares.items s.last.items };
+    ghost invariant = { λ s. IsHolding s.seat.table_id s.seat.me s.allotment s.shares.items s.last };
 }
 
 impl Share {
-    /// The one share of a new table, from two lists of as many zeros as the table has words.
-    pub(crate) fn whole(seat: Seat<u8, Party>, shares: Vec<u64>, last: Vec<u64>) -> Share
+    /// The one share of a new table, from as many zeros as the table has words, twice.
+    pub(crate) fn whole(seat: Seat<u8, Party>, shares: Vec<u64>, last: Found) -> Share
         requires party { seat.me ≡ (first_party seat.table_id.words, []) }
-        requires zeros { (shares.items ≡ replicate seat.table_id.words 0) × (last.items ≡ replicate seat.table_id.words 0) }
+        requires zeros { (shares.items ≡ replicate seat.table_id.words 0) × (last ≡ replicate seat.table_id.words 0) }
         ensures held { result ≡ held seat.table_id seat.me.0 }
     {
         Share {
@@ -65,7 +68,7 @@ impl Share {
         ensures last { result ≡ slice_index self.now.party.last word }
         ensures share { IsShare self.now }
     {
-        self.last[word as usize]
+        self.last.at(word)
     }
 
     /// The most that this share may have of a word.
@@ -113,28 +116,34 @@ impl Share {
         ensures share { IsShare self.new }
     {
         let found = steps::load(&table.table.shared, &mut self.seat, word as usize);
-        self.last[word as usize] = found;
+        self.last.put(word, found);
         found
     }
 
-    /// Loads a word as `load` does, and answers whether it found another value than the last load of the word. What was
-    /// found is the last value of the word from then on. Where most words are as they were, this writes little memory.
-    pub fn reload(&mut self, table: &LoadTable, word: u32) -> bool
+    /// Loads words one after another, each as `load` does: from `first` on through the first that is found other than it was
+    /// last, and up to `end` where none is. Answers the number behind the last one loaded. Where most words are as they were,
+    /// this takes less time than a copy of them.
+    pub fn reload(&mut self, table: &LoadTable, first: u32, end: u32) -> u32
         requires table { self.old.table ≡ table.now }
-        requires word { word < table.now.words }
-        ensures close { IsCloseTo self.old.party word (slice_index self.new.party.last word) }
-        ensures whole { slice_index self.new.party.last word ≤ whole_allotment }
-        ensures same { result ≡ false → slice_index self.new.party.last word ≡ slice_index self.old.party.last word }
-        ensures lawful { MayLoad table.now.words self.old.party word }
-        ensures event { self.new ≡ held self.old.table (loaded self.old.party word (slice_index self.new.party.last word)) }
+        requires some { first < end }
+        requires words { end ≤ table.now.words }
+        ensures next { (first < result) × (result ≤ end) }
+        ensures lawful { (w : ℕ) → first ≤ w → w < result → MayLoad table.now.words self.old.party w }
+        ensures read { LoadsRun first result self.old.party self.new.party }
+        ensures whole { (w : ℕ) → first ≤ w → w < result → slice_index self.new.party.last w ≤ whole_allotment }
+        ensures others { (w : ℕ) → (w + 1 ≡ result → ⊥) → slice_index self.new.party.last w ≡ slice_index self.old.party.last w }
+        ensures table { self.new.table ≡ self.old.table }
         ensures share { IsShare self.new }
     {
-        let now = steps::load(&table.table.shared, &mut self.seat, word as usize);
-        if self.last[word as usize] == now {
-            return false;
-        }
-        self.last[word as usize] = now;
-        true
+        let (next, found) = load_while_same(
+            &table.table.shared,
+            &mut self.seat,
+            &self.last,
+            first,
+            end,
+        );
+        self.last.put(next - 1, found);
+        next
     }
 
     /// Splits off a new share with this allotment and these amounts, one per word: the core's Split. Its cost is linear in
@@ -149,7 +158,7 @@ impl Share {
     {
         let alloc = *self.shares.allocator();
         let shares = given.to_vec(alloc)?;
-        let last = vec![in alloc; 0u64; given.len()]?;
+        let last = Found::zeros(alloc, given.len())?;
         let seat = handing::split(&table.table.shared, &mut self.seat, allot, given);
         self.allotment -= allot;
         lower(&mut self.shares, given);

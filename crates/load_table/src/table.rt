@@ -4,6 +4,7 @@ ghost use Rattle.std.specs.Prelude.{◌≡◌, ◌<◌, IfOk};
 ghost use Rattle.load_core.specs.Parties.{first_party};
 ghost use Rattle.load_table.specs.Holdings.{Holding, held};
 
+use crate::found::Found;
 use crate::rule::Sums;
 use crate::share::Share;
 use atomic_table::Table;
@@ -38,7 +39,7 @@ impl LoadTable {
         ensures share { IfOk result (λ r. r.1 ≡ held r.0 (first_party words)) }
     {
         let zeros = vec![in alloc; 0u64; words as usize]?;
-        let last = vec![in alloc; 0u64; words as usize]?;
+        let last = Found::zeros(alloc, words as usize)?;
         let (table, seat) = Table::<u8, Party, u64, Sums, Global>::of_words(
             alloc,
             &zeros,

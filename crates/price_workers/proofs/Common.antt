@@ -23,8 +23,9 @@ pub use Rattle.grid_graph.specs.declared.net_spec.NetSpec.{NetSpec}
 pub use Rattle.load_core.specs.Parties.{entry, loaded, share_at}
 pub use Rattle.load_core.specs.declared.party.Party.{Party}
 pub use Rattle.load_table.specs.Holdings.{Holding, IsShare, held}
+pub use Rattle.load_table.specs.Runs.{IsReadUpTo, LoadsRun}
 pub use Rattle.price_workers.specs.Marks.{IsFoundBetween, KeepsFound, MarksChanges, MarksEdges, MarksTree, entries_per_mark, mark_for}
-pub use Rattle.price_workers.specs.Readings.{AreCloseTo, IsReadUpTo, LoadsRun, after_reading, first_loads}
+pub use Rattle.price_workers.specs.Readings.{AreCloseTo, after_reading}
 pub use Rattle.price_workers.specs.TreeLoads.{DiffersInShares, GainsTree, HasRoomForSet, HoldsTree, without_tree}
 pub use Rattle.sharing_runs.proofs.Kept.{KeepsSetting-trans, net_load-beyond, tree_load-added}
 pub use Rattle.sharing_runs.specs.NetSteps.{IsLightest, IsStep, IsStepAt, set_weight, weighed}

@@ -4,11 +4,10 @@ ghost use Rattle.std.specs.Prelude.{◌≡◌, ◌+◌, ◌*◌, ◌/◌, ◌≤
 ghost use Rattle.edge_prices.specs.KeptLists.{grid_of, loads_of, KeepsSetting};
 ghost use Rattle.grid_graph.specs.Grids.{entries};
 ghost use Rattle.grid_graph.specs.Limits.{max_load};
-ghost use Rattle.load_core.specs.Parties.{loaded};
-ghost use Rattle.load_core.specs.Soundness.{IsCloseTo};
 ghost use Rattle.load_table.specs.Holdings.{held, IsShare};
+ghost use Rattle.load_table.specs.Runs.{LoadsRun};
 ghost use Rattle.price_workers.specs.Marks.{entries_per_mark, IsFoundBetween, KeepsFound, MarksChanges};
-ghost use Rattle.price_workers.specs.Readings.{after_reading, AreCloseTo, LoadsRun};
+ghost use Rattle.price_workers.specs.Readings.{after_reading, AreCloseTo};
 
 use crate::changes::Changes;
 use edge_prices::KeptPrices;
@@ -18,7 +17,7 @@ use load_table::{LoadTable, Share};
 /// Loads every word of the table, in rising order of its number, so that the kept loads are what was found.
 ///
 /// Where no change is marked, the kept loads are what was found last. So a word that is as it was, as most are, costs a look
-/// at two lists and not at three.
+/// at what was found there, and none at what is kept.
 pub(crate) fn read_all(
     share: &mut Share,
     kept: &mut KeptPrices<'_>,
@@ -36,72 +35,70 @@ pub(crate) fn read_all(
     ensures setting { KeepsSetting kept.old kept.new }
 {
     let words = 2 * grid.size().vertices() + 1;
+    load_all(share, kept, table, words);
+    settle_all(share, kept, changes, words);
+}
+
+/// Loads these words, in rising order. What was kept as it was found last still is.
+fn load_all(share: &mut Share, kept: &mut KeptPrices<'_>, table: &LoadTable, words: u32)
+    requires table { share.old.table ≡ table.now }
+    requires some { 0 < words }
+    requires words { words ≤ table.now.words }
+    requires entries { words ≤ entries (grid_of kept.old) }
+    ensures read { LoadsRun 0 words share.old.party share.new.party }
+    ensures limit { (e : ℕ) → e < words → slice_index share.new.party.last e ≤ max_load }
+    ensures keeps { KeepsFound share.old.party.last (loads_of kept.old) share.new.party.last (loads_of kept.new) }
+    ensures table { share.new.table ≡ share.old.table }
+    ensures valid { IsShare share.new }
+    ensures setting { KeepsSetting kept.old kept.new }
+{
     let mut word = 0;
     while word < words {
-        word = read_run(share, kept, changes, table, word, words);
+        word = load_some(share, kept, table, word, words);
     }
 }
 
-/// Loads the words from this one on that share its mark, and answers the next one.
-fn read_run(
+/// Loads words from this one on, through the first that isn't as it was found last, and answers the next one. The kept load of
+/// the last one loaded becomes what was found.
+fn load_some(
     share: &mut Share,
     kept: &mut KeptPrices<'_>,
-    changes: &Changes,
     table: &LoadTable,
     first: u32,
     words: u32,
 ) -> u32
     requires table { share.old.table ≡ table.now }
-    requires words { words ≡ table.now.words }
-    requires entries { words ≡ entries (grid_of kept.old) }
-    requires first { first < words }
-    requires changes { MarksChanges (grid_of kept.old) changes.now.marks.items share.old.party.last (loads_of kept.old) }
+    requires some { first < words }
+    requires words { words ≤ table.now.words }
+    requires entries { words ≤ entries (grid_of kept.old) }
     ensures next { (first < result) × (result ≤ words) }
     ensures read { LoadsRun first result share.old.party share.new.party }
-    ensures found { IsFoundBetween first result share.new.party.last (loads_of kept.new) }
+    ensures limit { (e : ℕ) → first ≤ e → e < result → slice_index share.new.party.last e ≤ max_load }
+    ensures behind { (e : ℕ) → e < first → slice_index share.new.party.last e ≡ slice_index share.old.party.last e }
     ensures keeps { KeepsFound share.old.party.last (loads_of kept.old) share.new.party.last (loads_of kept.new) }
     ensures table { share.new.table ≡ share.old.table }
     ensures valid { IsShare share.new }
     ensures setting { KeepsSetting kept.old kept.new }
 {
-    let end = changes.next_after(first).min(words);
-    load_run(share, kept, table, first, end);
-    settle_run(share, kept, changes, first, end);
-    end
+    let next = share.reload(table, first, words);
+    settle(kept, next - 1, share.last_of(next - 1));
+    next
 }
 
-/// Loads these words, in rising order. What was kept as it was found last still is.
-fn load_run(share: &mut Share, kept: &mut KeptPrices<'_>, table: &LoadTable, first: u32, end: u32)
-    requires table { share.old.table ≡ table.now }
-    requires some { first < end }
-    requires words { end ≤ table.now.words }
-    requires entries { end ≤ entries (grid_of kept.old) }
-    ensures read { LoadsRun first end share.old.party share.new.party }
-    ensures limit { (e : ℕ) → first ≤ e → e < end → slice_index share.new.party.last e ≤ max_load }
-    ensures keeps { KeepsFound share.old.party.last (loads_of kept.old) share.new.party.last (loads_of kept.new) }
-    ensures table { share.new.table ≡ share.old.table }
-    ensures valid { IsShare share.new }
+/// The kept loads of these words become what was found last: where nothing is marked they are.
+fn settle_all(share: &Share, kept: &mut KeptPrices<'_>, changes: &Changes, words: u32)
+    requires words { words ≤ share.now.table.words }
+    requires entries { words ≡ entries (grid_of kept.old) }
+    requires limit { (e : ℕ) → e < words → slice_index share.now.party.last e ≤ max_load }
+    requires changes { MarksChanges (grid_of kept.old) changes.now.marks.items share.now.party.last (loads_of kept.old) }
+    ensures found { IsFoundBetween 0 words share.now.party.last (loads_of kept.new) }
     ensures setting { KeepsSetting kept.old kept.new }
 {
-    for word in first..end {
-        load_word(share, kept, table, word);
-    }
-}
-
-/// Loads one word, and renews its price where the load differs from what was found last.
-fn load_word(share: &mut Share, kept: &mut KeptPrices<'_>, table: &LoadTable, word: u32)
-    requires table { share.old.table ≡ table.now }
-    requires word { word < table.now.words }
-    requires entry { word < entries (grid_of kept.old) }
-    ensures event { share.new ≡ held table.now (loaded share.old.party word (slice_index share.new.party.last word)) }
-    ensures close { IsCloseTo share.old.party word (slice_index share.new.party.last word) }
-    ensures limit { slice_index share.new.party.last word ≤ max_load }
-    ensures valid { IsShare share.new }
-    ensures keeps { KeepsFound share.old.party.last (loads_of kept.old) share.new.party.last (loads_of kept.new) }
-    ensures setting { KeepsSetting kept.old kept.new }
-{
-    if share.reload(table, word) {
-        kept.set_load(word, share.last_of(word));
+    let mut word = 0;
+    while word < words {
+        let end = changes.next_after(word).min(words);
+        settle_run(share, kept, changes, word, end);
+        word = end;
     }
 }
 
