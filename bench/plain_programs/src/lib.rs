@@ -30,10 +30,11 @@ impl Clock {
         Clock { tells, since: Instant::now() }
     }
 
-    /// Ends a stage.
+    /// Ends a stage. What a build counts is told with it.
     pub fn tell(&mut self, stage: &str) {
         if self.tells {
             println!("seconds of {stage}: {:.3}", self.since.elapsed().as_secs_f64());
+            plain_std::tally::tell();
         }
         self.since = Instant::now();
     }

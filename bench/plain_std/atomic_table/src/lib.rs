@@ -39,6 +39,11 @@ impl<S, V, K, R> Table<S, V, K, R, Global> {
 }
 
 impl<S, V, K, R> Shared<S, V, K, R> {
+    /// All words, for a build that times readings of them.
+    pub fn words(&self) -> &[AtomicU64] {
+        &self.words
+    }
+
     #[inline(always)]
     pub fn fetch_add<P: Play<S, V>>(&self, _: &mut Seat<S, V>, word: usize, amount: u64) -> u64 {
         self.words[word].fetch_add(amount, Ordering::SeqCst)

@@ -8,6 +8,7 @@ pub mod io;
 pub mod prelude;
 pub mod rt;
 pub mod string;
+pub mod tally;
 pub mod thread;
 pub mod vec;
 

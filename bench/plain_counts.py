@@ -1,0 +1,74 @@
+#!/usr/bin/env python3
+"""Counts what `route` does, stage by stage, in a build of its plain sources.
+
+    bench/plain_counts.py CHECKOUT FOLDER DESIGN [WORD ..]
+
+Writes the plain sources of CHECKOUT to FOLDER as bench/plain_build.py does, adds the tallies named below, builds and runs
+`plain_route DESIGN --timing WORD ..`. Behind the seconds of each stage stand
+
+- changes of one load in the lists of prices, and renewals of all prices with the time of each;
+- the time of every second reading of all loads, and that of a plain copy of the words before each of the others;
+- vertices taken out of searches, by the type of the bound that leads them;
+- of each worker's part of a phase or round the seconds of the processor and on the clock.
+
+Counting takes time itself, some nanoseconds a vertex. CHECKOUT may be an earlier commit, where the sources have the same functions.
+"""
+import argparse
+import os
+import re
+import subprocess
+
+HERE = os.path.dirname(os.path.abspath(__file__))
+ONCE = 'static TALLY: std::tally::Tally = std::tally::Tally::new("{}"); TALLY.once();'
+TIMED = 'static TALLY: std::tally::Tally = std::tally::Tally::new("{}"); let _timed = TALLY.timed();'
+# by crate and file: the text behind which something is added, and what
+ADDED = (
+    ('edge_prices/kept_prices', r'fn set_load\(&mut self[^)]*\)\s*\{\n', ONCE.format('changes of one load')),
+    ('edge_prices/kept_prices', r'fn renew\(&mut self\)\s*\{\n\s*if !self\.stale \{\n\s*return;\n\s*\}\n', TIMED.format('renewals of all prices')),
+    ('price_workers/reading', r'fn read_all\([^)]*\)\s*\{\n', 'let _timed = std::tally::reading(table.table.shared.words());'),
+    ('routing_passes/workers', r'if last - first == 1 \{\n', 'let _timed = std::tally::part(first);'),
+    ('label_search/search', r'fn advance<[^{]*\{\n', 'std::tally::taken(core::any::type_name::<B>());'),
+    ('shortest_paths/nearest', r'(?=let at = row\.take\(\);)', 'std::tally::taken("nearest terminal");'),
+    ('shortest_paths/led_search', r'(?=Some\(self\.row\.take\(\)\))', 'std::tally::taken("led search, step by step");'),
+)
+# what the added lines look into
+OPENED = (('load_table/table', 'pub(crate) table: Table', 'pub table: Table'),)
+
+
+def path_of(folder, place):
+    crate, file = place.split('/')
+    return os.path.join(folder, 'crates', crate, 'src', f'{file}.rs')
+
+
+def add_tallies(folder):
+    for place, before, line in ADDED:
+        path = path_of(folder, place)
+        text, found = re.subn(before, lambda match: f'{match.group()}{line}\n', open(path).read(), count=1)
+        if not found:
+            print(f'not counted here: {place}')
+        with open(path, 'w') as out:
+            out.write(text)
+    for place, closed, opened in OPENED:
+        path = path_of(folder, place)
+        text = open(path).read()
+        with open(path, 'w') as out:
+            out.write(text.replace(closed, opened))
+
+
+def main():
+    words = argparse.ArgumentParser(description=__doc__, formatter_class=argparse.RawDescriptionHelpFormatter)
+    words.add_argument('checkout')
+    words.add_argument('folder')
+    words.add_argument('design')
+    words.add_argument('words', nargs=argparse.REMAINDER)
+    asked = words.parse_args()
+    subprocess.run([os.path.join(HERE, 'plain_build.py'), asked.checkout, asked.folder], check=True)
+    add_tallies(asked.folder)
+    subprocess.run(['cargo', 'build', '-q', '--release', '--offline', '-p', 'plain_programs'], cwd=asked.folder, check=True)
+    program = os.path.join(asked.folder, 'target', 'release', 'plain_route')
+    said = subprocess.run([program, asked.design, '--timing', *asked.words], check=True, capture_output=True, text=True).stdout
+    print(re.sub(r'\b\w+::', '', said), end='')
+
+
+if __name__ == '__main__':
+    main()
