@@ -1,60 +1,94 @@
 -- A run of loads, word by word.
-use Rattle.std.proofs.Common.{◌≡◌, ℕ, ◌+◌, ◌<◌, ◌≤◌, List, [], ◌∷◌, ◌++◌, length, slice_index, slice_set, sym, ◌∙◌, ap}
-use Rattle.std.proofs.Common.{subst, arith, below_more}
-use Rattle.std.proofs.lemmas.List.{append_assoc, get_or-set_other, get_or-set_same, length-set}
-use Rattle.std.proofs.lemmas.List.FromFn.{fill_by_all, get_or-map-range_with_len, length-map-range_with_len}
-use Rattle.std.proofs.lemmas.List.FromFn.{map-range_with_len_more}
+use Rattle.std.proofs.Common.{◌≡◌, ℕ, zero, suc, ◌+◌, ◌-◌, ◌<◌, ◌≤◌, List, [], ◌∷◌, ◌++◌, length, slice_index, slice_set, refl, sym, ◌∙◌, ap}
+use Rattle.std.proofs.Common.{subst, ⊎_elim, arith, below_more}
+use Rattle.std.proofs.lemmas.Bool.{cases_lt}
+use Rattle.std.proofs.lemmas.List.{append-nil, append_assoc, get_or-set_other, get_or-set_same, length-set}
+use Rattle.atomic_table.specs.Seated.{TableId}
 use Rattle.load_core.specs.declared.loaded.Loaded.{Loaded}
 use Rattle.load_core.specs.declared.party.Party.{Party}
-use Rattle.atomic_table.specs.Seated.{TableId}
 use Rattle.load_core.specs.Parties.{entry, loaded, whole_allotment}
 use Rattle.load_core.specs.Soundness.{IsCloseTo}
 use Rattle.load_table.specs.Holdings.{IsShare, held}
-use Rattle.load_table.specs.Runs.{IsReadUpTo, first_loads}
+use Rattle.load_table.specs.Runs.{LoadsBetween, loads_from}
 
--- the first loads depend on the first values alone
-first_loads-same : (values others : List ℕ) (k : ℕ) → ((w : ℕ) → w < k → slice_index others w ≡ slice_index values w) → first_loads values k ≡ first_loads others k
-first_loads-same values others k same =
-    let f : ℕ → Loaded = λ word. entry word (slice_index values word) in
-    let d : Loaded = entry 0 0 in
-    fill_by_all (λ word. entry word (slice_index others word)) (first_loads values k) k d (length-map-range_with_len f 0 k)
-    (λ w early. get_or-map-range_with_len f 0 k w w d early (omega arith) ∙ ap (λ (n : ℕ). entry w n) (sym (same w early)))
+-- loads in two runs
+loads-split : (values : List ℕ) (a m n : ℕ) → loads_from values a (m + n) ≡ loads_from values a m ++ loads_from values (a + m) n
+loads-split values a zero n =
+    let count : 0 + n ≡ n = omega arith in
+    let first : a ≡ a + 0 = omega arith in
+    ap (λ (k : ℕ). loads_from values a k) count ∙ ap (λ (k : ℕ). loads_from values k n) first
+loads-split values a (suc m) n =
+    let count : suc m + n ≡ suc (m + n) = omega arith in
+    let first : a + 1 + m ≡ a + suc m = omega arith in
+    ap (λ (k : ℕ). loads_from values a k) count
+    ∙ ap (λ (l : List Loaded). entry a (slice_index values a) ∷ l)
+    (loads-split values (a + 1) m n ∙ ap (λ (k : ℕ). loads_from values (a + 1) m ++ loads_from values k n) first)
 
--- one word more
-pub IsReadUpTo-more : (start p : Party) (values others : List ℕ) (k : ℕ) → IsReadUpTo start p values k → k < length p.last
-    → IsCloseTo p k (slice_index others k)
-    → ((w : ℕ) → (w ≡ k → ⊥) → slice_index others w ≡ slice_index values w)
-    → IsReadUpTo start (loaded p k (slice_index others k)) others (k + 1)
-IsReadUpTo-more start p values others k before within close same =
-    let n : ℕ = slice_index others k in
-    let early : (w : ℕ) → w < k → slice_index others w ≡ slice_index values w = λ w low. same w (λ at. omega (arith, low, at)) in
-    let last : List ℕ = slice_set p.last k n in
-    let history : List Loaded = p.history ++ entry k n ∷ [] in
-    let here = subst (λ (q : Party). IsCloseTo q k n) before.only close in
+-- loads depend on what was found at their words alone
+loads-same : (values others : List ℕ) (a n : ℕ) → ((w : ℕ) → w < a + n → slice_index others w ≡ slice_index values w) → loads_from values a n ≡ loads_from others a n
+loads-same values others a zero same = refl
+loads-same values others a (suc n) same =
+    ap (λ (v : ℕ). entry a v ∷ loads_from values (a + 1) n) (sym (same a (omega arith)))
+    ∙ ap (λ (l : List Loaded). entry a (slice_index others a) ∷ l) (loads-same values others (a + 1) n (λ w early. same w (omega (arith, early))))
+
+-- no word was loaded
+pub run_of_none : (a : ℕ) (p : Party) → LoadsBetween a a p p
+run_of_none a p =
+    let none : 0 ≡ a - a = omega arith in
     record {
-      only = ap (λ (q : Party). record q { last = last; history = history }) before.only;
-      loads = ap (λ (h : List Loaded). h ++ entry k n ∷ []) before.loads
-          ∙ ap (λ (h : List Loaded). (start.history ++ h) ++ entry k n ∷ []) (first_loads-same values others k early)
-          ∙ append_assoc start.history (first_loads others k) (entry k n ∷ [])
-          ∙ ap (λ (h : List Loaded). start.history ++ h)
-          (sym (map-range_with_len_more (λ w. entry w (slice_index others w)) 0 k k (omega arith)));
-      found = below_more (λ w. slice_index last w ≡ slice_index others w) k
-          (λ w low. get_or-set_other p.last k w n 0 (λ at. omega (arith, low, at)) ∙ before.found w low ∙ sym (early w low))
-          (get_or-set_same p.last k n 0 within);
-      near = below_more (λ w. IsCloseTo start w (slice_index others w)) k (λ w low. rw (early w low) (before.near w low))
-          (record { least = here.least; most = here.most });
+      only = refl;
+      loads = sym (append-nil p.history) ∙ ap (λ (k : ℕ). p.history ++ loads_from p.last a k) none;
+      before = λ w low. refl;
+      near = λ w low high. absurd (omega (arith, low, high));
     }
 
--- the same where the values are the last ones of the party
-pub load_one_more : (start p : Party) (k n : ℕ) → IsReadUpTo start p p.last k → k < length p.last → IsCloseTo p k n
-    → IsReadUpTo start (loaded p k n) (slice_set p.last k n) (k + 1)
-load_one_more start p k n before within close =
-    let others : List ℕ = slice_set p.last k n in
-    let there : slice_index others k ≡ n = get_or-set_same p.last k n 0 within in
-    subst (λ (v : ℕ). IsReadUpTo start (loaded p k v) others (k + 1)) there
-    (IsReadUpTo-more start p p.last others k before within (rw there close) (λ w apart. get_or-set_other p.last k w n 0 apart))
+-- one word was loaded
+run_of_one : (p : Party) (k n : ℕ) → k < length p.last → IsCloseTo p k n → LoadsBetween k (k + 1) p (loaded p k n)
+run_of_one p k n within close =
+    let last : List ℕ = slice_set p.last k n in
+    let there : slice_index last k ≡ n = get_or-set_same p.last k n 0 within in
+    let one : 1 ≡ k + 1 - k = omega arith in
+    record {
+      only = refl;
+      loads = ap (λ (v : ℕ). p.history ++ entry k v ∷ []) (sym there) ∙ ap (λ (c : ℕ). p.history ++ loads_from last k c) one;
+      before = λ w low. get_or-set_other p.last k w n 0 (λ at. omega (arith, low, at));
+      near = λ w low high.
+          let at : k ≡ w = omega (arith, low, high) in
+          subst (λ (v : ℕ). IsCloseTo p v (slice_index last v)) at (rw there close);
+    }
 
--- a load that finds what a load may find leaves a share
+-- one run behind another
+pub run_of_two : (a b c : ℕ) (old mid new : Party) → a ≤ b → b ≤ c → LoadsBetween a b old mid → LoadsBetween b c mid new → LoadsBetween a c old new
+run_of_two a b c old mid new ab bc one two =
+    let m : ℕ = b - a in
+    let n : ℕ = c - b in
+    let whole : m + n ≡ c - a = omega (arith, ab, bc) in
+    let there : b ≡ a + m = omega (arith, ab) in
+    let front : loads_from mid.last a m ≡ loads_from new.last a m = loads-same mid.last new.last a m (λ w early. two.before w (omega (arith, early, there))) in
+    record {
+      only = two.only ∙ ap (λ (q : Party). record q { last = new.last; history = new.history }) one.only;
+      loads = two.loads
+          ∙ ap (λ (h : List Loaded). h ++ loads_from new.last b n) one.loads
+          ∙ append_assoc old.history (loads_from mid.last a m) (loads_from new.last b n)
+          ∙ ap (λ (h : List Loaded). old.history ++ h)
+          (ap (λ (h : List Loaded). h ++ loads_from new.last b n) front
+          ∙ ap (λ (k : ℕ). loads_from new.last a m ++ loads_from new.last k n) there
+          ∙ sym (loads-split new.last a m n)
+          ∙ ap (λ (k : ℕ). loads_from new.last a k) whole);
+      before = λ w low. two.before w (omega (arith, low, ab)) ∙ one.before w low;
+      near = λ w low high. ⊎_elim
+          (λ (early : w < b). rw (two.before w early) (one.near w low early))
+          (λ (late : b ≤ w).
+          let here = subst (λ (q : Party). IsCloseTo q w (slice_index new.last w)) one.only (two.near w late high) in
+          record { least = here.least; most = here.most })
+          (cases_lt w b);
+    }
+
+-- one word more
+pub run_of_more : (a k n : ℕ) (old p : Party) → a ≤ k → LoadsBetween a k old p → k < length p.last → IsCloseTo p k n → LoadsBetween a (k + 1) old (loaded p k n)
+run_of_more a k n old p low before within close = run_of_two a k (k + 1) old p (loaded p k n) low (omega arith) before (run_of_one p k n within close)
+
+-- a load leaves a share
 pub share_loaded : (table : TableId) (p : Party) (k n : ℕ) → IsShare (held table p) → IsShare (held table (loaded p k n))
 share_loaded table p k n s = record {
   live = s.live;
@@ -63,7 +97,7 @@ share_loaded table p k n s = record {
   whole = s.whole;
 }
 
--- and is no more than the whole allotment
+-- what a load may find is no more than the whole allotment
 pub fits_whole : (table : TableId) (p : Party) (k n : ℕ) → IsShare (held table p) → IsCloseTo p k n → n ≤ whole_allotment
 fits_whole table p k n s close = omega (arith, close.most, s.within k, s.whole)
 

@@ -1,6 +1,6 @@
 //! What was found last.
 
-ghost use Rattle.std.specs.Prelude.{◌≡◌, ◌<◌, ◌≤◌, length, replicate, slice_index, slice_set, true, IfOk};
+ghost use Rattle.std.specs.Prelude.{◌≡◌, ◌≢◌, ◌<◌, ◌≤◌, length, replicate, slice_index, slice_set, false, true, IfOk};
 ghost use Rattle.load_core.specs.Parties.{whole_allotment};
 ghost use Rattle.load_table.specs.Shortened.{AreShort, IsShort};
 
@@ -34,7 +34,7 @@ impl Found {
         ensures zeros { IfOk result (λ f. f ≡ replicate words 0) }
     {
         let values = vec![in alloc; 0u64; words]?;
-        let short = vec![in alloc; 1u16; words]?;
+        let short = vec![in alloc; short_of(0); words]?;
         Ok(Found { values, short })
     }
 
@@ -75,12 +75,13 @@ fn short_of(value: u64) -> u16
     }
 }
 
-/// Whether a word where this was found is as it was. Both lists have an entry for it.
+/// Whether a word where this was found is as it was.
 pub(crate) fn is_as_before(values: &[u64], short: &[u16], word: u32, found: u64) -> bool
     requires short { AreShort values.now short.now }
     requires word { word < length values.now }
     requires fits { found ≤ whole_allotment }
     ensures same { result ≡ true → slice_index values.now word ≡ found }
+    ensures other { result ≡ false → slice_index values.now word ≢ found }
 {
     found + 1 == u64::from(short[word as usize]) || found == values[word as usize]
 }

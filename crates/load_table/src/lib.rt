@@ -15,8 +15,8 @@
 //!
 //! Promised: between any two steps of whatever threads, the words with the parties of all shares are a sound core of
 //! `load_core` ([`tables_are_sound_between_steps`]), and each call of a share makes the one event of its name on its own
-//! party, `reload` that of `load` for each of its words. So a load finds at least what the share itself has there, and no more above it than the
-//! other allotments leave room for. No call waits.
+//! party, `reload` that of `load` for each of its words. So a load finds at least what the share itself has there, and no
+//! more above it than the other allotments leave room for. No call waits.
 #![tactic(auto)]
 
 mod found;

@@ -1,9 +1,9 @@
 //! Loads of words, one after another.
 
-ghost use Rattle.std.specs.Prelude.{◌≡◌, ◌<◌, ◌≤◌, ◌+◌, ◌-◌, ℕ, [], slice_index, slice_set};
+ghost use Rattle.std.specs.Prelude.{◌≡◌, ◌≢◌, ◌<◌, ◌≤◌, ◌-◌, ℕ, [], slice_index, slice_set};
 ghost use Rattle.load_core.specs.Parties.{whole_allotment};
 ghost use Rattle.load_table.specs.Holdings.{IsShare, held};
-ghost use Rattle.load_table.specs.Runs.{LoadsRun};
+ghost use Rattle.load_table.specs.Runs.{LoadsBetween};
 
 use crate::found::{Found, is_as_before};
 use crate::rule::Sums;
@@ -11,8 +11,8 @@ use crate::steps;
 use atomic_table::{Seat, Shared};
 use load_core::Party;
 
-/// Loads words from `first` on through the first that is found other than it was last, and up to `end` where none is. Answers
-/// the number behind the last one loaded, and what was found there.
+/// Loads words from `first` on, until one is found other than it was last, which is the last one loaded, or until `end`, which
+/// isn't loaded. Answers the number behind the last one loaded, and what was found there.
 pub(crate) fn load_while_same(
     table: &Shared<u8, Party, u64, Sums>,
     seat: &mut Seat<u8, Party>,
@@ -31,8 +31,9 @@ pub(crate) fn load_while_same(
     ensures table { seat.new.table_id ≡ seat.old.table_id }
     ensures free { seat.new.me.1 ≡ [] }
     ensures share { IsShare (held seat.new.table_id seat.new.me.0) }
-    ensures read { LoadsRun first result.0 seat.old.me.0 seat.new.me.0 }
+    ensures read { LoadsBetween first result.0 seat.old.me.0 seat.new.me.0 }
     ensures found { seat.new.me.0.last ≡ slice_set last.now (result.0 - 1) result.1 }
+    ensures changed { result.0 < end → slice_index last.now (result.0 - 1) ≢ result.1 }
     ensures shares { seat.new.me.0.shares ≡ seat.old.me.0.shares }
     ensures allotment { seat.new.me.0.allot ≡ seat.old.me.0.allot }
     ensures whole { (w : ℕ) → first ≤ w → w < result.0 → slice_index seat.new.me.0.last w ≤ whole_allotment }

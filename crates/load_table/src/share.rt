@@ -1,11 +1,11 @@
 //! A share of a table.
 
-ghost use Rattle.std.specs.Prelude.{◌≡◌, ◌<◌, ◌≤◌, ◌+◌, ℕ, [], replicate, slice_index, true, IfOk, OnErr};
+ghost use Rattle.std.specs.Prelude.{◌≡◌, ◌≢◌, ◌<◌, ◌≤◌, ◌+◌, ◌-◌, ℕ, [], replicate, slice_index, true, IfOk, OnErr};
 ghost use Rattle.load_core.specs.Events.{MayAdd, MayLoad, MaySub};
 ghost use Rattle.load_core.specs.Parties.{IsPart, added, first_party, joined, kept_after_split, loaded, share_at, split_off, taken, whole_allotment};
 ghost use Rattle.load_core.specs.Soundness.{IsCloseTo};
 ghost use Rattle.load_table.specs.Holdings.{IsShare, held};
-ghost use Rattle.load_table.specs.Runs.{LoadsRun};
+ghost use Rattle.load_table.specs.Runs.{LoadsBetween};
 
 use crate::found::Found;
 use crate::reloading::load_while_same;
@@ -39,7 +39,7 @@ impl Model for Share {
 }
 
 impl Share {
-    /// The one share of a new table, from as many zeros as the table has words, twice.
+    /// The one share of a new table, from two lists of as many zeros as the table has words.
     pub(crate) fn whole(seat: Seat<u8, Party>, shares: Vec<u64>, last: Found) -> Share
         requires party { seat.me ≡ (first_party seat.table_id.words, []) }
         requires zeros { (shares.items ≡ replicate seat.table_id.words 0) × (last ≡ replicate seat.table_id.words 0) }
@@ -120,18 +120,18 @@ impl Share {
         found
     }
 
-    /// Loads words one after another, each as `load` does: from `first` on through the first that is found other than it was
-    /// last, and up to `end` where none is. Answers the number behind the last one loaded. Where most words are as they were,
-    /// this takes less time than a copy of them.
+    /// Loads words one after another, each as `load` does: from `first` on, until one is found other than it was last, which is
+    /// the last one loaded, or until `end`, which isn't loaded. Answers the number behind the last one loaded.
     pub fn reload(&mut self, table: &LoadTable, first: u32, end: u32) -> u32
         requires table { self.old.table ≡ table.now }
         requires some { first < end }
         requires words { end ≤ table.now.words }
         ensures next { (first < result) × (result ≤ end) }
         ensures lawful { (w : ℕ) → first ≤ w → w < result → MayLoad table.now.words self.old.party w }
-        ensures read { LoadsRun first result self.old.party self.new.party }
+        ensures read { LoadsBetween first result self.old.party self.new.party }
         ensures whole { (w : ℕ) → first ≤ w → w < result → slice_index self.new.party.last w ≤ whole_allotment }
-        ensures others { (w : ℕ) → (w + 1 ≡ result → ⊥) → slice_index self.new.party.last w ≡ slice_index self.old.party.last w }
+        ensures others { (w : ℕ) → w + 1 ≢ result → slice_index self.new.party.last w ≡ slice_index self.old.party.last w }
+        ensures changed { result < end → slice_index self.new.party.last (result - 1) ≢ slice_index self.old.party.last (result - 1) }
         ensures table { self.new.table ≡ self.old.table }
         ensures share { IsShare self.new }
     {

@@ -1,9 +1,8 @@
 -- Words of lower crates, and of this one's specs, that several files of proofs take.
 pub use Rattle.std.proofs.lemmas.Bool.{cases_eq, cases_lt, cond_both}
-pub use Rattle.std.proofs.lemmas.List.{append-nil, append_assoc, ext_get_or, get_or-set_other, get_or-set_same, get_or_past}
+pub use Rattle.std.proofs.lemmas.List.{append-nil, ext_get_or, get_or-set_other, get_or-set_same, get_or_past}
 pub use Rattle.std.proofs.lemmas.List.{get_or_push, length-set, length-take, take_all, take_more}
 pub use Rattle.std.proofs.lemmas.List.FromFn.{fill_by_all, get_or-map-range_with_len, length-map-range_with_len}
-pub use Rattle.std.proofs.lemmas.List.FromFn.{map-range_with_len_more}
 pub use Rattle.std.proofs.lemmas.Option.{get_or_from_slice_get, same_Some, slice_get-get_or, slice_get_within}
 pub use Rattle.std.specs.List.{Contains, range_with_len, sum_by}
 pub use Rattle.atomic_table.specs.Seated.{TableId}
@@ -23,7 +22,7 @@ pub use Rattle.grid_graph.specs.declared.net_spec.NetSpec.{NetSpec}
 pub use Rattle.load_core.specs.Parties.{entry, loaded, share_at}
 pub use Rattle.load_core.specs.declared.party.Party.{Party}
 pub use Rattle.load_table.specs.Holdings.{Holding, IsShare, held}
-pub use Rattle.load_table.specs.Runs.{IsReadUpTo, LoadsRun}
+pub use Rattle.load_table.specs.Runs.{LoadsBetween}
 pub use Rattle.price_workers.specs.Marks.{IsFoundBetween, KeepsFound, MarksChanges, MarksEdges, MarksTree, entries_per_mark, mark_for}
 pub use Rattle.price_workers.specs.Readings.{AreCloseTo, after_reading}
 pub use Rattle.price_workers.specs.TreeLoads.{DiffersInShares, GainsTree, HasRoomForSet, HoldsTree, without_tree}

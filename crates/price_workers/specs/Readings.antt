@@ -1,14 +1,13 @@
 -- Readings: each word of a table is loaded once, in rising order of its number.
-use Rattle.std.specs.Prelude.{ℕ, List, length, map, slice_index, ◌++◌}
-use Rattle.std.specs.List.{range_with_len}
+use Rattle.std.specs.Prelude.{ℕ, List, length, slice_index, ◌++◌}
 use Rattle.load_core.specs.declared.loaded.Loaded.{Loaded}
 use Rattle.load_core.specs.declared.party.Party.{Party}
-use Rattle.load_core.specs.Parties.{entry}
 use Rattle.load_core.specs.Soundness.{IsCloseTo}
+use Rattle.load_table.specs.Runs.{loads_from}
 
 -- the loads of a reading that found these values
 abbrev pub loads_of_reading : List ℕ → List Loaded
-loads_of_reading values = map (λ word. entry word (slice_index values word)) (range_with_len 0 (length values))
+loads_of_reading values = loads_from values 0 (length values)
 
 -- the party after a reading that found these values
 abbrev pub after_reading : Party → List ℕ → Party

@@ -5,7 +5,7 @@ ghost use Rattle.edge_prices.specs.KeptLists.{grid_of, loads_of, KeepsSetting};
 ghost use Rattle.grid_graph.specs.Grids.{entries};
 ghost use Rattle.grid_graph.specs.Limits.{max_load};
 ghost use Rattle.load_table.specs.Holdings.{held, IsShare};
-ghost use Rattle.load_table.specs.Runs.{LoadsRun};
+ghost use Rattle.load_table.specs.Runs.{LoadsBetween};
 ghost use Rattle.price_workers.specs.Marks.{entries_per_mark, IsFoundBetween, KeepsFound, MarksChanges};
 ghost use Rattle.price_workers.specs.Readings.{after_reading, AreCloseTo};
 
@@ -16,8 +16,8 @@ use load_table::{LoadTable, Share};
 
 /// Loads every word of the table, in rising order of its number, so that the kept loads are what was found.
 ///
-/// Where no change is marked, the kept loads are what was found last. So a word that is as it was, as most are, costs a look
-/// at what was found there, and none at what is kept.
+/// Where no mark is set, the kept loads are what was found last. So a word there that is as it was, as most are, costs no look at
+/// what is kept.
 pub(crate) fn read_all(
     share: &mut Share,
     kept: &mut KeptPrices<'_>,
@@ -45,7 +45,7 @@ fn load_all(share: &mut Share, kept: &mut KeptPrices<'_>, table: &LoadTable, wor
     requires some { 0 < words }
     requires words { words ≤ table.now.words }
     requires entries { words ≤ entries (grid_of kept.old) }
-    ensures read { LoadsRun 0 words share.old.party share.new.party }
+    ensures read { LoadsBetween 0 words share.old.party share.new.party }
     ensures limit { (e : ℕ) → e < words → slice_index share.new.party.last e ≤ max_load }
     ensures keeps { KeepsFound share.old.party.last (loads_of kept.old) share.new.party.last (loads_of kept.new) }
     ensures table { share.new.table ≡ share.old.table }
@@ -72,9 +72,8 @@ fn load_some(
     requires words { words ≤ table.now.words }
     requires entries { words ≤ entries (grid_of kept.old) }
     ensures next { (first < result) × (result ≤ words) }
-    ensures read { LoadsRun first result share.old.party share.new.party }
+    ensures read { LoadsBetween first result share.old.party share.new.party }
     ensures limit { (e : ℕ) → first ≤ e → e < result → slice_index share.new.party.last e ≤ max_load }
-    ensures behind { (e : ℕ) → e < first → slice_index share.new.party.last e ≡ slice_index share.old.party.last e }
     ensures keeps { KeepsFound share.old.party.last (loads_of kept.old) share.new.party.last (loads_of kept.new) }
     ensures table { share.new.table ≡ share.old.table }
     ensures valid { IsShare share.new }

@@ -2,8 +2,8 @@ use Rattle.std.proofs.Common.{◌≡◌, ◌<◌, ◌≤◌, ◌+◌, ◌-◌, �
 use Rattle.std.proofs.lemmas.List.{set-get_or}
 use Rattle.load_core.specs.Parties.{whole_allotment}
 use Rattle.load_table.specs.Holdings.{IsShare, held}
-use Rattle.load_table.specs.Runs.{LoadsRun}
-use Rattle.load_table.proofs.RunSteps.{load_one_more, share_loaded, fits_whole, whole_more}
+use Rattle.load_table.specs.Runs.{LoadsBetween}
+use Rattle.load_table.proofs.RunSteps.{run_of_none, run_of_more, share_loaded, fits_whole, whole_more}
 use Rattle.load_table.proofs.reloading.load_while_same.Goals.{After-load-found}
 use Rattle.load_table.proofs.reloading.load_while_same.Goals as goal
 
@@ -13,7 +13,7 @@ loop-word-init c = record {
   table = refl;
   free = c.requires.free;
   share = c.requires.share;
-  read = λ start before. before;
+  read = run_of_none c.args.first c.args.seat.now.me.0;
   last = c.requires.last ∙ sym c.lists.ensures.values;
   shares = refl;
   allotment = refl;
@@ -44,9 +44,11 @@ share-then : (c : After-load-found) → IsShare (held c.load-found.new.seat.tabl
 share-then c = rw (c.load-found.ensures.table, c.load-found.ensures.party)
     (share_loaded c.loop-word.seat.table_id c.loop-word.seat.me.0 c.loop-word.word c.load-found.result c.loop-word.invariant.share)
 
-read-then : (c : After-load-found) → LoadsRun c.args.first (c.loop-word.word + 1) c.args.seat.now.me.0 c.load-found.new.seat.me.0
-read-then c start before = rw c.load-found.ensures.party
-    (load_one_more start c.loop-word.seat.me.0 c.loop-word.word c.load-found.result (c.loop-word.invariant.read start before) (within c) c.load-found.ensures.close)
+read-then : (c : After-load-found) → LoadsBetween c.args.first (c.loop-word.word + 1) c.args.seat.now.me.0 c.load-found.new.seat.me.0
+read-then c =
+    let inv = c.loop-word.invariant in
+    rw c.load-found.ensures.party
+    (run_of_more c.args.first c.loop-word.word c.load-found.result c.args.seat.now.me.0 c.loop-word.seat.me.0 inv.low inv.read (within c) c.load-found.ensures.close)
 
 last-then : (c : After-load-found) → c.load-found.new.seat.me.0.last ≡ slice_set c.args.last.now c.loop-word.word c.load-found.result
 last-then c =
@@ -71,6 +73,7 @@ returns-then-not-is_as_before c =
       share = share-then at;
       read = read-then at;
       found = rw behind (last-then at);
+      changed = λ some. rw (behind, ← c.lists.ensures.values) (c.is_as_before.ensures.other c.if-not-is_as_before.true);
       shares = ap (λ m. m.0.shares) at.load-found.ensures.party ∙ at.loop-word.invariant.shares;
       allotment = ap (λ m. m.0.allot) at.load-found.ensures.party ∙ at.loop-word.invariant.allotment;
       whole = whole-then at;
@@ -111,7 +114,12 @@ returns c =
       free = inv.free;
       share = inv.share;
       read = rw (← end) inv.read;
-      found = rw (← end) (inv.last ∙ sym (set-get_or c.lists.result.0.now (c.loop-word.word - 1) 0) ∙ ap (λ (n : ℕ). slice_set c.lists.result.0.now (c.loop-word.word - 1) n) (sym (inv.found (omega (arith, end, c.requires.some)))) ∙ ap (λ (l : List ℕ). slice_set l (c.loop-word.word - 1) c.loop-word.found) c.lists.ensures.values);
+      found = rw (← end)
+          (inv.last
+          ∙ sym (set-get_or c.lists.result.0.now (c.loop-word.word - 1) 0)
+          ∙ ap (λ (n : ℕ). slice_set c.lists.result.0.now (c.loop-word.word - 1) n) (sym (inv.found (omega (arith, end, c.requires.some))))
+          ∙ ap (λ (l : List ℕ). slice_set l (c.loop-word.word - 1) c.loop-word.found) c.lists.ensures.values);
+      changed = λ some. absurd (omega (arith, some));
       shares = inv.shares;
       allotment = inv.allotment;
       whole = rw (← end, inv.last) inv.whole;

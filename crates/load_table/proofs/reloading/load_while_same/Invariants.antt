@@ -1,7 +1,7 @@
 use Rattle.std.proofs.Common.{◌≡◌, ◌<◌, ◌≤◌, ◌-◌, ℕ, [], slice_index}
 use Rattle.load_core.specs.Parties.{whole_allotment}
 use Rattle.load_table.specs.Holdings.{IsShare, held}
-use Rattle.load_table.specs.Runs.{LoadsRun}
+use Rattle.load_table.specs.Runs.{LoadsBetween}
 use Rattle.load_table.proofs.reloading.load_while_same.Given as goal
 
 -- the words so far were loaded, and each was as before
@@ -11,7 +11,7 @@ invariant-loop-word l = record {
   table : l.seat.table_id ≡ l.initial.seat.table_id;
   free : l.seat.me.1 ≡ [];
   share : IsShare (held l.seat.table_id l.seat.me.0);
-  read : LoadsRun l.fn.first l.word l.initial.seat.me.0 l.seat.me.0;
+  read : LoadsBetween l.fn.first l.word l.initial.seat.me.0 l.seat.me.0;
   last : l.seat.me.0.last ≡ l.values;
   shares : l.seat.me.0.shares ≡ l.initial.seat.me.0.shares;
   allotment : l.seat.me.0.allot ≡ l.initial.seat.me.0.allot;

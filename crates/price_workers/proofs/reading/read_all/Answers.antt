@@ -1,7 +1,7 @@
-use Rattle.std.proofs.Common.{◌≡◌, ◌+◌, ◌*◌, ℕ, List, length, refl, sym, ◌∙◌, ap, subst, arith}
-use Rattle.price_workers.proofs.Common.{ext_get_or, TableId, Size, entries, loads_of, held, IsReadUpTo, KeepsSetting-trans, after_reading}
+use Rattle.std.proofs.Common.{◌≡◌, ◌+◌, ◌*◌, ℕ, List, length, sym, ◌∙◌, ap, subst, arith}
+use Rattle.price_workers.proofs.Common.{ext_get_or, TableId, Size, entries, loads_of, held, LoadsBetween, KeepsSetting-trans, after_reading}
 use Rattle.grid_base.specs.Numbers.{vertices}
-use Rattle.price_workers.proofs.ReadSteps.{IsReadUpTo-none, after_all_words, close_to_all}
+use Rattle.price_workers.proofs.ReadSteps.{after_all_words, close_to_all}
 use Rattle.price_workers.proofs.TurnFacts.{kept_long, same_share}
 use Rattle.price_workers.proofs.reading.read_all.Goals as goal
 
@@ -19,12 +19,10 @@ returns c =
     let long : length loads ≡ entries g = kept_long c.settle_all.new.kept (c.settle_all.ensures.setting.grid ∙ its.setting.grid ∙ c.requires.grid) in
     let same : loads ≡ p.last = ext_get_or 0 loads p.last (long ∙ sym last)
     (λ e within. c.settle_all.ensures.found e (omega arith) (omega (arith, within, long, count))) in
-    let read : IsReadUpTo start p p.last (length p.last) = subst (λ (k : ℕ). IsReadUpTo start p p.last k) (count ∙ sym last)
-    (its.read start (IsReadUpTo-none start start.last)) in
+    let read : LoadsBetween 0 (length p.last) start p = subst (λ (k : ℕ). LoadsBetween 0 k start p) (count ∙ sym last) its.read in
     record {
-      reading = rw same (same_share (held c.args.table.now (after_reading start p.last)) share table
-          (after_all_words start p p.last read refl));
-      close = rw same (close_to_all start p p.last read (its.valid.wide.shares ∙ sym its.valid.wide.last));
+      reading = rw same (same_share (held c.args.table.now (after_reading start p.last)) share table (after_all_words start p read));
+      close = rw same (close_to_all start p read (its.valid.wide.shares ∙ sym its.valid.wide.last));
       valid = its.valid;
       setting = KeepsSetting-trans _ _ _ its.setting c.settle_all.ensures.setting;
     }
