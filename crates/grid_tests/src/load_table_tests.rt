@@ -19,6 +19,33 @@ fn a_share_finds_what_another_added(rt: HostRuntime) -> Result<(), Fail> {
     Ok(())
 }
 
+/// Adds an amount to a word, where the allotment has room for it.
+fn put(share: &mut Share, table: &LoadTable, word: u32, amount: u64)
+    requires table { share.old.table ≡ table.now }
+    requires word { word < table.now.words }
+    ensures table { share.new.table ≡ share.old.table }
+{
+    if amount <= share.allotment() && share.share_of(word) <= share.allotment() - amount {
+        share.add(table, word, amount);
+    }
+}
+
+#[test]
+fn a_run_of_loads_ends_behind_a_word_that_changed(rt: HostRuntime) -> Result<(), Fail> {
+    let (table, mut share) = LoadTable::open(rt.alloc(), 5)?;
+    put(&mut share, &table, 2, 65_534);
+    put(&mut share, &table, 3, 65_535);
+    let first = (share.reload(&table, 1, 5), share.reload(&table, 3, 5), share.reload(&table, 4, 5));
+    let same = share.reload(&table, 0, 4);
+    put(&mut share, &table, 3, 1);
+    let then = (share.reload(&table, 1, 5), share.reload(&table, 1, 5));
+    let found = (share.last_of(1), share.last_of(2), share.last_of(3));
+    let has = (share.share_of(2), share.share_of(3));
+    assert!(rt; (first, same, then) == ((3, 4, 5), 4, (4, 5)));
+    assert!(rt; (found, has) == ((0, 65_534, 65_536), (65_534, 65_536)));
+    Ok(())
+}
+
 /// Adds `amount` to the two words a thousand times, loads each, and takes 1 from the second word again.
 fn work(mut share: Share, table: &LoadTable, amount: u64) -> Share
     requires table { share.table ≡ table.now }
@@ -27,9 +54,7 @@ fn work(mut share: Share, table: &LoadTable, amount: u64) -> Share
 {
     for _ in 0..1000 {
         for word in 0..2 {
-            if amount <= share.allotment() && share.share_of(word) <= share.allotment() - amount {
-                share.add(table, word, amount);
-            }
+            put(&mut share, table, word, amount);
             share.load(table, word);
         }
         if share.share_of(1) > 0 {
