@@ -4,14 +4,15 @@
     bench/plain_counts.py CHECKOUT FOLDER DESIGN [WORD ..]
 
 Writes the plain sources of CHECKOUT to FOLDER as bench/plain_build.py does, adds the tallies named below, builds and runs
-`plain_route DESIGN --timing WORD ..`. Behind the seconds of each stage stand
+`plain_route DESIGN --timing WORD ..`. As it ends, each worker's part of a phase or round says what it took of the processor and on
+the clock. Behind the seconds of each stage stand
 
-- changes of one load in the lists of prices, and renewals of all prices with the time of each;
-- the time of every second reading of all loads, and that of a plain copy of the words before each of the others;
-- vertices taken out of searches, by the type of the bound that leads them;
-- of each worker's part of a phase or round the seconds of the processor and on the clock.
+- changes of one load in the lists of prices, and renewals of all prices with their mean time;
+- the mean time of every second reading of all loads, and that of a plain copy of the words before each of the others;
+- vertices taken out of searches, by the type of the bound that leads them, or by a name.
 
-Counting takes time itself, some nanoseconds a vertex. CHECKOUT may be an earlier commit, where the sources have the same functions.
+Counting takes some nanoseconds a vertex, and the copies count in the seconds of stages and parts. CHECKOUT may be an earlier commit,
+if its sources have the same functions.
 """
 import argparse
 import os
@@ -45,7 +46,7 @@ def add_tallies(folder):
         path = path_of(folder, place)
         text, found = re.subn(before, lambda match: f'{match.group()}{line}\n', open(path).read(), count=1)
         if not found:
-            print(f'not counted here: {place}')
+            print(f'not counted here: {line}')
         with open(path, 'w') as out:
             out.write(text)
     for place, closed, opened in OPENED:

@@ -67,12 +67,23 @@ thread_local! {
     static COPY: RefCell<Vec<u64>> = const { RefCell::new(Vec::new()) };
 }
 
-/// A vertex is taken out of a search with a bound of this type.
+/// The tally of this name, made where there is none.
+fn tally_of(name: &'static str) -> &'static Tally {
+    let mut known = KNOWN.lock().unwrap();
+    if let Some(tally) = known.iter().copied().find(|tally| tally.name == name) {
+        return tally;
+    }
+    let made: &'static Tally = Box::leak(Box::new(Tally::new(name)));
+    made.known.store(true, Relaxed);
+    known.push(made);
+    made
+}
+
+/// A vertex is taken out of a search with a bound of this type, or by this name.
 pub fn taken(bound: &'static str) {
     SEARCHES.with_borrow_mut(|searches| {
         let at = searches.iter().position(|search| std::ptr::eq(search.0, bound)).unwrap_or_else(|| {
-            let known = KNOWN.lock().unwrap().iter().copied().find(|tally| tally.name == bound);
-            searches.push((bound, known.unwrap_or_else(|| Box::leak(Box::new(Tally::new(bound))))));
+            searches.push((bound, tally_of(bound)));
             searches.len() - 1
         });
         searches[at].1.once();
@@ -81,17 +92,18 @@ pub fn taken(bound: &'static str) {
 
 static READINGS: Tally = Tally::new("every second reading of all loads");
 static COPIES: Tally = Tally::new("plain copies of the words, before the other readings");
-static TURNS: AtomicU64 = AtomicU64::new(0);
+static BEGUN: AtomicU64 = AtomicU64::new(0);
 
 /// A reading of these words begins. Every second one is timed, and before each other one a plain copy is: so both come upon words that
-/// were left alone for as long.
+/// were left alone since the last reading. What the copy is written to was left alone for two.
 pub fn reading(words: &[AtomicU64]) -> Option<Timed> {
-    if TURNS.fetch_add(1, Relaxed) % 2 == 1 {
+    if BEGUN.fetch_add(1, Relaxed) % 2 == 1 {
         return Some(READINGS.timed());
     }
     COPY.with_borrow_mut(|copy| {
         copy.resize(words.len(), 0);
-        // SAFETY: an AtomicU64 is laid out as a u64. A word that changes meanwhile is copied as it was or as it is, and nobody looks.
+        // SAFETY: an AtomicU64 is laid out as a u64. Where another worker changes a word meanwhile this is a data race, which plain
+        // counts of one worker don't have; nobody looks at what was copied.
         let words = unsafe { std::slice::from_raw_parts(words.as_ptr().cast::<u64>(), words.len()) };
         let _timed = COPIES.timed();
         copy.copy_from_slice(words);
