@@ -35,7 +35,11 @@ fn a_run_of_loads_ends_behind_a_word_that_changed(rt: HostRuntime) -> Result<(),
     let (table, mut share) = LoadTable::open(rt.alloc(), 5)?;
     put(&mut share, &table, 2, 65_534);
     put(&mut share, &table, 3, 65_535);
-    let first = (share.reload(&table, 1, 5), share.reload(&table, 3, 5), share.reload(&table, 4, 5));
+    let first = (
+        share.reload(&table, 1, 5),
+        share.reload(&table, 3, 5),
+        share.reload(&table, 4, 5),
+    );
     let same = share.reload(&table, 0, 4);
     put(&mut share, &table, 3, 1);
     let then = (share.reload(&table, 1, 5), share.reload(&table, 1, 5));
