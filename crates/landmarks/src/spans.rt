@@ -7,7 +7,8 @@ ghost use Rattle.landmarks.specs.Spans.{span_of, AreSpans};
 
 use crate::landmarks::{LANDMARKS, Landmarks};
 use grid_base::Vertex;
-use steiner_exact::{Extent, MASKS, has_terminal};
+use steiner_exact::{Extent, MASKS};
+use steiner_tables::has_terminal;
 
 /// So many spans have all masks by all landmarks.
 pub(crate) const SPANS: usize = MASKS * LANDMARKS;

@@ -24,14 +24,16 @@ pub(crate) fn mixed(seed: u32, i: u32) -> u32 {
     x ^ (x >> 13)
 }
 
-/// One piece in four is a wall, one in eight is as heavy as a choked edge, and some weigh the least.
-fn drawn_weight(draw: u32, least: u64) -> Option<u64>
-    requires { least ≤ 6 }
+/// One piece in four is a wall, one in eight is as heavy as a choked edge, and the others weigh the least or up to nine steps
+/// more.
+fn drawn_weight(draw: u32, least: u64, step: u64) -> Option<u64>
+    requires least { least ≤ 6 }
+    requires step { step ≤ 100 }
 {
     match draw % 8 {
         0 | 1 => None,
         2 => Some(1 << 38),
-        _ => Some(u64::from(draw / 8 % 10) + least),
+        _ => Some(u64::from(draw / 8 % 10) * step + least),
     }
 }
 
@@ -41,14 +43,16 @@ pub(crate) fn drawn(
     size: Size,
     seed: u32,
     least: u64,
+    step: u64,
 ) -> Result<Option<Listed>, NoMemory>
-    requires { least ≤ 6 }
+    requires least { least ≤ 6 }
+    requires step { step ≤ 100 }
     ensures { IfOk result (λ found. IfSome found (λ x. x.size ≡ size)) }
 {
     let mut pieces = Vec::new(alloc);
     for number in 0..3 * size.vertices() {
         let piece = numbered_piece(number);
-        if let Some(weight) = drawn_weight(mixed(seed, number), least) {
+        if let Some(weight) = drawn_weight(mixed(seed, number), least, step) {
             if size.is_piece(piece) {
                 pieces.push((piece, weight))?;
             }

@@ -64,6 +64,13 @@ heavy tree|3 2 2|16|none
 heavy tree|4 3 3|16|none
 heavy tree|5 4 2|16|none
 heavy tree|9 1 2|16|none
+# the same where pieces weigh so much more than the least of them that distances often lead the table
+dear tree|2 2 2|16|none
+dear tree|2 1 3|16|none
+dear tree|3 2 2|16|none
+dear tree|4 3 3|32|none
+dear tree|5 4 2|32|none
+dear tree|9 1 2|16|none
 # no spanning tree by distances is lighter
 span|3 2 1|21|none
 span|2 2 2|21|none
@@ -110,7 +117,9 @@ fn weighed_agree(
         "path" => path_agrees(alloc, weights, size),
         "distances" => Ok(distances_agree(alloc, weights, size)?),
         "weights" => weights_agree(alloc, weights, size),
-        "tree" | "heavy tree" | "span" => joined_agree(alloc, what, weights, size, seed, labels),
+        "tree" | "heavy tree" | "dear tree" | "span" => joined_agree(
+            alloc, what, weights, size, seed, labels,
+        ),
         _ => Err(Fail::new(what)),
     }
 }
@@ -130,14 +139,15 @@ fn agree(
     if let Some(design) = what.strip_prefix("covering ") {
         return covering_agrees(alloc, design, size, number);
     }
-    let least = match what {
+    let (least, step) = match what {
         "merging" => return merging_agrees(alloc, size, number),
         "row" => return row_agrees(alloc, size),
-        "distances" | "weights" => 0,
-        "heavy tree" => 6,
-        _ => 1,
+        "distances" | "weights" => (0, 1),
+        "heavy tree" => (6, 1),
+        "dear tree" => (1, 100),
+        _ => (1, 1),
     };
-    let weights = drawn(alloc, size, number, least)?.ok_or("pieces")?;
+    let weights = drawn(alloc, size, number, least, step)?.ok_or("pieces")?;
     weighed_agree(alloc, what, &weights, size, number, labels)
 }
 

@@ -6,13 +6,14 @@ use grid_base::{NoMemory, Piece, Size, Vertex, steps};
 use grid_graph::Weights;
 use label_search::{Bound, FAR, MOST, NoBound, Row, exhaust, settle, settle_each, start_each};
 use std::alloc::Global;
-use steiner_tables::{Family, KeptRows, NoFamily, fill};
+use steiner_tables::{Family, KeptRows, NoFamily, fill, fill_alone};
 
 /// Above each number with what is still to go: no offer is refused for this limit.
 pub(crate) const NO_LIMIT: u64 = 1 << 62;
 
 /// Numbers of the vertices of a grid by the latest search: after `distances`, `distance_between` or `distance_past`
-/// distances from a source, after `subsets` or `pruned` least weights of trees.
+/// distances from a source, after `subsets` or `pruned` least weights of trees, after `distances_from_each` distances from
+/// terminals, by their masks.
 ///
 /// After the first three other vertices than those asked for may have a number too, which is at least their distance.
 #[derive(Drop)]
@@ -28,7 +29,8 @@ impl Labels {
     ghost use Rattle.grid_base.specs.declared.piece.Piece.{Piece};
     ghost use Rattle.grid_base.specs.Numbers.{IsVertex, Connects};
     ghost use Rattle.shortest_paths.specs.LabelWords.{labels_size, masks_of, source_of, labels_number, distance_of, label_of, HasDistance, LeadsBack};
-    ghost use Rattle.steiner_tables.specs.Masks.{proper_masks, few_terminals, all_of, all_but_root};
+    ghost use Rattle.steiner_tables.specs.LoneRows.{IsLoneRow};
+    ghost use Rattle.steiner_tables.specs.Masks.{proper_masks, lone_masks, few_terminals, all_of, all_but_root};
     ghost use Rattle.label_search.specs.Paths.{IsPath, IsStepBack, IsPieceBack, NoneWeighsNothing};
     ghost use Rattle.label_search.specs.Rows.{number_in, IsWaiting};
     ghost use Rattle.label_search.specs.Runs.{IsSearch};
@@ -229,7 +231,7 @@ impl Labels {
     }
 
     /// The least weight of a set of allowed pieces that joins a vertex and the terminals of a mask, by the latest
-    /// search. It is `None` where there is no such set, or none that was light enough for `pruned`.
+    /// search. It is `None` where there is no such set, or none that was light enough for `pruned` or `distances_from_each`.
     pub fn label(&self, mask: u32, v: Vertex) -> Option<u64>
         requires some { 0 < mask }
         requires mask { mask ≤ masks_of self.now }
@@ -275,6 +277,46 @@ impl Labels {
                 family,
                 terminals,
                 mask,
+                limit,
+            );
+        }
+    }
+
+    /// Finds the distances from each of some terminals, those at the places from `first` to before `end`, as labels of the mask
+    /// of that terminal alone: but for those that together with the family's bound for the other terminals are above the limit.
+    pub fn distances_from_each<W: Weights, F: Family>(
+        &mut self,
+        weights: &W,
+        family: &F,
+        terminals: &[Vertex],
+        first: u32,
+        end: u32,
+        limit: u64,
+    )
+        requires size { labels_size self.old ≡ W.size weights.now }
+        requires family_size { F.size family.now ≡ W.size weights.now }
+        requires family { F.pieces family.now ≡ W.pieces weights.now }
+        requires family_terminals { F.terminals family.now ≡ terminals.now }
+        requires terminals { All (λ v. IsVertex (W.size weights.now) v.0) terminals.now }
+        requires several { 2 ≤ length terminals.now }
+        requires few { length terminals.now ≤ few_terminals }
+        requires end { end ≤ length terminals.now }
+        requires room { lone_masks ≤ masks_of self.old }
+        requires limit { limit ≤ most }
+        ensures size { labels_size self.new ≡ labels_size self.old }
+        ensures masks { masks_of self.new ≡ masks_of self.old }
+        ensures rows { (place : ℕ) → first ≤ place → place < end → IsLoneRow (W.size weights.now) (W.pieces weights.now) terminals.now (F.low family.now) limit (label_of self.new) place }
+    {
+        self.rows.forget();
+        self.row.forget();
+        for place in first..end {
+            fill_alone(
+                &mut self.row,
+                &mut self.rows,
+                weights,
+                family,
+                terminals,
+                place,
                 limit,
             );
         }

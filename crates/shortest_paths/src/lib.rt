@@ -32,6 +32,9 @@
 //! let least = labels.label(last, root);
 //! ```
 //!
+//! `distances_from_each` finds the distances from each of some terminals alone, under a family and a limit, as labels of their
+//! masks.
+//!
 //! A caller may lead a search of its own: it gives vertices numbers, and takes them out in the order of the keys under which
 //! they wait:
 //!
@@ -48,7 +51,8 @@
 //! Promised: the distance of two vertices is the least weight over all sets of allowed pieces that join them, and `None`
 //! exactly where no set does; a path is a walk of allowed pieces whose weights sum to the distance. A label is the least
 //! weight over all sets that join a vertex and some terminals, and `None` exactly where each such set is too heavy or there
-//! is none. Of least weights it is a law that where vias weigh nothing they are those between tiles.
+//! is none. Distances from terminals under a limit, together with what that leaves, rise along no piece by more than it weighs.
+//! Of least weights it is a law that where vias weigh nothing they are those between tiles.
 #![tactic(auto)]
 
 mod labels;

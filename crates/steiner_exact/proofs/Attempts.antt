@@ -21,7 +21,7 @@ use Rattle.steiner_exact.specs.Boxes.{none}
 use Rattle.steiner_exact.specs.LeastSets.{IsLeastSet, IsLeastTree}
 use Rattle.steiner_exact.specs.Reading.{AreReached, IsTreeWithin}
 use Rattle.steiner_exact.specs.Roots.{root_of, IsLeastAtRoot, IsAttempt}
-use Rattle.steiner_exact.proofs.FoundNumbers.{found_number, kept_small}
+use Rattle.steiner_tables.proofs.FoundNumbers.{found_number, kept_small}
 use Rattle.grid_graph.proofs.Weighed.{allowed_of_tree}
 
 pub root_stands : (terminals : List Vertex) → 2 ≤ length terminals → At terminals (length terminals - 1) (root_of terminals)

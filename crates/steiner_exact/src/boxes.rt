@@ -5,9 +5,9 @@ ghost use Rattle.grid_base.specs.Numbers.{IsVertex};
 ghost use Rattle.steiner_tables.specs.Masks.{few_terminals};
 ghost use Rattle.steiner_exact.specs.Boxes.{box_of, AreBoxes};
 
-use crate::masks::has_terminal;
 use crate::terminal_box::TerminalBox;
 use grid_base::{Size, Vertex};
+use steiner_tables::has_terminal;
 
 /// So many masks have up to five terminals.
 pub const MASKS: usize = 32;

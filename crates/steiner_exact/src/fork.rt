@@ -4,9 +4,9 @@ ghost use Rattle.std.specs.Prelude.{◌≡◌, ◌≤◌, All, length};
 ghost use Rattle.grid_base.specs.Numbers.{IsVertex};
 ghost use Rattle.steiner_tables.specs.Masks.{few_terminals};
 
-use crate::masks::all_of;
 use crate::nearness::{grid_distance, next_nearest};
 use grid_base::{Place, Size, Vertex};
+use steiner_tables::all_of;
 
 /// A vertex through which the way from a tree to the next terminal should lead, so that it comes near the one after that: the
 /// median of a nearest vertex of the tree and the two, by columns, rows and layers. Three terminals that are joined there

@@ -8,12 +8,12 @@ ghost use Rattle.label_search.specs.Stamped.{most};
 
 use crate::fork::fork_of;
 use crate::limits::MOST;
-use crate::masks::single_of;
 use crate::nearness::next_nearest;
 use grid_base::{NoMemory, Piece, Vertex, steps};
 use grid_graph::{FlooredWeights, Weights};
 use shortest_paths::{FloorBound, Labels};
 use std::alloc::Global;
+use steiner_tables::single_of;
 
 /// The weight of a tree to which the terminals are joined one after the other, first those that are near by grid distance (after
 /// Takahashi and Matsuyama, 1980): each by a shortest path from the whole tree, or by one to where the next path should fork

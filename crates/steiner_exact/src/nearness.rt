@@ -5,9 +5,9 @@ ghost use Rattle.std.specs.List.Sorted.{IsPermutation};
 ghost use Rattle.grid_base.specs.Numbers.{IsVertex};
 ghost use Rattle.steiner_tables.specs.Masks.{few_terminals};
 
-use crate::masks::has_terminal;
 use grid_base::{NoMemory, Place, Size, Vertex};
 use std::alloc::Global;
+use steiner_tables::has_terminal;
 
 /// The terminals in another order: last comes one with the greatest sum of grid distances to the others. It is the root of
 /// a table, whose rows are those of the others, and any order is right.

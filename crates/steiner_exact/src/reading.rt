@@ -11,11 +11,11 @@ ghost use Rattle.steiner_tables.specs.Tables.{IsAlone, IsSplit};
 ghost use Rattle.tree_set.specs.Order.{IsRising};
 ghost use Rattle.steiner_exact.specs.Reading.{AreReached, IsReadOn, LeadsTo, IsSplitBy, IsTreeWithin};
 
-use crate::masks::{are_parts, single_of};
 use grid_base::{NoMemory, Piece, Vertex, steps};
 use grid_graph::Weights;
 use shortest_paths::Labels;
 use std::alloc::Global;
+use steiner_tables::{are_parts, single_of};
 use tree_set::Tree;
 
 /// The tree of a mask at a vertex, by the numbers of a table.

@@ -8,9 +8,9 @@ ghost use Rattle.label_search.specs.Stamped.{far};
 ghost use Rattle.steiner_tables.specs.Tables.{answer_at};
 ghost use Rattle.steiner_exact.specs.Roots.{root_of};
 
-use crate::masks::all_but_root_of;
 use grid_base::Vertex;
 use shortest_paths::Labels;
+use steiner_tables::all_but_root_of;
 
 /// The number of all terminals but the root, at the root.
 pub(crate) fn root_label(labels: &Labels, terminals: &[Vertex]) -> Option<u64>

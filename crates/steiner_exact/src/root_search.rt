@@ -10,11 +10,11 @@ ghost use Rattle.steiner_tables.specs.Masks.{few_terminals, all_but_root};
 ghost use Rattle.steiner_exact.specs.Roots.{IsLeastAtRoot, IsAttempt};
 
 use crate::limits::MOST;
-use crate::masks::all_but_root_of;
 use crate::root_label::root_label;
 use grid_base::Vertex;
 use grid_graph::Weights;
 use shortest_paths::{Family, Labels};
+use steiner_tables::all_but_root_of;
 
 /// The least weight of a set that joins the terminals, with the table that tells it. The search begins under this limit,
 /// which is raised by the slack, and each time by twice as much, until there is a set within it.

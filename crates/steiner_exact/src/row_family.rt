@@ -14,11 +14,11 @@ ghost use Rattle.steiner_exact.specs.RowLows.{IsBeside, layers_low, raised_by};
 
 use crate::boxes::{MASKS, boxes_of};
 use crate::limits::MOST_LOW;
-use crate::masks::all_of;
 use crate::terminal_box::TerminalBox;
 use grid_base::{Place, Size, Vertex};
 use grid_graph::FlooredWeights;
 use shortest_paths::{Family, Labels};
+use steiner_tables::all_of;
 
 /// The numbers of a table of the terminals' tiles, completed by the bounds under which it was pruned, and each layer to
 /// go at the floor of vias.

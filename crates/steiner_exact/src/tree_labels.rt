@@ -8,9 +8,10 @@ use shortest_paths::Labels;
 use std::alloc::Global;
 use steiner_tables::{PROPER_MASKS, ROOTED_MASKS};
 use terminal_balls::TerminalBalls;
+use terminal_distances::DistanceRows;
 
 /// Labels of a grid and of its flat grid, the flat grid's edges, by how much trees of the one weigh more than those of the
-/// other, and balls around terminals; made once and used for many trees.
+/// other, balls around terminals, and distances from them; made once and used for many trees.
 #[derive(Drop)]
 pub struct TreeLabels {
     pub grid: Labels,
@@ -19,6 +20,8 @@ pub struct TreeLabels {
     pub gaps: Gaps,
     /// None before any are grown: they take memory only where vias weigh much.
     pub balls: Option<TerminalBalls>,
+    /// None before any are found: they take memory only where trees weigh far more than their boxes.
+    pub distances: Option<DistanceRows>,
 }
 
 impl TreeLabels {
@@ -36,6 +39,7 @@ impl TreeLabels {
             flat_edges: flags_of(alloc, flat)?,
             gaps: Gaps::new(alloc)?,
             balls: None,
+            distances: None,
         })
     }
 }

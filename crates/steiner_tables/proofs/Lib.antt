@@ -6,3 +6,5 @@ pub mod Pruned
 pub mod Seeding
 pub mod RowTables
 pub mod Parts
+pub mod LoneRows
+pub mod FoundNumbers

@@ -38,19 +38,24 @@ pub record IsRowFor (s : Size) (pieces : List (Piece × ℕ)) (terminals : List 
   pub splits : (one other v : ℕ) → AreParts one other mask → label one v < far → label other v < far → IsAnswered num rest limit v (label one v + label other v)
 
 -- a tree is carried along a path
-path_tree : (s : Size) (pieces : List (Piece × ℕ)) (terminals : List Vertex) (mask a b x total : ℕ) (path : List Piece) → IsPath s pieces a b total path → HasTree s pieces terminals mask a x → HasTree s pieces terminals mask b (x + total)
+pub path_tree : (s : Size) (pieces : List (Piece × ℕ)) (terminals : List Vertex) (mask a b x total : ℕ) (path : List Piece) → IsPath s pieces a b total path → HasTree s pieces terminals mask a x → HasTree s pieces terminals mask b (x + total)
 path_tree s pieces terminals mask a b x total [] (here, nothing) has =
     subst (λ v. HasTree s pieces terminals mask v (x + total)) here (has_more s pieces terminals mask a x (x + total) has (omega arith))
 path_tree s pieces terminals mask a b x total (p ∷ path) (next, weight, left, step, rest, sum) has =
     has_more s pieces terminals mask b (x + weight + left) (x + total)
     (path_tree s pieces terminals mask next b (x + weight) left path rest (has_step s pieces terminals mask a next x weight p has step.weighs step.connects)) (omega (arith, sum))
 
+-- a terminal alone, where the mask is its own
+pub alone_tree : (s : Size) (pieces : List (Piece × ℕ)) (terminals : List Vertex) (mask v number : ℕ) → IsVertex s v → IsAlone terminals mask v → HasTree s pieces terminals mask v number
+alone_tree s pieces terminals mask v number vertex alone =
+    subst (λ m. HasTree s pieces terminals m v number) (sym alone.2)
+    (has_more s pieces terminals (single alone.0) v 0 number (has_alone s pieces terminals alone.0 (record { 0 = v }) alone.1 vertex) (omega arith))
+
 -- what a seed stands for
 seed_tree : (s : Size) (pieces : List (Piece × ℕ)) (terminals : List Vertex) (low label : ℕ → ℕ → ℕ) (limit mask v number : ℕ) → IsPrunedTable s pieces terminals (mask - 1) low limit far label → IsVertex s v →
     IsAlone terminals mask v ⊎ IsSum label mask v number → HasTree s pieces terminals mask v number
 seed_tree s pieces terminals low label limit mask v number table vertex reason = ⊎_elim
-    (λ alone. subst (λ m. HasTree s pieces terminals m v number) (sym alone.2)
-    (has_more s pieces terminals (single alone.0) v 0 number (has_alone s pieces terminals alone.0 (record { 0 = v }) alone.1 vertex) (omega arith)))
+    (alone_tree s pieces terminals mask v number vertex)
     (λ sum.
     let whole = parts_sum sum.one sum.other mask sum.parts in
     let first = table.trees sum.one v sum.parts.some (omega (arith, whole, sum.parts.others)) sum.has_one in

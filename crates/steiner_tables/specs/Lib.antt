@@ -5,3 +5,4 @@ pub mod KeptNumbers
 pub mod Keeping
 pub mod Kept
 pub mod NoFamilies
+pub mod LoneRows

@@ -15,6 +15,10 @@ rooted_masks = 15
 abbrev pub proper_masks : ℕ
 proper_masks = 30
 
+-- the masks up to that of the last of so few terminals alone
+abbrev pub lone_masks : ℕ
+lone_masks = 16
+
 -- 1 where the mask has the terminal at this place, else 0
 abbrev pub bit : ℕ → ℕ → ℕ
 bit mask place = mask / 2 ^ place % 2

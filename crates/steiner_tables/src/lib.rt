@@ -9,6 +9,9 @@
 //! }
 //! ```
 //!
+//! The row of a terminal alone asks for no other row: `fill_alone` finds it by itself. A mask is made and read by `single_of`,
+//! `all_of`, `all_but_root_of`, `has_terminal` and `are_parts`.
+//!
 //! A `Family` of lower bounds says what the other terminals cost at least (Hougardy, Silvanus and Vygen 2017), and what
 //! is above a limit together with them is left out; `NoFamily` leaves nothing out.
 //!
@@ -27,10 +30,12 @@ mod limits;
 mod no_family;
 mod rest_of;
 mod seeds;
+mod terminal_masks;
 
 pub use family::Family;
-pub use filling::fill;
+pub use filling::{fill, fill_alone};
 pub use kept_rows::KeptRows;
 pub use laws::{holding_tables_bound_sets, pruned_tables_hold_completed};
-pub use limits::{FEW_TERMINALS, PROPER_MASKS, ROOTED_MASKS};
+pub use limits::{FEW_TERMINALS, LONE_MASKS, PROPER_MASKS, ROOTED_MASKS};
 pub use no_family::NoFamily;
+pub use terminal_masks::{all_but_root_of, all_of, are_parts, has_terminal, single_of};

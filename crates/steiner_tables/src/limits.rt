@@ -8,3 +8,6 @@ pub const ROOTED_MASKS: u32 = 15;
 
 /// How many sets of so few terminals there are but that of all.
 pub const PROPER_MASKS: u32 = 30;
+
+/// The masks up to that of the last of so few terminals alone.
+pub const LONE_MASKS: u32 = 16;

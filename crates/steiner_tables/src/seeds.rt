@@ -47,7 +47,13 @@ pub(crate) fn seed<B: Bound>(
 }
 
 /// Offers a terminal 0 where the mask is its own.
-fn seed_alone<B: Bound>(row: &mut Row, bound: &B, terminals: &[Vertex], mask: u32, limit: u64)
+pub(crate) fn seed_alone<B: Bound>(
+    row: &mut Row,
+    bound: &B,
+    terminals: &[Vertex],
+    mask: u32,
+    limit: u64,
+)
     requires size { B.size bound.now ≡ size_in row.old }
     requires terminals { All (λ v. IsVertex (size_in row.old) v.0) terminals.now }
     requires few { length terminals.now ≤ few_terminals }

@@ -7,7 +7,7 @@ use Rattle.grid_base.proofs.Neighbours.{step_read, steps_lead}
 use Rattle.grid_base.proofs.Pieces.{end_vertex}
 use Rattle.shortest_paths.specs.LabelWords.{label_of}
 use Rattle.shortest_paths.proofs.Backwards.{NoneReachesBelow, read_step, none_more, none_past, some_reaches}
-use Rattle.steiner_exact.proofs.FoundNumbers.{found_number}
+use Rattle.steiner_tables.proofs.FoundNumbers.{found_number}
 use Rattle.steiner_exact.proofs.reading.behind.Goals as goal
 use Rattle.steiner_exact.proofs.reading.behind.Goals.{in-Some+else-reaches, in_default}
 

@@ -2,7 +2,7 @@ use Rattle.std.proofs.Common.{◌≡◌, refl, arith}
 use Rattle.std.proofs.lemmas.Bool.Decides.{nat_tests}
 use Rattle.grid_graph.specs.Weighed.{IsAllowed}
 use Rattle.shortest_paths.specs.LabelWords.{label_of}
-use Rattle.steiner_exact.proofs.FoundNumbers.{found_number}
+use Rattle.steiner_tables.proofs.FoundNumbers.{found_number}
 use Rattle.steiner_exact.proofs.reading.reaches.Goals as goal
 
 pub returns-then-allows : goal.returns-then-allows

@@ -1,74 +1,56 @@
-use Rattle.std.proofs.Common.{◌≡◌, List, length, All, sym, ◌∙◌, ap, subst, arith}
+use Rattle.std.proofs.Common.{◌≤◌, sym, ◌∙◌, ap, subst}
 use Rattle.grid_base.specs.declared.size.Size.{Size}
-use Rattle.grid_base.specs.declared.vertex.Vertex.{Vertex}
-use Rattle.grid_base.specs.Numbers.{IsVertex}
 use Rattle.grid_graph.specs.Flat.{IsFlatOf}
 use Rattle.shortest_paths.specs.LabelWords.{labels_size}
-use Rattle.grid_graph.specs.TilePieces.{tiles_of}
-use Rattle.steiner_exact.proofs.Attempts.{few_masks}
-use Rattle.steiner_exact.proofs.BoxSteps.{few_masks_all, some_masks_all}
-use Rattle.grid_graph.proofs.TileLists.{tiles_vertices}
-use Rattle.grid_graph.proofs.TileSteps.{flat_tiles}
+use Rattle.terminal_distances.specs.DistanceWords.{AreDistanceRows}
 use Rattle.steiner_exact.specs.FlatPieces.{edge_flags}
+use Rattle.steiner_exact.proofs.TileTables.{tiles_inside, rows_kept}
 use Rattle.steiner_exact.proofs.trees.least_over_tiles.Goals as goal
-
--- tiles of terminals, however the sizes are called
-vertices_of : (flat s grid : Size) (terminals tiles : List Vertex) → IsFlatOf flat s → grid ≡ s → tiles ≡ tiles_of grid terminals → All (λ (v : Vertex). IsVertex flat v.0) tiles
-vertices_of flat s grid terminals tiles is same made =
-    subst (λ (ts : List Vertex). All (λ (v : Vertex). IsVertex flat v.0) ts) (sym (made ∙ ap (λ (x : Size). tiles_of x terminals) same)) (tiles_vertices flat s terminals (flat_tiles flat s is))
+use Rattle.steiner_exact.proofs.trees.least_over_tiles.Goals.{in-Some, in-None+in_ok-rows-in-None}
 
 pub new-bounds-requires-clause-terminals : goal.new-bounds-requires-clause-terminals
 new-bounds-requires-clause-terminals g c =
-    let tiles = c.as_slice-tiles in
-    subst (λ (x : Size). All (λ (v : Vertex). IsVertex x v.0) tiles.result.now) (sym c.size-3.ensures)
-    (vertices_of (labels_size c.args.labels.now.flat) (g.W.Weights.size c.args.weights.now) c.size.result c.args.terminals.now
-    tiles.result.now c.requires.labels.flat (c.size.ensures ∙ c.requires.labels.grid) (tiles.ensures.value ∙ c.in_ok-listed.ensures.tiles))
+    tiles_inside (labels_size c.args.labels.now.flat) c.size.result c.size-3.result c.args.terminals.now c.as_slice-tiles.result.now
+    (subst (λ (x : Size). IsFlatOf (labels_size c.args.labels.now.flat) x) (sym (c.size.ensures ∙ c.requires.labels.grid)) c.requires.labels.flat)
+    c.size-3.ensures (c.as_slice-tiles.ensures.value ∙ c.in_ok-listed.ensures.tiles)
 
-pub overflow_sub-all_of : goal.overflow_sub-all_of
-overflow_sub-all_of g c =
-    omega (arith, c.all_of.ensures, some_masks_all (length c.as_slice-tiles.result.now) (omega (arith, c.as_slice-tiles.ensures.len, c.in_ok-listed.ensures.long, c.requires.two)))
+pub returns-then-not-is_far-clause-labels : goal.returns-then-not-is_far-clause-labels
+returns-then-not-is_far-clause-labels g c =
+    let old = c.requires.labels in
+    let flat = c.least_under.ensures.flat_size ∙ c.tree_guess.ensures.size in
+    record {
+      grid = c.least_under.ensures.size ∙ old.grid;
+      grid_room = subst (λ n. 15 ≤ n) (sym c.least_under.ensures.masks) old.grid_room;
+      flat = subst (λ (x : Size). IsFlatOf x (g.W.Weights.size c.args.weights.now)) (sym flat) old.flat;
+      flat_room = subst (λ n. 30 ≤ n) (sym (c.least_under.ensures.flat_masks ∙ c.tree_guess.ensures.masks)) old.flat_room;
+      flat_edges = old.flat_edges ∙ ap edge_flags (sym flat);
+      balls = old.balls;
+      distances = old.distances;
+    }
 
-pub pruned-requires-clause-room : goal.pruned-requires-clause-room
-pruned-requires-clause-room g c =
-    omega (
-      arith,
-      c.all_of.ensures,
-      few_masks_all (length c.as_slice-tiles.result.now) (omega (arith, c.as_slice-tiles.ensures.len, c.in_ok-listed.ensures.long, c.requires.few)),
-      c.requires.labels.flat_room,
-      c.tree_guess.ensures.masks,
-    )
-
-pub pruned-requires-clause-last : goal.pruned-requires-clause-last
-pruned-requires-clause-last g c =
-    omega (arith, c.all_of.ensures, some_masks_all (length c.as_slice-tiles.result.now) (omega (arith, c.as_slice-tiles.ensures.len, c.in_ok-listed.ensures.long, c.requires.two)))
-
-pub root_label-requires-clause-terminals : goal.root_label-requires-clause-terminals
-root_label-requires-clause-terminals g c =
-    let tiles = c.as_slice-tiles in
-    subst (λ (x : Size). All (λ (v : Vertex). IsVertex x v.0) tiles.result.now) (sym (c.pruned.ensures.size ∙ c.tree_guess.ensures.size))
-    (vertices_of (labels_size c.args.labels.now.flat) (g.W.Weights.size c.args.weights.now) c.size.result c.args.terminals.now
-    tiles.result.now c.requires.labels.flat (c.size.ensures ∙ c.requires.labels.grid) (tiles.ensures.value ∙ c.in_ok-listed.ensures.tiles))
-
-pub root_label-requires-clause-room : goal.root_label-requires-clause-room
-root_label-requires-clause-room g c =
-    let tiles = c.as_slice-tiles.result.now in
-    omega (
-      arith,
-      few_masks tiles (omega (arith, c.as_slice-tiles.ensures.len, c.in_ok-listed.ensures.long, c.requires.few)),
-      c.requires.labels.flat_room,
-      c.pruned.ensures.masks,
-      c.tree_guess.ensures.masks,
-    )
+pub least_led-found-requires-clause-rows : goal.least_led-found-requires-clause-rows
+least_led-found-requires-clause-rows g c =
+    let flat = c.new-bounds.ensures.size ∙ c.size-3.ensures in
+    elim c.match-take.branch [
+      | in-Some w ↦ rw w.rows-is (subst (λ (x : Size). AreDistanceRows x w.in-Some.rows) (sym flat)
+          (c.requires.labels.distances (labels_size c.args.labels.now.flat) c.requires.labels.flat w.in-Some.rows (sym c.take.ensures.value ∙ w.in-Some.is)))
+      | in-None+in_ok-rows-in-None w ↦ rw w.rows-is (subst (λ (x : Size). AreDistanceRows x w.in_ok-rows-in-None.rows)
+          (w.size-in-None.ensures ∙ c.tree_guess.ensures.size ∙ sym flat) w.in_ok-rows-in-None.ensures)
+    ]
 
 pub returns-clause-labels : goal.returns-clause-labels
 returns-clause-labels g c =
     let old = c.requires.labels in
-    let flat = c.pruned.ensures.size ∙ c.tree_guess.ensures.size in
+    let s = g.W.Weights.size c.args.weights.now in
+    let flat = c.least_led-found.ensures.flat_size ∙ c.tree_guess.ensures.size in
+    let bounds = c.new-bounds.ensures.size ∙ c.size-3.ensures in
     record {
-      grid = c.least_by_row-least.ensures.size ∙ old.grid;
-      grid_room = omega (arith, c.least_by_row-least.ensures.masks, old.grid_room);
-      flat = subst (λ (x : Size). IsFlatOf x (g.W.Weights.size c.args.weights.now)) (sym flat) old.flat;
-      flat_room = omega (arith, c.pruned.ensures.masks, c.tree_guess.ensures.masks, old.flat_room);
+      grid = c.least_led-found.ensures.size ∙ old.grid;
+      grid_room = subst (λ n. 15 ≤ n) (sym c.least_led-found.ensures.masks) old.grid_room;
+      flat = subst (λ (x : Size). IsFlatOf x s) (sym flat) old.flat;
+      flat_room = subst (λ n. 30 ≤ n) (sym (c.least_led-found.ensures.flat_masks ∙ c.tree_guess.ensures.masks)) old.flat_room;
       flat_edges = old.flat_edges ∙ ap edge_flags (sym flat);
       balls = old.balls;
+      distances = λ named is. rows_kept (labels_size c.args.labels.now.flat) s named _ old.flat is
+          (subst (λ (x : Size). AreDistanceRows x c.least_led-found.new.rows) bounds c.least_led-found.ensures.rows);
     }

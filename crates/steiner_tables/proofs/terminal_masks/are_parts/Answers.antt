@@ -1,7 +1,7 @@
 use Rattle.std.proofs.Common.{refl, ⊎_elim, arith}
 use Rattle.std.proofs.lemmas.Bool.{cases_lt}
 use Rattle.steiner_tables.proofs.Masks.{bit-high}
-use Rattle.steiner_exact.proofs.masks.are_parts.Goals as goal
+use Rattle.steiner_tables.proofs.terminal_masks.are_parts.Goals as goal
 
 pub returns : goal.returns
 returns c = (

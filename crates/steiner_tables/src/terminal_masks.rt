@@ -4,10 +4,10 @@ ghost use Rattle.std.specs.Prelude.{◌≡◌, ◌<◌, ◌≤◌, ◌-◌, ◌^
 ghost use Rattle.steiner_tables.specs.Masks.{few_terminals, bit, single, AreParts};
 
 /// The greatest number of terminals.
-pub(crate) const MOST_TERMINALS: u32 = 5;
+const MOST_TERMINALS: u32 = 5;
 
 /// 1 where the mask has the terminal at this place, else 0.
-pub(crate) fn bit_of(mask: u32, place: u32) -> u32
+fn bit_of(mask: u32, place: u32) -> u32
     requires { place < 32 }
     ensures { result ≡ bit mask place }
 {
@@ -23,7 +23,7 @@ pub fn has_terminal(mask: u32, place: u32) -> bool
 }
 
 /// The mask of the terminal at this place alone.
-pub(crate) fn single_of(place: u32) -> u32
+pub fn single_of(place: u32) -> u32
     requires { place < 32 }
     ensures { result ≡ single place }
 {
@@ -31,7 +31,7 @@ pub(crate) fn single_of(place: u32) -> u32
 }
 
 /// The mask of all terminals but the last of so many.
-pub(crate) fn all_but_root_of(count: usize) -> u32
+pub fn all_but_root_of(count: usize) -> u32
     requires some { 1 ≤ count }
     requires few { count ≤ few_terminals }
     ensures { result ≡ 2 ^ (count - 1) - 1 }
@@ -40,7 +40,7 @@ pub(crate) fn all_but_root_of(count: usize) -> u32
 }
 
 /// The mask of so many terminals.
-pub(crate) fn all_of(count: usize) -> u32
+pub fn all_of(count: usize) -> u32
     requires { count ≤ few_terminals }
     ensures { result ≡ 2 ^ count - 1 }
 {
@@ -48,7 +48,7 @@ pub(crate) fn all_of(count: usize) -> u32
 }
 
 /// Whether each terminal of a mask is in one of two parts, neither of which is empty.
-pub(crate) fn are_parts(one: u32, other: u32, mask: u32) -> bool
+pub fn are_parts(one: u32, other: u32, mask: u32) -> bool
     requires one { one < 32 }
     requires other { other < 32 }
     requires mask { mask < 32 }

@@ -1,6 +1,6 @@
 use Rattle.std.proofs.Common.{ℕ, ◌≡◌, ◌<◌, ◌+◌}
 use Rattle.steiner_tables.specs.Masks.{bit}
-use Rattle.steiner_exact.proofs.masks.are_parts.Given as goal
+use Rattle.steiner_tables.proofs.terminal_masks.are_parts.Given as goal
 
 -- the terminals before this place are in one of the parts
 abbrev pub invariant-loop-place : goal.invariant-loop-place

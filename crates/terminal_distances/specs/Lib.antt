@@ -1,0 +1,2 @@
+pub mod DistanceLows
+pub mod DistanceWords
