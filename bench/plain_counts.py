@@ -2,6 +2,8 @@
 """Counts what `route` does, stage by stage, in a build of its plain sources.
 
     bench/plain_counts.py CHECKOUT FOLDER DESIGN [WORD ..]
+    bench/plain_counts.py CHECKOUT FOLDER --instructions DESIGN [WORD ..]
+    bench/plain_counts.py CHECKOUT FOLDER --instructions judge DESIGN ROUTES CERT
 
 Writes the plain sources of CHECKOUT to FOLDER as bench/plain_build.py does, adds the tallies named below, builds and runs
 `plain_route DESIGN --timing WORD ..`. As it ends, each worker's part of a phase or round says what it took of the processor and on
@@ -11,6 +13,9 @@ the clock. Behind the seconds of each stage stand
 - the mean time of every second reading of all loads, and that of a plain copy of the words before each of the others;
 - vertices taken out of searches, by the type of the bound that leads them, or by a name.
 
+With --instructions nothing is added, and `valgrind` counts the instructions of a run, which no other work on the machine changes; where a
+command stands there, of `grouter` with these words. All runs are of one thread but for that of `route` with --workers.
+
 Counting takes some nanoseconds a vertex, and the copies count in the seconds of stages and parts. CHECKOUT may be an earlier commit,
 if its sources have the same functions.
 """
@@ -18,6 +23,8 @@ import argparse
 import os
 import re
 import subprocess
+
+from runs import plain_words
 
 HERE = os.path.dirname(os.path.abspath(__file__))
 ONCE = 'static TALLY: std::tally::Tally = std::tally::Tally::new("{}"); TALLY.once();'
@@ -56,18 +63,30 @@ def add_tallies(folder):
             out.write(text.replace(closed, opened))
 
 
+def count_instructions(run):
+    """Prints what a run says, and how many instructions it takes."""
+    words = ['valgrind', '--tool=cachegrind', '--cache-sim=no', '--cachegrind-out-file=/dev/null', *run]
+    done = subprocess.run(words, check=True, capture_output=True, text=True, env=os.environ | {'PLAIN_THREADS': '1'})
+    print(f'{done.stdout}instructions: {re.search(r"I +refs: +([0-9,]+)", done.stderr)[1]}')
+
+
 def main():
     words = argparse.ArgumentParser(description=__doc__, formatter_class=argparse.RawDescriptionHelpFormatter)
     words.add_argument('checkout')
     words.add_argument('folder')
-    words.add_argument('design')
+    words.add_argument('--instructions', action='store_true')
+    words.add_argument('first', metavar='DESIGN')
     words.add_argument('words', nargs=argparse.REMAINDER)
     asked = words.parse_args()
     subprocess.run([os.path.join(HERE, 'plain_build.py'), asked.checkout, asked.folder], check=True)
-    add_tallies(asked.folder)
-    subprocess.run(['cargo', 'build', '-q', '--release', '--offline', '-p', 'plain_programs'], cwd=asked.folder, check=True)
-    program = os.path.join(asked.folder, 'target', 'release', 'plain_route')
-    said = subprocess.run([program, asked.design, '--timing', *asked.words], check=True, capture_output=True, text=True).stdout
+    if not asked.instructions:
+        add_tallies(asked.folder)
+    subprocess.run(['cargo', 'build', '-q', '--release', '--offline', '-p', 'plain_programs', '-p', 'grouter'], cwd=asked.folder, check=True)
+    run = plain_words(asked.folder, asked.first, asked.words)
+    if asked.instructions:
+        count_instructions(run)
+        return
+    said = subprocess.run(run, check=True, capture_output=True, text=True).stdout
     print(re.sub(r'\b\w+::', '', said), end='')
 
 

@@ -1,17 +1,20 @@
 #!/usr/bin/env python3
-"""Tells where the processor time of plain_route goes, by samples of `perf`.
+"""Tells where the processor time of a program goes, by samples of `perf`.
 
     bench/plain_profile.py CHECKOUT FOLDER DESIGN [WORD ..]
+    bench/plain_profile.py CHECKOUT FOLDER judge DESIGN ROUTES CERT
 
 Writes the plain sources of CHECKOUT to FOLDER as bench/plain_build.py does, keeps the functions named below out of line, builds
-and runs `plain_route DESIGN WORD ..` by one thread, and prints for each stage which share of the samples lies in each function,
-with what it calls. A function inside another one that is named is printed below it.
+and runs `plain_route DESIGN --timing WORD ..`, or `grouter` with the command that stands there, by one thread. It prints which share of
+the samples lies in each function, with what it calls. A function inside another one that is named is printed below it.
 """
 import argparse
 import collections
 import os
 import re
 import subprocess
+
+from runs import plain_words
 
 HERE = os.path.dirname(os.path.abspath(__file__))
 # what a function may be for, by its types, the first of which counts
@@ -26,7 +29,7 @@ NAMED = {
     'price_workers/loads': ['put_tree', 'take_tree'],
     'edge_prices/kept_prices': ['renew'],
     'steiner_exact/least_path': ['least_path'],
-    'steiner_exact/trees': ['least_of_several', 'least_by_tiles', 'least_by_boxes'],
+    'steiner_exact/trees': ['least_of_several', 'least_over_tiles', 'least_led', 'least_with_balls', 'least_by_boxes'],
     'steiner_exact/guess': ['tree_guess'],
     'steiner_exact/root_search': ['least_at_root'],
     'steiner_exact/reading': ['read_tree'],
@@ -38,6 +41,10 @@ NAMED = {
     'lower_bound/halves': ['sum_of_halves'],
     'lower_bound/kept_halves': ['sum_of_kept_halves'],
     'lower_bound/spread': ['choose'],
+    'least_weights/least': ['least_by_landmarks', 'distance_by'],
+    'landmarks/landmarks': ['renew'],
+    'judge_cli/judged_files': ['read_blocks', 'read_certificate'],
+    'route_judge/routes': ['measure_routes'],
     'dual_bound/class_order': ['nets_by_class'],
 }
 
@@ -109,7 +116,7 @@ def main():
     words = argparse.ArgumentParser(description=__doc__, formatter_class=argparse.RawDescriptionHelpFormatter)
     words.add_argument('checkout')
     words.add_argument('folder')
-    words.add_argument('design')
+    words.add_argument('first', metavar='DESIGN')
     words.add_argument('words', nargs=argparse.REMAINDER)
     asked = words.parse_args()
     subprocess.run([os.path.join(HERE, 'plain_build.py'), asked.checkout, asked.folder], check=True)
@@ -117,8 +124,7 @@ def main():
     flags = {'RUSTFLAGS': '-C force-frame-pointers=yes -C symbol-mangling-version=v0', 'PLAIN_THREADS': '1'}
     subprocess.run(['cargo', 'build', '-q', '--release', '--offline'], cwd=asked.folder, check=True, env=os.environ | flags)
     data = os.path.join(asked.folder, 'perf.data')
-    program = os.path.join(asked.folder, 'target', 'release', 'plain_route')
-    run = ['perf', 'record', '-q', '-F', '199', '--call-graph', 'fp', '-o', data, program, asked.design, '--timing', *asked.words]
+    run = ['perf', 'record', '-q', '-F', '199', '--call-graph', 'fp', '-o', data, *plain_words(asked.folder, asked.first, asked.words)]
     subprocess.run(run, check=True, env=os.environ | flags)
     script = subprocess.run(['perf', 'script', '-i', data, '-F', 'comm,ip,sym,dso'], check=True, capture_output=True, text=True).stdout
     totals = count_samples(script)

@@ -8,12 +8,22 @@ from dataclasses import dataclass
 
 # seconds between two looks at the memory of a run
 APART = 0.02
+# what `grouter` may be asked for
+COMMANDS = ('judge', 'measure', 'route')
 TOP = os.path.dirname(os.path.dirname(os.path.abspath(__file__)))
 
 
 def built(name):
     """The program of this name, as the gate builds it."""
     return f'{TOP}/crates/{name}/out/{name}'
+
+
+def plain_words(folder, first, words):
+    """The words that start a program of the plain build in a folder: `grouter`, where the first one is a command, or `plain_route`."""
+    programs = os.path.join(folder, 'target', 'release')
+    if first in COMMANDS:
+        return [os.path.join(programs, 'grouter'), first, *words]
+    return [os.path.join(programs, 'plain_route'), first, '--timing', *words]
 
 
 @dataclass

@@ -33,8 +33,8 @@ fn put(share: &mut Share, table: &LoadTable, word: u32, amount: u64)
 #[test]
 fn a_run_of_loads_ends_behind_a_word_that_changed(rt: HostRuntime) -> Result<(), Fail> {
     let (table, mut share) = LoadTable::open(rt.alloc(), 5)?;
-    put(&mut share, &table, 2, 65_534);
-    put(&mut share, &table, 3, 65_535);
+    put(&mut share, &table, 2, 4_294_967_294);
+    put(&mut share, &table, 3, 4_294_967_295);
     let first = (
         share.reload(&table, 1, 5),
         share.reload(&table, 3, 5),
@@ -46,7 +46,31 @@ fn a_run_of_loads_ends_behind_a_word_that_changed(rt: HostRuntime) -> Result<(),
     let found = (share.last_of(1), share.last_of(2), share.last_of(3));
     let has = (share.share_of(2), share.share_of(3));
     assert!(rt; (first, same, then) == ((3, 4, 5), 4, (4, 5)));
-    assert!(rt; (found, has) == ((0, 65_534, 65_536), (65_534, 65_536)));
+    assert!(rt;
+        (found, has)
+            == (
+                (0, 4_294_967_294, 4_294_967_296),
+                (4_294_967_294, 4_294_967_296)
+            )
+    );
+    Ok(())
+}
+
+#[test]
+fn what_was_found_last_may_be_above_32_bits_and_below_again(rt: HostRuntime) -> Result<(), Fail> {
+    let (table, mut share) = LoadTable::open(rt.alloc(), 4)?;
+    put(&mut share, &table, 3, 1 << 40);
+    let above = share.load(&table, 3);
+    put(&mut share, &table, 1, 1 << 33);
+    let before = (share.reload(&table, 0, 4), share.reload(&table, 2, 4));
+    let both = (share.last_of(1), share.last_of(3));
+    if share.share_of(3) >= 1 << 40 {
+        share.sub(&table, 3, (1 << 40) - 5);
+    }
+    let again = (share.reload(&table, 0, 4), share.reload(&table, 0, 4));
+    let last = (share.last_of(0), share.last_of(1), share.last_of(3));
+    assert!(rt; (above, before, both) == (1 << 40, (2, 4), (1 << 33, 1 << 40)));
+    assert!(rt; (again, last) == ((4, 4), (0, 1 << 33, 5)));
     Ok(())
 }
 

@@ -1,3 +1,4 @@
 pub mod HeldAfter
 pub mod KeptRule
 pub mod RunSteps
+pub mod ShortValues

@@ -1,8 +1,8 @@
 //! What was found last.
 
-ghost use Rattle.std.specs.Prelude.{◌≡◌, ◌≢◌, ◌<◌, ◌≤◌, length, replicate, slice_index, slice_set, false, true, IfOk};
+ghost use Rattle.std.specs.Prelude.{◌≡◌, ◌≢◌, ◌<◌, ◌≤◌, ℕ, length, replicate, slice_index, slice_set, vec_capacity, false, true, IfOk};
 ghost use Rattle.load_core.specs.Parties.{whole_allotment};
-ghost use Rattle.load_table.specs.Shortened.{AreShort, IsShort};
+ghost use Rattle.load_table.specs.Shortened.{AreShort, found_values};
 
 use grid_base::NoMemory;
 use std::alloc::Global;
@@ -10,22 +10,24 @@ use std::marker::Model;
 
 /// What the last load of each word found. Contracts see the list of these values.
 ///
-/// Most fit 16 bits, and to see that a word is as it was these are enough: so a pass over all words reads less memory.
+/// For each word there is its value and 1 in 32 bits, or 0 where that doesn't fit: nearly all do, so a pass over all words reads
+/// less memory. Behind them is room for the values that don't, of which the first so many are in use, up to the last word that
+/// ever had one: the system gives memory to what is written alone.
 #[derive(Drop)]
 pub(crate) struct Found {
-    values: Vec<u64>,
-    short: Vec<u16>,
+    short: Vec<u32>,
+    wide: Vec<u64>,
 }
 
 impl Model for Found {
-    ghost use Rattle.std.specs.Prelude.{List, ℕ};
-    ghost use Rattle.load_table.specs.Shortened.{AreShort};
+    ghost use Rattle.std.specs.Prelude.{List, ℕ, ◌≤◌, length, vec_capacity};
+    ghost use Rattle.load_table.specs.Shortened.{AreShort, found_values};
 
     ghost Value = { List ℕ };
 
-    ghost view = { λ f. f.values.items };
+    ghost view = { λ f. found_values f.short.items f.wide.items };
 
-    ghost invariant = { λ f. AreShort f.values.items f.short.items };
+    ghost invariant = { λ f. AreShort f.short.items f.wide.items × (length f.short.items ≤ vec_capacity f.wide) };
 }
 
 impl Found {
@@ -33,9 +35,9 @@ impl Found {
     pub(crate) fn zeros(alloc: Global, words: usize) -> Result<Found, NoMemory>
         ensures zeros { IfOk result (λ f. f ≡ replicate words 0) }
     {
-        let values = vec![in alloc; 0u64; words]?;
-        let short = vec![in alloc; short_of(0); words]?;
-        Ok(Found { values, short })
+        let short = vec![in alloc; ZERO; words]?;
+        let wide = Vec::with_capacity(alloc, words)?;
+        Ok(Found { short, wide })
     }
 
     /// What was found last in a word.
@@ -43,7 +45,12 @@ impl Found {
         requires word { word < length self.now }
         ensures value { result ≡ slice_index self.now word }
     {
-        self.values[word as usize]
+        let stood = self.short[word as usize];
+        if stood == 0 {
+            self.wide[word as usize]
+        } else {
+            u64::from(stood) - 1
+        }
     }
 
     /// What was found last in a word becomes this value.
@@ -51,37 +58,52 @@ impl Found {
         requires word { word < length self.old }
         ensures value { self.new ≡ slice_set self.old word value }
     {
-        self.values[word as usize] = value;
-        self.short[word as usize] = short_of(value);
+        if value < u64::from(u32::MAX) {
+            self.short[word as usize] = value as u32 + 1;
+            return;
+        }
+        widen(&mut self.wide, word as usize + 1);
+        self.wide[word as usize] = value;
+        self.short[word as usize] = 0;
     }
 
-    /// All values, and the short ones.
-    pub(crate) fn lists(&self) -> (&[u64], &[u16])
-        ensures values { result.0.now ≡ self.now }
-        ensures short { AreShort self.now result.1.now }
+    /// The short values, and those that are not short.
+    pub(crate) fn lists(&self) -> (&[u32], &[u64])
+        ensures values { found_values result.0.now result.1.now ≡ self.now }
+        ensures short { AreShort result.0.now result.1.now }
     {
-        (self.values.as_slice(), self.short.as_slice())
+        (self.short.as_slice(), self.wide.as_slice())
     }
 }
 
-/// A value and 1, or 0 where that doesn't fit.
-fn short_of(value: u64) -> u16
-    ensures short { IsShort value result }
+/// What stands for the value 0.
+const ZERO: u32 = 1;
+
+/// Takes so many words of the room into use, where fewer are.
+fn widen(wide: &mut Vec<u64>, words: usize)
+    requires room { words ≤ vec_capacity wide.old }
+    ensures same { (k : ℕ) → slice_index wide.new.items k ≡ slice_index wide.old.items k }
+    ensures words { words ≤ length wide.new.items }
+    ensures longer { length wide.old.items ≤ length wide.new.items }
+    ensures capacity { vec_capacity wide.new ≡ vec_capacity wide.old }
 {
-    if value < u64::from(u16::MAX) {
-        value as u16 + 1
-    } else {
-        0
+    while wide.len() < words {
+        wide.push_reserved(0);
     }
 }
 
 /// Whether a word where this was found is as it was.
-pub(crate) fn is_as_before(values: &[u64], short: &[u16], word: u32, found: u64) -> bool
-    requires short { AreShort values.now short.now }
-    requires word { word < length values.now }
+pub(crate) fn is_as_before(short: &[u32], wide: &[u64], word: u32, found: u64) -> bool
+    requires short { AreShort short.now wide.now }
+    requires word { word < length short.now }
     requires fits { found ≤ whole_allotment }
-    ensures same { result ≡ true → slice_index values.now word ≡ found }
-    ensures other { result ≡ false → slice_index values.now word ≢ found }
+    ensures same { result ≡ true → slice_index (found_values short.now wide.now) word ≡ found }
+    ensures other { result ≡ false → slice_index (found_values short.now wide.now) word ≢ found }
 {
-    found + 1 == u64::from(short[word as usize]) || found == values[word as usize]
+    let stood = short[word as usize];
+    if stood == 0 {
+        found == wide[word as usize]
+    } else {
+        found + 1 == u64::from(stood)
+    }
 }

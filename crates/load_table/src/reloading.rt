@@ -38,11 +38,11 @@ pub(crate) fn load_while_same(
     ensures allotment { seat.new.me.0.allot ≡ seat.old.me.0.allot }
     ensures whole { (w : ℕ) → first ≤ w → w < result.0 → slice_index seat.new.me.0.last w ≤ whole_allotment }
 {
-    let (values, short) = last.lists();
+    let (short, wide) = last.lists();
     let mut found = 0;
     for word in first..end {
         found = steps::load(table, seat, word as usize);
-        if !is_as_before(values, short, word, found) {
+        if !is_as_before(short, wide, word, found) {
             return (word + 1, found);
         }
     }

@@ -8,7 +8,6 @@ use Rattle.grid_base.specs.declared.size.Size.{Size}
 use Rattle.grid_base.specs.declared.vertex.Vertex.{Vertex}
 use Rattle.grid_base.specs.Lists.{At}
 use Rattle.grid_base.specs.Walks.{Joins, InVertices}
-use Rattle.grid_base.proofs.Lists.{head_or_rest}
 use Rattle.grid_graph.specs.Weighed.{IsAllowed}
 use Rattle.label_search.specs.Sets.{IsLeastWeight, IsEither}
 use Rattle.label_search.proofs.Sets.{joins_ends}
@@ -103,19 +102,6 @@ nearest_all s pieces tiles place n least is all = record {
   joined = is.joined;
   nearest = λ i u differs at. is.nearest i u (omega (arith, all, slice_get_within tiles i u at)) differs at;
 }
-
--- two tiles as a list
-pub pair_vertices : (a b : Vertex) (v : ℕ) → InVertices (a ∷ b ∷ []) v ↔ IsEither a.0 b.0 v
-pair_vertices a b v = (
-  (λ is. ⊎_elim
-      (λ here. inl (ap (λ (u : Vertex). u.0) here))
-      (λ rest. ⊎_elim (λ here. inr (ap (λ (u : Vertex). u.0) here)) (λ none. absurd (omega (arith, none.1))) (head_or_rest b [] (record { 0 = v }) rest))
-      (head_or_rest a (b ∷ []) (record { 0 = v }) is)),
-  λ is. ⊎_elim
-      (λ here. (0, omega arith, ap (λ n. record { 0 = n }) (sym here)))
-      (λ here. (1, omega arith, ap (λ n. record { 0 = n }) (sym here)))
-      is,
-)
 
 pub either_turned : (a b v : ℕ) → IsEither a b v ↔ IsEither b a v
 either_turned a b v = ((λ is. ⊎_elim (λ one. inr one) (λ other. inl other) is), λ is. ⊎_elim (λ one. inr one) (λ other. inl other) is)

@@ -38,4 +38,5 @@ pub use kept_rows::KeptRows;
 pub use laws::{holding_tables_bound_sets, pruned_tables_hold_completed};
 pub use limits::{FEW_TERMINALS, LONE_MASKS, PROPER_MASKS, ROOTED_MASKS};
 pub use no_family::NoFamily;
+pub use rest_of::RestOf;
 pub use terminal_masks::{all_but_root_of, all_of, are_parts, has_terminal, single_of};

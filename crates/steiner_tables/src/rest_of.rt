@@ -4,16 +4,37 @@ ghost use Rattle.std.specs.Prelude.{◌<◌};
 ghost use Rattle.steiner_tables.specs.Masks.{all_of};
 
 use crate::family::Family;
+use crate::terminal_masks::single_of;
 use grid_base::{Place, Vertex};
 use label_search::Bound;
 
-/// The bound of a family for the terminals of one mask.
+/// The bound of a family for the terminals of one mask: what is still to go to them.
 #[derive(Drop)]
-pub(crate) struct RestOf<'a, F: Family> {
+pub struct RestOf<'a, F: Family> {
     pub(crate) family: &'a F,
     pub(crate) mask: u32,
     pub ghost some: { 0 < mask },
     pub ghost within: { mask < all_of (F.terminals family.now) },
+}
+
+impl<'a, F: Family> RestOf<'a, F> {
+    ghost use Rattle.std.specs.Prelude.{◌≡◌, ◌≤◌, ◌<◌, length};
+    ghost use Rattle.steiner_tables.specs.Masks.{few_terminals, single};
+
+    /// What is still to go to one of several terminals.
+    pub fn to_one(family: &'a F, terminals: &[Vertex], place: usize) -> RestOf<'a, F>
+        requires same { F.terminals family.now ≡ terminals.now }
+        requires several { 2 ≤ length terminals.now }
+        requires few { length terminals.now ≤ few_terminals }
+        requires place { place < length terminals.now }
+        ensures family { result.family.now ≡ family.now }
+        ensures mask { result.mask ≡ single place }
+    {
+        RestOf {
+            family,
+            mask: single_of(place as u32),
+        }
+    }
 }
 
 impl<'a, F: Family> Bound for RestOf<'a, F> {

@@ -5,6 +5,7 @@ pub mod collections;
 pub mod env;
 pub mod fs;
 pub mod io;
+pub mod lists;
 pub mod prelude;
 pub mod rt;
 pub mod string;

@@ -1,8 +1,7 @@
-use Rattle.std.proofs.Common.{All, sym, ◌∙◌, subst, arith}
+use Rattle.std.proofs.Common.{All, sym, ◌∙◌, subst}
 use Rattle.grid_base.specs.declared.size.Size.{Size}
 use Rattle.grid_base.specs.declared.vertex.Vertex.{Vertex}
 use Rattle.grid_base.specs.Numbers.{IsVertex}
-use Rattle.steiner_exact.proofs.Attempts.{few_masks}
 use Rattle.least_weights.proofs.FewVertices.{few_least}
 use Rattle.least_weights.proofs.least.least_weight.Goals as goal
 
@@ -11,10 +10,4 @@ returns-then-terminals-lt2-clause-least g c = few_least (g.W.Weights.size c.args
 
 pub new-family-requires-clause-terminals : goal.new-family-requires-clause-terminals
 new-family-requires-clause-terminals g c =
-    subst (λ (x : Size). All (λ (v : Vertex). IsVertex x v.0) c.args.terminals.now) (sym (c.size.ensures ∙ c.tree_guess.ensures.size ∙ c.requires.labels)) c.requires.vertices
-
-pub least_at_root-requires-clause-room : goal.least_at_root-requires-clause-room
-least_at_root-requires-clause-room g c = omega (arith, few_masks c.args.terminals.now c.requires.few, c.requires.room, c.tree_guess.ensures.masks)
-
-pub returns-clause-least : goal.returns-clause-least
-returns-clause-least g c = c.least_at_root.ensures.least.lightest
+    subst (λ (x : Size). All (λ (v : Vertex). IsVertex x v.0) c.args.terminals.now) (sym (c.size.ensures ∙ c.requires.labels)) c.requires.vertices

@@ -3,7 +3,9 @@ use Rattle.std.proofs.lemmas.List.{set-get_or}
 use Rattle.load_core.specs.Parties.{whole_allotment}
 use Rattle.load_table.specs.Holdings.{IsShare, held}
 use Rattle.load_table.specs.Runs.{LoadsBetween}
+use Rattle.load_table.specs.Shortened.{found_values}
 use Rattle.load_table.proofs.RunSteps.{run_of_none, run_of_more, share_loaded, fits_whole, whole_more}
+use Rattle.load_table.proofs.ShortValues.{length-found}
 use Rattle.load_table.proofs.reloading.load_while_same.Goals.{After-load-found}
 use Rattle.load_table.proofs.reloading.load_while_same.Goals as goal
 
@@ -62,6 +64,9 @@ whole-then c w low early = rw c.load-found.ensures.party
 pub is_as_before-requires-clause-fits : goal.is_as_before-requires-clause-fits
 is_as_before-requires-clause-fits c = fits c
 
+pub is_as_before-requires-clause-word : goal.is_as_before-requires-clause-word
+is_as_before-requires-clause-word c = omega (arith, within c, ap length c.loop-word.invariant.last, length-found c.lists.result.0.now c.lists.result.1.now)
+
 pub returns-then-not-is_as_before : goal.returns-then-not-is_as_before
 returns-then-not-is_as_before c =
     let at = (goal.at.returns-then-not-is_as_before c).After-load-found in
@@ -85,12 +90,13 @@ loop-word-preserved c =
     let inv = at.loop-word.invariant in
     let k = at.loop-word.word in
     let behind : k + 1 - 1 ≡ k = omega arith in
-    let same : slice_index c.lists.result.0.now k ≡ at.load-found.result = c.is_as_before.ensures.same (c.if-not-is_as_before.false) in
-    let last : at.load-found.new.seat.me.0.last ≡ c.lists.result.0.now =
+    let values = found_values c.lists.result.0.now c.lists.result.1.now in
+    let same : slice_index values k ≡ at.load-found.result = c.is_as_before.ensures.same (c.if-not-is_as_before.false) in
+    let last : at.load-found.new.seat.me.0.last ≡ values =
     last-then at
     ∙ ap (λ (l : List ℕ). slice_set l k at.load-found.result) (sym c.lists.ensures.values)
-    ∙ ap (λ (n : ℕ). slice_set c.lists.result.0.now k n) (sym same)
-    ∙ set-get_or c.lists.result.0.now k 0 in
+    ∙ ap (λ (n : ℕ). slice_set values k n) (sym same)
+    ∙ set-get_or values k 0 in
     record {
       low = omega (arith, inv.low);
       table = at.load-found.ensures.table ∙ inv.table;
@@ -107,6 +113,7 @@ loop-word-preserved c =
 pub returns : goal.returns
 returns c =
     let inv = c.loop-word.invariant in
+    let values = found_values c.lists.result.0.now c.lists.result.1.now in
     let end : c.loop-word.word ≡ c.args.end = omega (arith, c.loop-word-test.false, c.loop-word.auto.word-end, c.requires.some) in
     record {
       next = (c.requires.some, omega arith);
@@ -116,8 +123,8 @@ returns c =
       read = rw (← end) inv.read;
       found = rw (← end)
           (inv.last
-          ∙ sym (set-get_or c.lists.result.0.now (c.loop-word.word - 1) 0)
-          ∙ ap (λ (n : ℕ). slice_set c.lists.result.0.now (c.loop-word.word - 1) n) (sym (inv.found (omega (arith, end, c.requires.some))))
+          ∙ sym (set-get_or values (c.loop-word.word - 1) 0)
+          ∙ ap (λ (n : ℕ). slice_set values (c.loop-word.word - 1) n) (sym (inv.found (omega (arith, end, c.requires.some))))
           ∙ ap (λ (l : List ℕ). slice_set l (c.loop-word.word - 1) c.loop-word.found) c.lists.ensures.values);
       changed = λ some. absurd (omega (arith, some));
       shares = inv.shares;

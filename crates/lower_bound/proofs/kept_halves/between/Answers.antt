@@ -1,8 +1,8 @@
 use Rattle.std.proofs.Common.{[], ◌∷◌}
 use Rattle.grid_base.specs.Walks.{InVertices}
 use Rattle.label_search.specs.Sets.{IsEither}
-use Rattle.least_weights.proofs.FewVertices.{least_alike}
-use Rattle.lower_bound.proofs.NearestPairs.{pair_vertices, either_turned}
+use Rattle.least_weights.proofs.FewVertices.{least_alike, pair_vertices}
+use Rattle.lower_bound.proofs.NearestPairs.{either_turned}
 use Rattle.lower_bound.proofs.kept_halves.between.Goals as goal
 
 pub returns-then-other-one-clause-least : goal.returns-then-other-one-clause-least
