@@ -14,7 +14,7 @@ the clock. Behind the seconds of each stage stand
 - vertices taken out of searches, by the type of the bound that leads them, or by a name.
 
 With --instructions nothing is added, and `valgrind` counts the instructions of a run, which no other work on the machine changes; where a
-command stands there, of `grouter` with these words. All runs are of one thread but for that of `route` with --workers.
+command stands there, of `grouter` with these words. These runs are of one thread, but for that of `route` with --workers.
 
 Counting takes some nanoseconds a vertex, and the copies count in the seconds of stages and parts. CHECKOUT may be an earlier commit,
 if its sources have the same functions.
@@ -24,7 +24,7 @@ import os
 import re
 import subprocess
 
-from runs import plain_words
+from runs import COMMANDS, plain_words
 
 HERE = os.path.dirname(os.path.abspath(__file__))
 ONCE = 'static TALLY: std::tally::Tally = std::tally::Tally::new("{}"); TALLY.once();'
@@ -78,6 +78,8 @@ def main():
     words.add_argument('first', metavar='DESIGN')
     words.add_argument('words', nargs=argparse.REMAINDER)
     asked = words.parse_args()
+    if asked.first in COMMANDS and not asked.instructions:
+        words.error('stages are counted of plain_route alone: a command goes with --instructions')
     subprocess.run([os.path.join(HERE, 'plain_build.py'), asked.checkout, asked.folder], check=True)
     if not asked.instructions:
         add_tallies(asked.folder)

@@ -5,16 +5,20 @@
 
 Writes the plain sources of CHECKOUT to FOLDER as bench/plain_build.py does, with an allocator that counts, builds and runs
 `plain_route DESIGN --timing WORD ..`. Behind the seconds of each stage stands how much lists held when they held most in it, and of
-which items: large lists have pages of their own, of 128 KiB and more, and small ones lie in the heap. A list counts with all the
-room that it asked for, though the system gives memory to what is written alone: beside what was asked for stands the greatest
-memory of the process, which counts 16 bytes a list that the count itself takes.
+which items: lists of 128 KiB and more (*large*) have pages of their own, and *small* ones lie in the heap. Types with less than half a
+percent are left out, and what is noted may be 256 KiB below the most. What is no list of the sources is that of the libraries, as the
+words of a table.
 
-CHECKOUT may be an earlier commit, if its sources have the same functions.
+A list counts with all the room that it asked for, though the system gives memory to what is written alone: so beside it stands the
+greatest memory of the process so far, with 16 bytes a list that the count itself takes. CHECKOUT may be an earlier commit, if
+bench/plain_programs can be built with it.
 """
 import argparse
 import os
 import re
 import subprocess
+
+from runs import plain_words
 
 HERE = os.path.dirname(os.path.abspath(__file__))
 # calls of lists that may take memory, by their names
@@ -32,7 +36,7 @@ def write(path, text):
 def count_lists(folder):
     sources = os.path.join(folder, 'stand_ins', 'plain_std', 'src')
     lists, root, tally = (os.path.join(sources, name) for name in ('vec.rs', 'lib.rs', 'tally.rs'))
-    text = re.sub(rf'\bfn (?:{"|".join(TAKING)})\b[^;{{]*\{{\n', r'\g<0>let _taking = crate::lists::taking::<T>();\n', open(lists).read())
+    text = re.sub(rf'\bfn (?:{"|".join(TAKING)})\b[^\n]*\{{\n', r'\g<0>let _taking = crate::lists::taking::<T>();\n', open(lists).read())
     full = 'let _taking = (self.0.len() == self.0.capacity()).then(crate::lists::taking::<T>);'
     write(lists, re.sub(r'\bfn push\([^{]*\{\n', rf'\g<0>{full}\n', text))
     write(root, open(root).read() + '\n#[global_allocator]\nstatic LISTS: lists::Counted = lists::Counted;\n')
@@ -49,8 +53,8 @@ def main():
     subprocess.run([os.path.join(HERE, 'plain_build.py'), asked.checkout, asked.folder], check=True)
     count_lists(asked.folder)
     subprocess.run(['cargo', 'build', '-q', '--release', '--offline', '-p', 'plain_programs'], cwd=asked.folder, check=True)
-    program = os.path.join(asked.folder, 'target', 'release', 'plain_route')
-    subprocess.run([program, asked.design, '--timing', *asked.words], check=True, env=dict(os.environ, MALLOC_MMAP_THRESHOLD_='131072'))
+    run = plain_words(asked.folder, asked.design, asked.words)
+    subprocess.run(run, check=True, env=dict(os.environ, MALLOC_MMAP_THRESHOLD_='131072'))
 
 
 if __name__ == '__main__':

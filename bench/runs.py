@@ -8,7 +8,7 @@ from dataclasses import dataclass
 
 # seconds between two looks at the memory of a run
 APART = 0.02
-# what `grouter` may be asked for
+# the commands of `grouter` that are measured by its plain build
 COMMANDS = ('judge', 'measure', 'route')
 TOP = os.path.dirname(os.path.dirname(os.path.abspath(__file__)))
 
@@ -19,7 +19,8 @@ def built(name):
 
 
 def plain_words(folder, first, words):
-    """The words that start a program of the plain build in a folder: `grouter`, where the first one is a command, or `plain_route`."""
+    """The words that start a program of the plain build in a folder: `grouter`, where the first one is a command, or `plain_route`,
+    which tells the seconds of each stage."""
     programs = os.path.join(folder, 'target', 'release')
     if first in COMMANDS:
         return [os.path.join(programs, 'grouter'), first, *words]

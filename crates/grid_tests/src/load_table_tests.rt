@@ -58,19 +58,19 @@ fn a_run_of_loads_ends_behind_a_word_that_changed(rt: HostRuntime) -> Result<(),
 
 #[test]
 fn what_was_found_last_may_be_above_32_bits_and_below_again(rt: HostRuntime) -> Result<(), Fail> {
-    let (table, mut share) = LoadTable::open(rt.alloc(), 4)?;
+    let (table, mut share) = LoadTable::open(rt.alloc(), 5)?;
     put(&mut share, &table, 3, 1 << 40);
     let above = share.load(&table, 3);
     put(&mut share, &table, 1, 1 << 33);
-    let before = (share.reload(&table, 0, 4), share.reload(&table, 2, 4));
+    let before = (share.reload(&table, 0, 5), share.reload(&table, 2, 5));
     let both = (share.last_of(1), share.last_of(3));
     if share.share_of(3) >= 1 << 40 {
         share.sub(&table, 3, (1 << 40) - 5);
     }
-    let again = (share.reload(&table, 0, 4), share.reload(&table, 0, 4));
+    let again = (share.reload(&table, 0, 5), share.reload(&table, 0, 5));
     let last = (share.last_of(0), share.last_of(1), share.last_of(3));
-    assert!(rt; (above, before, both) == (1 << 40, (2, 4), (1 << 33, 1 << 40)));
-    assert!(rt; (again, last) == ((4, 4), (0, 1 << 33, 5)));
+    assert!(rt; (above, before, both) == (1 << 40, (2, 5), (1 << 33, 1 << 40)));
+    assert!(rt; (again, last) == ((4, 5), (0, 1 << 33, 5)));
     Ok(())
 }
 

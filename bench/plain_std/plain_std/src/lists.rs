@@ -25,7 +25,7 @@ static KINDS_ALIVE: [[Kind; 2]; KINDS] = [const { [const { Kind { lists: AtomicU
 static ALIVE: AtomicUsize = AtomicUsize::new(0);
 static NOTED: AtomicUsize = AtomicUsize::new(0);
 static NAMES: Mutex<[&'static str; KINDS]> = Mutex::new([""; KINDS]);
-static AT_MOST: Mutex<[[(usize, usize); 2]; KINDS]> = Mutex::new([[(0, 0); 2]; KINDS]);
+static AT_MOST: Mutex<Noted> = Mutex::new([[(0, 0); 2]; KINDS]);
 
 thread_local! {
     static KIND: Cell<usize> = const { Cell::new(0) };
@@ -36,7 +36,7 @@ thread_local! {
 /// The place of a type by its name.
 fn place_of(name: &'static str) -> usize {
     let mut names = NAMES.lock().unwrap();
-    let place = (1..KINDS).find(|&place| names[place] == name || names[place].is_empty()).unwrap_or(0);
+    let place = (1..KINDS).find(|&place| names[place] == name || names[place].is_empty()).expect("fewer types of items");
     names[place] = name;
     place
 }
@@ -66,8 +66,21 @@ impl Drop for Taking {
 /// The allocator of the system, which counts what is alive.
 pub struct Counted;
 
+type Noted = [[(usize, usize); 2]; KINDS];
+
 fn kind(place: usize, size: usize) -> &'static Kind {
     &KINDS_ALIVE[place][usize::from(size >= LARGE)]
+}
+
+/// Notes what is alive.
+fn note(at_most: &mut Noted) {
+    NOTED.store(ALIVE.load(Relaxed), Relaxed);
+    for place in 0..KINDS {
+        for large in 0..2 {
+            let kind = &KINDS_ALIVE[place][large];
+            at_most[place][large] = (kind.lists.load(Relaxed), kind.bytes.load(Relaxed));
+        }
+    }
 }
 
 fn added(place: usize, size: usize) {
@@ -78,13 +91,7 @@ fn added(place: usize, size: usize) {
         return;
     }
     if let Ok(mut at_most) = AT_MOST.try_lock() {
-        NOTED.store(alive, Relaxed);
-        for place in 0..KINDS {
-            for large in 0..2 {
-                let kind = &KINDS_ALIVE[place][large];
-                at_most[place][large] = (kind.lists.load(Relaxed), kind.bytes.load(Relaxed));
-            }
-        }
+        note(&mut at_most);
     }
 }
 
@@ -94,47 +101,51 @@ fn removed(place: usize, size: usize) {
     ALIVE.fetch_sub(size, Relaxed);
 }
 
-fn with_head(size: usize) -> Layout {
-    Layout::from_size_align(size + HEAD, HEAD).unwrap()
+fn with_head(layout: Layout) -> Layout {
+    assert!(layout.align() <= HEAD, "an alignment above {HEAD}");
+    Layout::from_size_align(layout.size() + HEAD, HEAD).unwrap()
 }
 
-// SAFETY: each call goes to the system's allocator, with room for the head before what is asked for; no type of the sources has an
-// alignment above 16.
+/// The list behind its head, or null where the system had no memory.
+unsafe fn begun(taken: *mut u8, size: usize) -> *mut u8 {
+    if taken.is_null() {
+        return taken;
+    }
+    let place = KIND.try_with(Cell::get).unwrap_or(0);
+    added(place, size);
+    unsafe {
+        taken.cast::<usize>().write(place);
+        taken.add(HEAD)
+    }
+}
+
+// SAFETY: each call goes to the system's allocator, with room for the head before what is asked for. `with_head` refuses an alignment
+// that the head would spoil.
 unsafe impl GlobalAlloc for Counted {
     unsafe fn alloc(&self, layout: Layout) -> *mut u8 {
-        let place = KIND.try_with(Cell::get).unwrap_or(0);
-        unsafe {
-            let taken = System.alloc(with_head(layout.size()));
-            taken.cast::<usize>().write(place);
-            added(place, layout.size());
-            taken.add(HEAD)
-        }
+        unsafe { begun(System.alloc(with_head(layout)), layout.size()) }
     }
 
     unsafe fn alloc_zeroed(&self, layout: Layout) -> *mut u8 {
-        let place = KIND.try_with(Cell::get).unwrap_or(0);
-        unsafe {
-            let taken = System.alloc_zeroed(with_head(layout.size()));
-            taken.cast::<usize>().write(place);
-            added(place, layout.size());
-            taken.add(HEAD)
-        }
+        unsafe { begun(System.alloc_zeroed(with_head(layout)), layout.size()) }
     }
 
     unsafe fn dealloc(&self, given: *mut u8, layout: Layout) {
         unsafe {
             let taken = given.sub(HEAD);
             removed(taken.cast::<usize>().read(), layout.size());
-            System.dealloc(taken, with_head(layout.size()));
+            System.dealloc(taken, with_head(layout));
         }
     }
 
     unsafe fn realloc(&self, given: *mut u8, layout: Layout, size: usize) -> *mut u8 {
         unsafe {
-            let taken = given.sub(HEAD);
+            let taken = System.realloc(given.sub(HEAD), with_head(layout), size + HEAD);
+            if taken.is_null() {
+                return taken;
+            }
             let place = taken.cast::<usize>().read();
             removed(place, layout.size());
-            let taken = System.realloc(taken, with_head(layout.size()), size + HEAD);
             added(place, size);
             taken.add(HEAD)
         }
@@ -163,10 +174,10 @@ pub fn tell() {
         }
     }
     lines.sort_by(|one, other| other.0.cmp(&one.0));
-    println!("  at most {:.1} MiB were asked for at once; the process had at most {:.1} MiB so far", NOTED.load(Relaxed) as f64 / MEBIBYTE, greatest());
-    for (bytes, line) in lines.iter().filter(|line| line.0 * 200 > NOTED.load(Relaxed)) {
+    let noted = NOTED.load(Relaxed);
+    println!("  at most {:.1} MiB were asked for at once; the process had at most {:.1} so far", noted as f64 / MEBIBYTE, greatest());
+    for (bytes, line) in lines.iter().filter(|line| line.0 * 200 > noted) {
         println!("  {:8.1} MiB: {line}", *bytes as f64 / MEBIBYTE);
     }
-    *at_most = [[(0, 0); 2]; KINDS];
-    NOTED.store(0, Relaxed);
+    note(&mut at_most);
 }
