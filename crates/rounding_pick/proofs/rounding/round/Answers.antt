@@ -1,4 +1,4 @@
-use Rattle.std.proofs.Common.{◌≡◌, ◌<◌, ◌+◌, ◌∷◌, ◌++◌, ℕ, List, [], take, drop, length, get_or, slice_index, sym, ◌∙◌, ap, arith}
+use Rattle.std.proofs.Common.{◌≡◌, ◌<◌, ◌+◌, ◌∷◌, ◌++◌, ℕ, List, [], All, take, drop, length, get_or, slice_index, sym, ◌∙◌, ap, subst, arith}
 use Rattle.std.specs.List.{remove}
 use Rattle.std.proofs.Math.Seq.{take-append_seam}
 use Rattle.std.proofs.lemmas.List.{ext_get_or}
@@ -12,6 +12,7 @@ use Rattle.grid_graph.specs.Grids.{entries}
 use Rattle.load_core.specs.Parties.{share_at}
 use Rattle.load_table.specs.Holdings.{IsShare}
 use Rattle.tree_set.specs.Loads.{load_on, load_list}
+use Rattle.tree_set.specs.Routings.{IsRouting}
 use Rattle.sharing_runs.proofs.Between.{load_list-at, load_list-long}
 use Rattle.routing_stages.specs.declared.shared.Shared.{Shared}
 use Rattle.routing_stages.specs.Phases.{phases_load}
@@ -54,6 +55,14 @@ first_removed (y ∷ xs) x some is = ap (λ z. z ∷ xs) is
 
 pub take_phases-requires-clause-words : goal.take_phases-requires-clause-words
 take_phases-requires-clause-words c = table_words c.args.design.now c.args.shared c.requires.whole c.allotment.ensures.share
+
+pub take_phases-requires-clause-routings : goal.take_phases-requires-clause-routings
+take_phases-requires-clause-routings c =
+    let d = c.args.design.now in
+    let left = c.keep_picked.new.others in
+    let taken : c.deref.result.now ≡ left =
+    c.deref.ensures.value ∙ all_written c.remove-trees.new.self.len left c.remove-trees.new.self.items (omega (arith, c.keep_picked.auto.others, c.deref_mut.ensures.len)) in
+    subst (λ (ps : List (List (List Piece))). All (IsRouting d.grid d.nets) ps) (sym taken) c.keep_picked.ensures.left
 
 pub take_phases-requires-clause-had : goal.take_phases-requires-clause-had
 take_phases-requires-clause-had c r within =
