@@ -83,7 +83,8 @@ def main():
     subprocess.run([os.path.join(HERE, 'plain_build.py'), asked.checkout, asked.folder], check=True)
     if not asked.instructions:
         add_tallies(asked.folder)
-    subprocess.run(['cargo', 'build', '-q', '--release', '--offline', '-p', 'plain_programs', '-p', 'grouter'], cwd=asked.folder, check=True)
+    package = 'grouter' if asked.first in COMMANDS else 'plain_programs'
+    subprocess.run(['cargo', 'build', '-q', '--release', '--offline', '-p', package], cwd=asked.folder, check=True)
     run = plain_words(asked.folder, asked.first, asked.words)
     if asked.instructions:
         count_instructions(run)
