@@ -10,8 +10,8 @@ pub length-found : (short wide : List ℕ) → length (found_values short wide) 
 length-found short wide = length-map-range_with_len (found_at short wide) 0 (length short)
 
 -- a word of the values is one of the short list
-pub inside-short : (short wide values : List ℕ) (k : ℕ) → found_values short wide ≡ values → k < length values → k < length short
-inside-short short wide values k is within = omega (arith, within, ap length is, length-found short wide)
+pub inside-short : (short wide : List ℕ) {values : List ℕ} {k : ℕ} → found_values short wide ≡ values → k < length values → k < length short
+inside-short short wide is within = omega (arith, within, ap length is, length-found short wide)
 
 -- the value of a word
 at-found : (short wide : List ℕ) (k : ℕ) → k < length short → slice_index (found_values short wide) k ≡ found_at short wide k

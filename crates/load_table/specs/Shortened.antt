@@ -15,6 +15,6 @@ found_at short wide k = stands_for (slice_index short k) (slice_index wide k)
 abbrev pub found_values : List ℕ → List ℕ → List ℕ
 found_values short wide = map (found_at short wide) (range_with_len 0 (length short))
 
--- each value is short, or it has a place in the list of those in full
-abbrev pub AreShort : List ℕ → List ℕ → Type 0
-AreShort short wide = (k : ℕ) → k < length short → slice_index short k ≡ 0 → k < length wide
+-- the values that are not short have places in the list of those in full
+abbrev pub HavePlaces : List ℕ → List ℕ → Type 0
+HavePlaces short wide = (k : ℕ) → k < length short → slice_index short k ≡ 0 → k < length wide

@@ -1,8 +1,7 @@
 //! What was found last.
 
-ghost use Rattle.std.specs.Prelude.{◌≡◌, ◌≢◌, ◌<◌, ◌≤◌, ℕ, length, replicate, slice_index, slice_set, vec_capacity, false, true, IfOk};
-ghost use Rattle.load_core.specs.Parties.{whole_allotment};
-ghost use Rattle.load_table.specs.Shortened.{AreShort, found_values};
+ghost use Rattle.std.specs.Prelude.{◌≡◌, ◌<◌, ◌≤◌, ℕ, length, replicate, slice_index, slice_set, vec_capacity, IfOk};
+ghost use Rattle.load_table.specs.Shortened.{HavePlaces, found_values};
 
 use grid_base::NoMemory;
 use std::alloc::Global;
@@ -21,13 +20,13 @@ pub(crate) struct Found {
 
 impl Model for Found {
     ghost use Rattle.std.specs.Prelude.{List, ℕ, ◌≤◌, length, vec_capacity};
-    ghost use Rattle.load_table.specs.Shortened.{AreShort, found_values};
+    ghost use Rattle.load_table.specs.Shortened.{HavePlaces, found_values};
 
     ghost Value = { List ℕ };
 
     ghost view = { λ f. found_values f.short.items f.wide.items };
 
-    ghost invariant = { λ f. AreShort f.short.items f.wide.items × (length f.short.items ≤ vec_capacity f.wide) };
+    ghost invariant = { λ f. HavePlaces f.short.items f.wide.items × (length f.short.items ≤ vec_capacity f.wide) };
 }
 
 impl Found {
@@ -45,12 +44,8 @@ impl Found {
         requires word { word < length self.now }
         ensures value { result ≡ slice_index self.now word }
     {
-        let stood = self.short[word as usize];
-        if stood == 0 {
-            self.wide[word as usize]
-        } else {
-            u64::from(stood) - 1
-        }
+        let (short, wide) = self.lists();
+        value_at(short, wide, word)
     }
 
     /// What was found last in a word becomes this value.
@@ -70,7 +65,7 @@ impl Found {
     /// The short values, and those that are not short.
     pub(crate) fn lists(&self) -> (&[u32], &[u64])
         ensures values { found_values result.0.now result.1.now ≡ self.now }
-        ensures short { AreShort result.0.now result.1.now }
+        ensures places { HavePlaces result.0.now result.1.now }
     {
         (self.short.as_slice(), self.wide.as_slice())
     }
@@ -92,18 +87,16 @@ fn widen(wide: &mut Vec<u64>, words: usize)
     }
 }
 
-/// Whether a word where this was found is as it was.
-pub(crate) fn is_as_before(short: &[u32], wide: &[u64], word: u32, found: u64) -> bool
-    requires short { AreShort short.now wide.now }
+/// The value of a word, by the short values and by those that are not short.
+pub(crate) fn value_at(short: &[u32], wide: &[u64], word: u32) -> u64
+    requires places { HavePlaces short.now wide.now }
     requires word { word < length short.now }
-    requires fits { found ≤ whole_allotment }
-    ensures same { result ≡ true → slice_index (found_values short.now wide.now) word ≡ found }
-    ensures other { result ≡ false → slice_index (found_values short.now wide.now) word ≢ found }
+    ensures value { result ≡ slice_index (found_values short.now wide.now) word }
 {
     let stood = short[word as usize];
     if stood == 0 {
-        found == wide[word as usize]
+        wide[word as usize]
     } else {
-        found + 1 == u64::from(stood)
+        u64::from(stood) - 1
     }
 }

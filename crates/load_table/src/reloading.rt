@@ -5,7 +5,7 @@ ghost use Rattle.load_core.specs.Parties.{whole_allotment};
 ghost use Rattle.load_table.specs.Holdings.{IsShare, held};
 ghost use Rattle.load_table.specs.Runs.{LoadsBetween};
 
-use crate::found::{Found, is_as_before};
+use crate::found::{Found, value_at};
 use crate::rule::Sums;
 use crate::steps;
 use atomic_table::{Seat, Shared};
@@ -42,7 +42,7 @@ pub(crate) fn load_while_same(
     let mut found = 0;
     for word in first..end {
         found = steps::load(table, seat, word as usize);
-        if !is_as_before(short, wide, word, found) {
+        if value_at(short, wide, word) != found {
             return (word + 1, found);
         }
     }

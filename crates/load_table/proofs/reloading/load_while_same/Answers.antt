@@ -61,15 +61,12 @@ whole-then : (c : After-load-found) (w : ℕ) → c.args.first ≤ w → w < c.l
 whole-then c w low early = rw c.load-found.ensures.party
     (whole_more c.args.first c.loop-word.word c.load-found.result c.loop-word.seat.me.0.last (within c) (rw c.loop-word.invariant.last c.loop-word.invariant.whole) (fits c) w low early)
 
-pub is_as_before-requires-clause-fits : goal.is_as_before-requires-clause-fits
-is_as_before-requires-clause-fits c = fits c
+pub value_at-requires-clause-word : goal.value_at-requires-clause-word
+value_at-requires-clause-word c = omega (arith, within c, ap length c.loop-word.invariant.last, length-found c.lists.result.0.now c.lists.result.1.now)
 
-pub is_as_before-requires-clause-word : goal.is_as_before-requires-clause-word
-is_as_before-requires-clause-word c = omega (arith, within c, ap length c.loop-word.invariant.last, length-found c.lists.result.0.now c.lists.result.1.now)
-
-pub returns-then-not-is_as_before : goal.returns-then-not-is_as_before
-returns-then-not-is_as_before c =
-    let at = (goal.at.returns-then-not-is_as_before c).After-load-found in
+pub returns-then-value_at-found : goal.returns-then-value_at-found
+returns-then-value_at-found c =
+    let at = (goal.at.returns-then-value_at-found c).After-load-found in
     let behind : at.loop-word.word + 1 - 1 ≡ at.loop-word.word = omega arith in
     record {
       next = (omega (arith, at.loop-word.invariant.low), omega (arith, at.loop-word-test.true));
@@ -78,7 +75,7 @@ returns-then-not-is_as_before c =
       share = share-then at;
       read = read-then at;
       found = rw behind (last-then at);
-      changed = λ some. rw (behind, ← c.lists.ensures.values) (c.is_as_before.ensures.other c.if-not-is_as_before.true);
+      changed = λ some. rw (behind, ← c.lists.ensures.values, ← c.value_at.ensures.value) c.if-value_at-found.true;
       shares = ap (λ m. m.0.shares) at.load-found.ensures.party ∙ at.loop-word.invariant.shares;
       allotment = ap (λ m. m.0.allot) at.load-found.ensures.party ∙ at.loop-word.invariant.allotment;
       whole = whole-then at;
@@ -91,7 +88,7 @@ loop-word-preserved c =
     let k = at.loop-word.word in
     let behind : k + 1 - 1 ≡ k = omega arith in
     let values = found_values c.lists.result.0.now c.lists.result.1.now in
-    let same : slice_index values k ≡ at.load-found.result = c.is_as_before.ensures.same (c.if-not-is_as_before.false) in
+    let same : slice_index values k ≡ at.load-found.result = sym c.value_at.ensures.value ∙ c.if-value_at-found.false in
     let last : at.load-found.new.seat.me.0.last ≡ values =
     last-then at
     ∙ ap (λ (l : List ℕ). slice_set l k at.load-found.result) (sym c.lists.ensures.values)
