@@ -2,7 +2,6 @@
 use Rattle.std.proofs.Common.{ℕ, ◌≡◌, ◌+◌, ◌*◌, ◌/◌, ◌%◌, ◌^◌, ◌<◌, List, length, max, get_or, ap, ◌∙◌, arith, add-one, refl}
 use Rattle.std.proofs.lemmas.Option.{get_or_from_slice_get}
 use Rattle.grid_base.specs.declared.vertex.Vertex.{Vertex}
-use Rattle.steiner_tables.specs.Masks.{few_terminals}
 use Rattle.steiner_exact.specs.declared.extent.Extent.{Extent}
 use Rattle.steiner_exact.specs.Boxes.{width_with}
 use Rattle.landmarks.specs.Numbers.{landmark_count, number_by}
@@ -20,7 +19,7 @@ widest-more numbers terminals mask v k = ap (widest_span numbers terminals mask 
 
 -- the span of a mask by a landmark stands at its place
 span_at : (numbers : List (List ℕ)) (terminals : List Vertex) (spans : List Extent) (mask k : ℕ) (other : Extent)
-    → AreSpans numbers terminals spans → mask < 2 ^ few_terminals → k < landmark_count
+    → AreSpans numbers terminals spans → mask < 2 ^ length terminals → k < landmark_count
     → get_or spans (mask * 4 + k) other ≡ span_of numbers terminals mask (length terminals) k
 span_at numbers terminals spans mask k other are few low =
     let place : ℕ = mask * 4 + k in
@@ -33,7 +32,7 @@ span_at numbers terminals spans mask k other are few low =
 
 -- one landmark more
 pub widest_step : (numbers : List (List ℕ)) (terminals : List Vertex) (spans : List Extent) (mask v k widest number width next : ℕ)
-    (other : Extent) → AreSpans numbers terminals spans → mask < 2 ^ few_terminals → k < landmark_count
+    (other : Extent) → AreSpans numbers terminals spans → mask < 2 ^ length terminals → k < landmark_count
     → widest ≡ widest_span numbers terminals mask v k → number ≡ number_by numbers k v
     → width ≡ width_with (get_or spans (mask * 4 + k) other) number → next ≡ max widest width
     → next ≡ widest_span numbers terminals mask v (k + 1)

@@ -2,7 +2,6 @@
 use Rattle.std.specs.Prelude.{ℕ, zero, suc, ◌+◌, ◌*◌, ◌/◌, ◌%◌, ◌<◌, ◌^◌, List, length, max, min}
 use Rattle.grid_base.specs.declared.vertex.Vertex.{Vertex}
 use Rattle.grid_base.specs.Lists.{At}
-use Rattle.steiner_tables.specs.Masks.{few_terminals}
 use Rattle.steiner_exact.specs.declared.extent.Extent.{Extent}
 use Rattle.steiner_exact.specs.Boxes.{box_low, extent_of, width_with}
 use Rattle.label_search.specs.Stamped.{far}
@@ -16,7 +15,7 @@ span_of numbers terminals mask count k = extent_of (number_by numbers k) termina
 
 -- what the terminals of each mask span by each landmark; the spans of a mask stand behind one another
 abbrev pub AreSpans : List (List ℕ) → List Vertex → List Extent → Type 0
-AreSpans numbers terminals spans = (place : ℕ) → place < 2 ^ few_terminals * landmark_count
+AreSpans numbers terminals spans = (place : ℕ) → place < 2 ^ length terminals * landmark_count
     → At spans place (span_of numbers terminals (place / landmark_count) (length terminals) (place % landmark_count))
 
 -- how far the terminals of a mask and a vertex reach at most by the first landmarks

@@ -68,7 +68,7 @@ impl<'a, W: Weights> LandmarkFamily<'a, W> {
 
     /// How far the terminals of a mask and a vertex reach at most by a landmark.
     fn beyond(&self, mask: u32, v: Vertex) -> u32
-        requires mask { mask < 2 ^ few_terminals }
+        requires mask { mask < 2 ^ length self.now.terminals.now }
         requires vertex { IsVertex self.now.size v.0 }
         ensures { result ≡ widest_span self.now.landmarks.now.numbers.items self.now.terminals.now mask v.0 landmark_count }
     {

@@ -8,7 +8,7 @@ ghost use Rattle.landmarks.specs.Spans.{span_of, AreSpans};
 use crate::landmarks::{LANDMARKS, Landmarks};
 use grid_base::Vertex;
 use steiner_exact::{Extent, MASKS};
-use steiner_tables::has_terminal;
+use steiner_tables::{all_of, has_terminal};
 
 /// So many spans have all masks by all landmarks.
 pub(crate) const SPANS: usize = MASKS * LANDMARKS;
@@ -20,7 +20,7 @@ pub(crate) fn all_spans(landmarks: &Landmarks, terminals: &[Vertex]) -> [Extent;
     ensures { AreSpans landmarks.now.numbers.items terminals.now result }
 {
     let mut spans = [Extent::NONE; SPANS];
-    for place in 0..SPANS {
+    for place in 0..(all_of(terminals.len()) as usize + 1) * LANDMARKS {
         let mask = (place / LANDMARKS) as u32;
         spans[place] = span_of(landmarks, terminals, mask, place % LANDMARKS);
     }

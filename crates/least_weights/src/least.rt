@@ -1,6 +1,6 @@
 //! The least weight that joins a few terminals.
 
-ghost use Rattle.std.specs.Prelude.{◌≡◌, ◌≤◌, ℕ, All, length};
+ghost use Rattle.std.specs.Prelude.{◌≡◌, ◌≤◌, All, length};
 ghost use Rattle.grid_base.specs.Numbers.{IsVertex};
 ghost use Rattle.grid_base.specs.Walks.{Joins, InVertices};
 ghost use Rattle.grid_graph.specs.Weighed.{IsAllowed};
@@ -12,11 +12,12 @@ ghost use Rattle.landmarks.specs.Numbers.{AreLandmarks};
 use grid_base::Vertex;
 use grid_graph::{FlooredWeights, Weights};
 use landmarks::{LandmarkFamily, Landmarks};
-use shortest_paths::{Family, Labels};
+use shortest_paths::Labels;
 use steiner_exact::{BoxFamily, FIRST_SLACK, least_at_root, tree_guess};
-use steiner_tables::RestOf;
+use steiner_tables::{Family, RestOf};
 
-/// The least weight of a set of allowed pieces that joins at most five terminals.
+/// The least weight of a set of allowed pieces that joins at most five terminals. Of more than two it takes memory for a tree to
+/// begin under; where there is none, the search takes a few more turns.
 pub fn least_weight<W: FlooredWeights>(
     weights: &W,
     terminals: &[Vertex],
@@ -60,8 +61,7 @@ pub(crate) fn least_by_landmarks<W: FlooredWeights>(
     least_by(weights, &led, terminals, labels)
 }
 
-/// The same, led by a family. Of two terminals it is their distance. Of more the search begins under the weight of a tree; where
-/// there is no memory for one, it takes a few more turns.
+/// The same, led by a family. Of two terminals it is their distance. Of more the search begins under the weight of a tree.
 fn least_by<W: FlooredWeights, F: Family>(
     weights: &W,
     family: &F,
@@ -105,7 +105,7 @@ fn distance_by<W: Weights, F: Family>(
     ensures size { labels_size labels.new ≡ labels_size labels.old }
     ensures masks { masks_of labels.new ≡ masks_of labels.old }
 {
-    let bound = RestOf::to_one(family, terminals, 1);
+    let bound = RestOf::to_one(family, 1);
     labels.distance_between(weights, &bound, terminals[0], terminals[1]);
     labels.distance(terminals[1]).unwrap()
 }

@@ -6,7 +6,7 @@ use Rattle.grid_base.specs.declared.vertex.Vertex.{Vertex}
 use Rattle.grid_base.specs.Lists.{At}
 use Rattle.grid_base.specs.Numbers.{cols, rows, layers, col_of, row_of, layer_of, place_at}
 use Rattle.grid_graph.specs.declared.floors.Floors.{Floors}
-use Rattle.steiner_tables.specs.Masks.{few_terminals, bit}
+use Rattle.steiner_tables.specs.Masks.{bit}
 use Rattle.steiner_exact.specs.declared.extent.Extent.{Extent}
 use Rattle.steiner_exact.specs.declared.terminal_box.TerminalBox.{TerminalBox}
 
@@ -75,6 +75,6 @@ box_of s terminals mask = first_box s terminals mask (length terminals)
 abbrev pub box_low : Size → Floors → List Vertex → ℕ → ℕ → ℕ
 box_low s floors terminals mask v = box_distance floors (box_of s terminals mask) (place_at s v)
 
--- a box for each mask
+-- a box for each mask of the terminals
 abbrev pub AreBoxes : Size → List Vertex → List TerminalBox → Type 0
-AreBoxes s terminals boxes = (mask : ℕ) → mask < 2 ^ few_terminals → At boxes mask (box_of s terminals mask)
+AreBoxes s terminals boxes = (mask : ℕ) → mask < 2 ^ length terminals → At boxes mask (box_of s terminals mask)

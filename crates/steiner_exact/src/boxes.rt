@@ -7,20 +7,20 @@ ghost use Rattle.steiner_exact.specs.Boxes.{box_of, AreBoxes};
 
 use crate::terminal_box::TerminalBox;
 use grid_base::{Size, Vertex};
-use steiner_tables::has_terminal;
+use steiner_tables::{all_of, has_terminal};
 
 /// So many masks have up to five terminals.
 pub const MASKS: usize = 32;
 
-/// The box of each mask.
+/// The box of each mask of the terminals. Where they are fewer than five, no one looks at what stands behind these.
 pub fn boxes_of(size: Size, terminals: &[Vertex]) -> [TerminalBox; MASKS]
     requires terminals { All (λ v. IsVertex size v.0) terminals.now }
     requires few { length terminals.now ≤ few_terminals }
     ensures { AreBoxes size terminals.now result }
 {
     let mut boxes = [TerminalBox::NONE; MASKS];
-    for mask in 0..MASKS {
-        boxes[mask] = box_of(size, terminals, mask as u32);
+    for mask in 0..all_of(terminals.len()) + 1 {
+        boxes[mask as usize] = box_of(size, terminals, mask);
     }
     boxes
 }

@@ -13,7 +13,8 @@
 //! `all_of`, `all_but_root_of`, `has_terminal` and `are_parts`.
 //!
 //! A `Family` of lower bounds says what the other terminals cost at least (Hougardy, Silvanus and Vygen 2017), and what
-//! is above a limit together with them is left out; `NoFamily` leaves nothing out.
+//! is above a limit together with them is left out; `NoFamily` leaves nothing out. `RestOf` makes one bound of it, of what is
+//! still to go to the terminals of one mask.
 //!
 //! It stands on `label_search` for searches, on `grid_graph` for `Weights`, and on `grid_base` for vertices and pieces.
 //!

@@ -22,17 +22,16 @@ impl<'a, F: Family> RestOf<'a, F> {
     ghost use Rattle.steiner_tables.specs.Masks.{few_terminals, single};
 
     /// What is still to go to one of several terminals.
-    pub fn to_one(family: &'a F, terminals: &[Vertex], place: usize) -> RestOf<'a, F>
-        requires same { F.terminals family.now ≡ terminals.now }
-        requires several { 2 ≤ length terminals.now }
-        requires few { length terminals.now ≤ few_terminals }
-        requires place { place < length terminals.now }
+    pub fn to_one(family: &'a F, place: u32) -> RestOf<'a, F>
+        requires several { 2 ≤ length (F.terminals family.now) }
+        requires few { length (F.terminals family.now) ≤ few_terminals }
+        requires place { place < length (F.terminals family.now) }
         ensures family { result.family.now ≡ family.now }
         ensures mask { result.mask ≡ single place }
     {
         RestOf {
             family,
-            mask: single_of(place as u32),
+            mask: single_of(place),
         }
     }
 }

@@ -16,13 +16,13 @@ pub bounds-self-mask : goal.bounds-self-mask
 bounds-self-mask g c = below c.args.mask _ c.args.self.now.few c.requires.mask
 
 pub beyond-requires-clause-mask : goal.beyond-requires-clause-mask
-beyond-requires-clause-mask g c = below c.args.mask _ c.args.self.now.few c.requires.mask
+beyond-requires-clause-mask g c = omega (arith, c.requires.mask)
 
 pub distance-reach-requires-clause-inside : goal.distance-reach-requires-clause-inside
 distance-reach-requires-clause-inside g c =
     let x = c.args.self.now in
     let is = get_or_from_slice_get x.boxes c.args.mask (box_of x.size x.terminals.now c.args.mask) _
-    (x.boxed c.args.mask (below c.args.mask _ x.few c.requires.mask)) in
+    (x.boxed c.args.mask (omega (arith, c.requires.mask))) in
     subst (IsBoxIn x.size) (sym is) (box-inside x.size x.terminals.now c.args.mask x.vertices)
 
 pub distance-reach-requires-clause-place : goal.distance-reach-requires-clause-place
@@ -34,7 +34,7 @@ returns-clause-value g c =
     let x = c.args.self.now in
     let floors = x.landmarks.now.floors in
     let is = get_or_from_slice_get x.boxes c.args.mask (box_of x.size x.terminals.now c.args.mask) _
-    (x.boxed c.args.mask (below c.args.mask _ x.few c.requires.mask)) in
+    (x.boxed c.args.mask (omega (arith, c.requires.mask))) in
     let reach = c.distance-reach.ensures.value ∙ ap (λ (b : TerminalBox). box_distance floors b c.args.place) is
     ∙ ap (box_distance floors (box_of x.size x.terminals.now c.args.mask)) c.requires.place in
     omega (arith, c.min.ensures, reach, c.from.ensures, c.beyond.ensures)

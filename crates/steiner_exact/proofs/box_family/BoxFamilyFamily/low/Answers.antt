@@ -18,7 +18,7 @@ bounds-self-mask g c = below c.args.mask _ c.args.self.now.few c.requires.mask
 pub distance-requires-clause-inside : goal.distance-requires-clause-inside
 distance-requires-clause-inside g c =
     let x = c.args.self.now in
-    let is = get_or_from_slice_get x.boxes c.args.mask (box_of x.size x.terminals.now c.args.mask) _ (x.boxed c.args.mask (below c.args.mask _ x.few c.requires.mask)) in
+    let is = get_or_from_slice_get x.boxes c.args.mask (box_of x.size x.terminals.now c.args.mask) _ (x.boxed c.args.mask (omega (arith, c.requires.mask))) in
     subst (IsBoxIn x.size) (sym is) (box-inside x.size x.terminals.now c.args.mask x.vertices)
 
 pub distance-requires-clause-place : goal.distance-requires-clause-place
@@ -28,5 +28,5 @@ distance-requires-clause-place g c =
 pub returns-clause-value : goal.returns-clause-value
 returns-clause-value g c =
     let x = c.args.self.now in
-    let is = get_or_from_slice_get x.boxes c.args.mask (box_of x.size x.terminals.now c.args.mask) _ (x.boxed c.args.mask (below c.args.mask _ x.few c.requires.mask)) in
+    let is = get_or_from_slice_get x.boxes c.args.mask (box_of x.size x.terminals.now c.args.mask) _ (x.boxed c.args.mask (omega (arith, c.requires.mask))) in
     c.distance.ensures.value ∙ ap (λ (b : TerminalBox). box_distance x.floors b c.args.place) is ∙ ap (box_distance x.floors (box_of x.size x.terminals.now c.args.mask)) c.requires.place

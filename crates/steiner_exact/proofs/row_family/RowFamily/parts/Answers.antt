@@ -37,7 +37,7 @@ width : (g : _) (c : After-from g) → c.from.result ≡ layers_with c.args.self
 width g c =
     let x = c.args.self.now in
     let mask = c.args.mask in
-    let is = get_or_from_slice_get x.boxes mask (box_of x.size x.terminals.now mask) _ (x.boxed mask (below mask (length x.terminals.now) x.few c.requires.mask)) in
+    let is = get_or_from_slice_get x.boxes mask (box_of x.size x.terminals.now mask) _ (x.boxed mask (omega (arith, c.requires.mask))) in
     c.from.ensures ∙ c.width_with-layers.ensures ∙ ap (λ (b : TerminalBox). width_with b.layers c.args.place.layer) is
     ∙ ap (λ (p : Place). width_with (box_of x.size x.terminals.now mask).layers p.layer) c.requires.place
 

@@ -1,7 +1,5 @@
-use Rattle.std.proofs.Common.{List, length, ap, arith}
+use Rattle.std.proofs.Common.{length, arith}
 use Rattle.std.proofs.lemmas.Nat.{pow_pos}
-use Rattle.grid_base.specs.declared.vertex.Vertex.{Vertex}
-use Rattle.steiner_tables.specs.Masks.{all_of}
 use Rattle.steiner_tables.proofs.LoneRows.{single_below}
 use Rattle.steiner_tables.proofs.rest_of.RestOf.to_one.Goals as goal
 
@@ -13,6 +11,5 @@ invariant_of-result-clause-within g c =
     omega (
       arith,
       c.single_of.ensures,
-      single_below (length c.args.terminals.now) c.args.place c.requires.several c.requires.place,
-      ap (λ (xs : List Vertex). all_of xs) c.requires.same,
+      single_below (length (g.F.Family.terminals c.args.family.now)) c.args.place c.requires.several c.requires.place,
     )
