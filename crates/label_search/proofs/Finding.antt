@@ -12,8 +12,10 @@ use Rattle.std.specs.List.{All}
 use Rattle.std.proofs.lemmas.List.Elements.{All-get_or}
 use Rattle.label_search.specs.declared.found.Slot.{Slot}
 use Rattle.label_search.specs.declared.found.Found.{Found}
-use Rattle.label_search.specs.Finding.{AreFound, HasSpotAt, unset, nowhere, vertex_found}
+use Rattle.label_search.specs.Finding.{AreFound, unset, nowhere, vertex_found}
 use Rattle.label_search.specs.Founds.{index_in, FindsMore, AreFoundFirst}
+use Rattle.label_search.specs.Padding.{padded}
+use Rattle.label_search.proofs.Padded.{length-padded, get_or-padded_other}
 use Rattle.label_search.proofs.Pigeons.{less_than}
 
 -- the slot of a vertex with the present stamp has its index
@@ -62,6 +64,22 @@ room_for f v vertex new =
     less_than (vertices f.size) f.len (vertex_found f.spots.items) v vertex (λ j high. (f.found.standing j high).vertex)
     (λ i j low high same. sym (index_in-at f i low) ∙ ap (index_in f) same ∙ index_in-at f j high)
     (λ j high same. new (subst (λ u. (get_or f.slots.items u unset).stamp ≡ f.present) same (ap (λ (x : Slot). x.stamp) (f.found.indexed j high))))
+
+-- a list of spots as another, but for the spot at an index, up to which it goes at least
+pub record HasSpotAt (old new : List Spot) (i : ℕ) (to : Spot) : Type 0 where
+  pub inside : i < length new
+  pub here : get_or new i nowhere ≡ to
+  pub others : (j : ℕ) → j ≢ i → get_or new j nowhere ≡ get_or old j nowhere
+
+-- a spot was written at an index of the list, or behind its end
+pub spot_put : (spots more : List Spot) (i : ℕ) (to : Spot) → i ≤ length spots → more ≡ padded spots i to → HasSpotAt spots (set more i to) i to
+spot_put spots more i to near is =
+    let inside : i < length more = omega (arith, ap (λ (xs : List Spot). length xs) is, length-padded spots i to) in
+    record {
+      inside = omega (arith, inside, length-set more i to);
+      here = get_or-set_same more i to nowhere inside;
+      others = λ j other. get_or-set_other more i j to nowhere other ∙ ap (λ (xs : List Spot). get_or xs j nowhere) is ∙ get_or-padded_other spots i j to nowhere near other;
+    }
 
 -- one more vertex is found
 pub AreFound-more : (s : Size) (slots : List Slot) (spots more : List Spot) (len present : ℕ) (to : Spot) → AreFound s slots spots len present → IsSpot s to → (get_or slots to.vertex.0 unset).stamp ≢ present → len < vertices s → HasSpotAt spots more len to →

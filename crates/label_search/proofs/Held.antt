@@ -3,41 +3,47 @@ use Rattle.std.proofs.Common.{◌≡◌, ◌≢◌, ℕ, ◌+◌, ◌-◌, ◌*�
 use Rattle.std.proofs.Common.{⊎_elim, arith}
 use Rattle.std.proofs.lemmas.Bool.{cases_eq, cases_lt}
 use Rattle.std.proofs.lemmas.Grind.{common_steps}
-use Rattle.label_search.specs.Heaps.{IsIndexed, HasGap, Holds, FillsGap, AreOrdered, MayRise}
+use Rattle.grid_base.specs.Limits.{max_vertices}
+use Rattle.label_search.specs.Heaps.{IsIndexed, HasGap, Holds, FillsGap, parent, AreOrdered, MayRise}
 use Rattle.label_search.specs.Held.{IsLeastHeld}
 use Rattle.label_search.specs.declared.heap.Heap.{Heap}
 use Rattle.label_search.proofs.Order.{root_least}
-use Rattle.label_search.proofs.Pigeons.{less_than}
+use Rattle.label_search.proofs.Padded.{IsPadded}
+use Rattle.label_search.proofs.Pigeons.{at_most, less_than}
 
 -- two places in use don't have one vertex
 pub places_differ : (ks vs ps : List ℕ) (len : ℕ) → IsIndexed ks vs ps len → (i j : ℕ) → i < len → j < len
     → get_or vs i 0 ≡ get_or vs j 0 → i ≡ j
 places_differ ks vs ps len is i j low high same = sym (is.noted i low) ∙ ap (λ v. get_or ps v 0) same ∙ is.noted j high
 
--- a vertex that isn't in the heap finds room at its end
-pub room_for : (ks vs ps : List ℕ) (len v : ℕ) → IsIndexed ks vs ps len → v < length ks
-    → ((j : ℕ) → j < len → get_or vs j 0 ≢ v) → len < length ks
-room_for ks vs ps len v is inside new = less_than (length ks) len (λ j. get_or vs j 0) v inside is.within
-    (places_differ ks vs ps len is) new
+-- the place of a vertex, or the one behind all others, is within the room
+pub gap_room : (ks vs ps : List ℕ) (len gap v room : ℕ) → IsIndexed ks vs ps len → length ps ≤ room → v < room → gap ≤ len
+    → ((j : ℕ) → j < len → j ≢ gap → get_or vs j 0 ≢ v) → gap < room
+gap_room ks vs ps len gap v room is small inside low others =
+    let below : (j : ℕ) → j < len → get_or vs j 0 < room = λ j at. omega (arith, is.within j at, small) in
+    ⊎_elim
+    (λ within. omega (arith, within, at_most room len (λ j. get_or vs j 0) below (places_differ ks vs ps len is)))
+    (λ past.
+    let new : (j : ℕ) → j < len → get_or vs j 0 ≢ v = λ j at. others j at (λ same. omega (arith, at, past, same)) in
+    omega (arith, low, less_than room len (λ j. get_or vs j 0) v inside below (places_differ ks vs ps len is) new))
+    (cases_lt gap len)
 
--- the place of a vertex, or the one behind all others, waits for it
-pub gap_for : (ks vs ps : List ℕ) (len gap v : ℕ) → IsIndexed ks vs ps len → v < length ks → gap ≤ len
-    → ((j : ℕ) → j < len → j ≢ gap → get_or vs j 0 ≢ v) → HasGap ks vs ps (max len (gap + 1)) gap v
-gap_for ks vs ps len gap v is inside low others = record {
+-- the place of a vertex, or the one behind all others, waits for it in the lists that have room for it
+pub gap_for : (ks vs ps more_ks more_vs more_ps : List ℕ) (len gap v : ℕ) → IsIndexed ks vs ps len → IsPadded ks more_ks gap 0
+    → IsPadded vs more_vs gap 0 → IsPadded ps more_ps v 0 → gap < max_vertices → gap ≤ len
+    → ((j : ℕ) → j < len → j ≢ gap → get_or vs j 0 ≢ v) → HasGap more_ks more_vs more_ps (max len (gap + 1)) gap v
+gap_for ks vs ps more_ks more_vs more_ps len gap v is keys vertices places small low others = record {
   lists = record {
-    vertices = is.lists.vertices;
-    places = is.lists.places;
-    small = is.lists.small;
-    room = ⊎_elim
-        (λ within. omega (arith, within, is.lists.room))
-        (λ past. omega (arith, past, low, room_for ks vs ps len v is inside (λ j at. others j at (λ same. omega (arith, at, past, same)))))
-        (cases_lt gap len);
+    vertices = omega (arith, keys.long, vertices.long, is.lists.vertices);
+    small = omega (arith, keys.long, is.lists.small, small);
+    room = omega (arith, keys.long, is.lists.room);
   };
   inside = omega arith;
-  vertex = inside;
-  within = λ j at other. is.within j (omega (arith, at, other, low));
-  noted = λ j at other. is.noted j (omega (arith, at, other, low));
-  other = λ j at other. others j (omega (arith, at, other, low)) other;
+  vertex = omega (arith, places.long);
+  within = λ j at other. omega (arith, vertices.same j, is.within j (omega (arith, at, other, low)), places.long);
+  noted = λ j at other. places.same (get_or more_vs j 0) ∙ ap (λ u. get_or ps u 0) (vertices.same j)
+      ∙ is.noted j (omega (arith, at, other, low));
+  other = λ j at other same. others j (omega (arith, at, other, low)) other (sym (vertices.same j) ∙ same);
 }
 
 -- a key that is no greater than the one that stands there may rise
@@ -53,29 +59,37 @@ may_rise ks len gap key order low lower = record {
       omega (arith, lower (omega (arith, inside, below)), order j some inside, ap (λ n. get_or ks n 0) below);
 }
 
+-- a longer list is ordered as before
+pub ordered_padded : (ks more_ks : List ℕ) (len gap : ℕ) → IsPadded ks more_ks gap 0 → AreOrdered ks len → AreOrdered more_ks len
+ordered_padded ks more_ks len gap keys order j some at =
+    omega (arith, keys.same (parent j), keys.same j, order j some at)
+
 -- the heap holds what it held, but for the vertex that got another key
-pub lowered_kept : (ks vs new_ks new_vs : List ℕ) (len gap v key : ℕ) → (gap < len → get_or vs gap 0 ≡ v)
-    → FillsGap ks vs new_ks new_vs (max len (gap + 1)) gap v key →
+pub lowered_kept : (ks vs more_ks more_vs new_ks new_vs : List ℕ) (len gap v key : ℕ) → IsPadded ks more_ks gap 0
+    → IsPadded vs more_vs gap 0 → (gap < len → get_or vs gap 0 ≡ v)
+    → FillsGap more_ks more_vs new_ks new_vs (max len (gap + 1)) gap v key →
     (u k : ℕ) → u ≢ v → Holds ks vs len u k → Holds new_ks new_vs (max len (gap + 1)) u k
-lowered_kept ks vs new_ks new_vs len gap v key here is u k other held =
+lowered_kept ks vs more_ks more_vs new_ks new_vs len gap v key keys vertices here is u k other before =
     is.kept u k (record {
-      place = held.place;
-      inside = omega (arith, held.inside);
-      elsewhere = λ same. other (sym held.vertex ∙ ap (λ j. get_or vs j 0) same ∙ here (omega (arith, same, held.inside)));
-      vertex = held.vertex;
-      valued = held.valued;
+      place = before.place;
+      inside = omega (arith, before.inside);
+      elsewhere = λ same. other (sym before.vertex ∙ ap (λ j. get_or vs j 0) same ∙ here (omega (arith, same, before.inside)));
+      vertex = vertices.same before.place ∙ before.vertex;
+      valued = keys.same before.place ∙ before.valued;
     })
 
-pub lowered_only : (ks vs new_ks new_vs : List ℕ) (len gap v key : ℕ) → gap ≤ len
-    → ((j : ℕ) → j < len → j ≢ gap → get_or vs j 0 ≢ v) → FillsGap ks vs new_ks new_vs (max len (gap + 1)) gap v key →
+pub lowered_only : (ks vs more_ks more_vs new_ks new_vs : List ℕ) (len gap v key : ℕ) → IsPadded ks more_ks gap 0
+    → IsPadded vs more_vs gap 0 → gap ≤ len → ((j : ℕ) → j < len → j ≢ gap → get_or vs j 0 ≢ v)
+    → FillsGap more_ks more_vs new_ks new_vs (max len (gap + 1)) gap v key →
     (u k : ℕ) → Holds new_ks new_vs (max len (gap + 1)) u k → ((u ≡ v) × (k ≡ key)) ⊎ ((u ≢ v) × Holds ks vs len u k)
-lowered_only ks vs new_ks new_vs len gap v key low others is u k held = ⊎_elim
+lowered_only ks vs more_ks more_vs new_ks new_vs len gap v key keys vertices low others is u k held = ⊎_elim
     (λ here. inl here)
     (λ old.
     let inside : old.place < len = omega (arith, old.inside, old.elsewhere, low) in
+    let vertex = sym (vertices.same old.place) ∙ old.vertex in
     inr (
-      λ same. others old.place inside old.elsewhere (old.vertex ∙ same),
-      record { place = old.place; inside = inside; vertex = old.vertex; valued = old.valued },
+      λ same. others old.place inside old.elsewhere (vertex ∙ same),
+      record { place = old.place; inside = inside; vertex = vertex; valued = sym (keys.same old.place) ∙ old.valued },
     ))
     (is.only u k held)
 

@@ -1,6 +1,7 @@
 pub mod Gaps
 pub mod Held
 pub mod Order
+pub mod Padded
 pub mod Pigeons
 pub mod Law
 pub mod Sets

@@ -1,5 +1,5 @@
 -- Lists of slots and of found vertices.
-use Rattle.std.specs.Prelude.{ℕ, ◌≡◌, ◌≢◌, ◌<◌, ◌≤◌, List, length, get_or}
+use Rattle.std.specs.Prelude.{ℕ, ◌≡◌, ◌<◌, ◌≤◌, List, length, get_or}
 use Rattle.grid_base.specs.declared.size.Size.{Size}
 use Rattle.grid_base.specs.declared.spot.Spot.{Spot}
 use Rattle.grid_base.specs.Numbers.{vertices}
@@ -17,12 +17,6 @@ nowhere = record { vertex = record { 0 = 0 }; place = record { col = 0; row = 0;
 -- the vertex at an index
 abbrev pub vertex_found : List Spot → ℕ → ℕ
 vertex_found spots i = (get_or spots i nowhere).vertex.0
-
--- a list of spots as another, but for the spot at an index, up to which it goes at least
-pub record HasSpotAt (old new : List Spot) (i : ℕ) (to : Spot) : Type 0 where
-  pub inside : i < length new
-  pub here : get_or new i nowhere ≡ to
-  pub others : (j : ℕ) → j ≢ i → get_or new j nowhere ≡ get_or old j nowhere
 
 -- each of the first `len` spots is that of a vertex whose slot has its index and the present stamp; no other slot has
 -- that stamp, and none a later one

@@ -2,25 +2,24 @@
 use Rattle.std.specs.Prelude.{ℕ, ◌≡◌, ◌≢◌, ◌<◌, ◌≤◌, ◌⊎◌, ◌-◌, ◌/◌, List, length, slice_index}
 use Rattle.grid_base.specs.Limits.{max_vertices}
 
--- three lists of one length, of which the first `len` places may be in use
-pub record AreLists (ks vs ps : List ℕ) (len : ℕ) : Type 0 where
+-- two lists of one length, of which the first `len` places may be in use
+pub record AreLists (ks vs : List ℕ) (len : ℕ) : Type 0 where
   pub vertices : length vs ≡ length ks
-  pub places : length ps ≡ length ks
   pub small : length ks ≤ max_vertices
   pub room : len ≤ length ks
 
 -- each of the first `len` vertices has its place noted
 pub record IsIndexed (ks vs ps : List ℕ) (len : ℕ) : Type 0 where
-  pub lists : AreLists ks vs ps len
-  pub within : (j : ℕ) → j < len → slice_index vs j < length ks
+  pub lists : AreLists ks vs len
+  pub within : (j : ℕ) → j < len → slice_index vs j < length ps
   pub noted : (j : ℕ) → j < len → slice_index ps (slice_index vs j) ≡ j
 
 -- the same but for one place, which waits for the vertex v
 pub record HasGap (ks vs ps : List ℕ) (len gap v : ℕ) : Type 0 where
-  pub lists : AreLists ks vs ps len
+  pub lists : AreLists ks vs len
   pub inside : gap < len
-  pub vertex : v < length ks
-  pub within : (j : ℕ) → j < len → j ≢ gap → slice_index vs j < length ks
+  pub vertex : v < length ps
+  pub within : (j : ℕ) → j < len → j ≢ gap → slice_index vs j < length ps
   pub noted : (j : ℕ) → j < len → j ≢ gap → slice_index ps (slice_index vs j) ≡ j
   pub other : (j : ℕ) → j < len → j ≢ gap → slice_index vs j ≢ v
 

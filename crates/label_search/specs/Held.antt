@@ -1,5 +1,5 @@
 -- What a heap holds.
-use Rattle.std.specs.Prelude.{ℕ, ◌≤◌, length}
+use Rattle.std.specs.Prelude.{ℕ, ◌≤◌}
 use Rattle.label_search.specs.declared.heap.Heap.{Heap}
 use Rattle.label_search.specs.Heaps.{Holds}
 
@@ -9,7 +9,7 @@ IsHeld h v key = Holds h.keys.items h.vertices.items h.len v key
 
 -- the heap has room for the vertices below this number
 abbrev pub heap_room : Heap → ℕ
-heap_room h = length h.keys.items
+heap_room h = h.room
 
 -- the vertex v is in the heap with a key that none is below
 pub record IsLeastHeld (h : Heap) (v : ℕ) : Type 0 where

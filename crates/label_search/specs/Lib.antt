@@ -3,6 +3,7 @@ pub mod Held
 pub mod Searches
 pub mod Sets
 pub mod Stamped
+pub mod Padding
 pub mod Paths
 pub mod Floors
 pub mod Finding

@@ -1,7 +1,8 @@
 -- The numbers of a search.
-use Rattle.std.specs.Prelude.{ℕ, ◌+◌, ◌*◌, ◌≤◌, get_or}
+use Rattle.std.specs.Prelude.{ℕ, ◌+◌, ◌-◌, ◌*◌, ◌≤◌, length, get_or}
 use Rattle.std.specs.List.{sum_by}
 use Rattle.grid_base.specs.declared.size.Size.{Size}
+use Rattle.grid_base.specs.Numbers.{vertices}
 use Rattle.label_search.specs.declared.row.Row.{Row}
 use Rattle.label_search.specs.Founds.{index_in}
 use Rattle.label_search.specs.Held.{IsHeld}
@@ -23,9 +24,9 @@ IsWaiting r v key = IsHeld r.heap (index_in r.found v) key
 abbrev pub Waits : Row → ℕ → Type 0
 Waits r v = (key : ℕ) × IsWaiting r v key
 
--- the sum of the numbers of all vertices
+-- the sum of the numbers of all vertices: those beyond the list are `far`
 abbrev pub total : Row → ℕ
-total r = sum_by (λ x. x) r.numbers.items
+total r = sum_by (λ x. x) r.numbers.items + far * (vertices r.found.size - length r.numbers.items)
 
 -- what falls with each step of a search
 abbrev pub work_left : Row → ℕ

@@ -1,9 +1,10 @@
 //! The vertices that a search has found.
 
-ghost use Rattle.std.specs.Prelude.{◌≡◌, ◌<◌, ◌≤◌, ℕ, length, get_or, vec_capacity};
+ghost use Rattle.std.specs.Prelude.{◌≡◌, ◌≤◌, ℕ, length, get_or, vec_capacity};
 ghost use Rattle.grid_base.specs.Numbers.{vertices};
-ghost use Rattle.label_search.specs.Finding.{AreFound, HasSpotAt, unset};
+ghost use Rattle.label_search.specs.Finding.{AreFound, unset};
 
+use crate::padding::pad_to;
 use grid_base::{NoMemory, Size, Spot, Vertex};
 use std::alloc::Global;
 
@@ -132,23 +133,10 @@ impl Found {
             stamp: self.present,
             index,
         };
-        write_spot(&mut self.spots, index as usize, to);
+        pad_to(&mut self.spots, index as usize, to);
+        self.spots[index as usize] = to;
         self.len += 1;
         index
-    }
-}
-
-/// Writes a spot at an index of the list, or behind its end.
-fn write_spot(spots: &mut Vec<Spot>, index: usize, to: Spot)
-    requires index { index ≤ length spots.old.items }
-    requires room { index < vec_capacity spots.old }
-    ensures written { HasSpotAt spots.old.items spots.new.items index to }
-    ensures capacity { vec_capacity spots.new ≡ vec_capacity spots.old }
-{
-    if index < spots.len() {
-        spots[index] = to;
-    } else {
-        spots.push_reserved(to);
     }
 }
 

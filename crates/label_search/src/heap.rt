@@ -1,7 +1,10 @@
 //! A heap of indices.
 
+ghost use Rattle.std.specs.Prelude.{◌≤◌, length, vec_capacity};
+ghost use Rattle.grid_base.specs.Limits.{max_vertices};
 ghost use Rattle.label_search.specs.Heaps.{IsIndexed, AreOrdered};
 
+use crate::padding::pad_to;
 use crate::sift::{sift_down, sift_up};
 use grid_base::NoMemory;
 use std::alloc::Global;
@@ -9,15 +12,22 @@ use std::alloc::Global;
 /// Indices of found vertices with keys, each at most once. A key is lowered in place, and no call but `new` takes memory.
 ///
 /// The first `len` of `keys` and `vertices` are in use, and `places` has the place of each vertex that is there. Of
-/// other vertices it has any number, so nothing has to be cleared.
+/// other vertices it has any number, or none, so nothing has to be cleared. The lists are as long as the widest search so
+/// far needed, with room for all vertices below `room`.
 #[derive(Drop)]
 pub(crate) struct Heap {
+    room: u32,
     keys: Vec<u64>,
     vertices: Vec<u32>,
     places: Vec<u32>,
     len: usize,
     pub ghost indexed: { IsIndexed keys.items vertices.items places.items len },
     pub ghost ordered: { AreOrdered keys.items len },
+    pub ghost limit: { room ≤ max_vertices },
+    pub ghost placed: { length places.items ≤ room },
+    pub ghost keys_room: { room ≤ vec_capacity keys },
+    pub ghost vertices_room: { room ≤ vec_capacity vertices },
+    pub ghost places_room: { room ≤ vec_capacity places },
 }
 
 impl Heap {
@@ -31,11 +41,11 @@ impl Heap {
         ensures room { IfOk result (λ h. heap_room h ≡ vertices) }
         ensures empty { IfOk result (λ h. h.len ≡ 0) }
     {
-        let room = vertices as usize;
-        let keys = vec![in alloc; 0; room]?;
-        let entered = vec![in alloc; 0; room]?;
-        let places = vec![in alloc; 0; room]?;
+        let keys = Vec::with_capacity(alloc, vertices as usize)?;
+        let entered = Vec::with_capacity(alloc, vertices as usize)?;
+        let places = Vec::with_capacity(alloc, vertices as usize)?;
         Ok(Heap {
+            room: vertices,
             keys,
             vertices: entered,
             places,
@@ -63,6 +73,9 @@ impl Heap {
         ensures only { (u k : ℕ) → IsHeld self.new u k → ((u ≡ index) × (k ≡ key)) ⊎ ((u ≢ index) × IsHeld self.old u k) }
     {
         let gap = self.place_for(index);
+        pad_to(&mut self.keys, gap, 0);
+        pad_to(&mut self.vertices, gap, 0);
+        pad_to(&mut self.places, index as usize, 0);
         self.len = self.len.max(gap + 1);
         sift_up(
             self.keys.as_mut_slice(),
@@ -139,11 +152,13 @@ impl Heap {
 
     /// The place of a vertex, or the one behind all others where it isn't in the heap.
     fn place_for(&self, index: u32) -> usize
-        requires { index < heap_room self.now }
         ensures within { result ≤ self.now.len }
         ensures here { result < self.now.len → slice_index self.now.vertices.items result ≡ index }
         ensures others { (j : ℕ) → j < self.now.len → j ≢ result → slice_index self.now.vertices.items j ≢ index }
     {
+        if index as usize >= self.places.len() {
+            return self.len;
+        }
         let place = self.places[index as usize] as usize;
         if place < self.len && self.vertices[place] == index {
             place

@@ -14,7 +14,8 @@
 //! of each direction weigh. No offer is taken that is above the limit together with the bound.
 //!
 //! It stands on `grid_base` for vertices and pieces and on `grid_graph` for `Weights`. A search takes no memory and clears
-//! nothing: its lists are reserved with the row, and what was found counts only under the stamp of its search.
+//! nothing: its lists are reserved with the row and grow within that room, and what was found counts only under the stamp of
+//! its search.
 //!
 //! Promised: each number is that of a vertex at the begin and the weight of a path from there, and a number that can't fall
 //! any more is at most the weight of every set of allowed pieces that joins its vertex to a source.
@@ -27,6 +28,7 @@ mod grid_distances;
 mod heap;
 mod limits;
 mod no_bound;
+mod padding;
 mod row;
 mod search;
 mod sift;

@@ -1,11 +1,13 @@
 //! The numbers of a search.
 
-ghost use Rattle.std.specs.Prelude.{◌≡◌, ◌≤◌, ℕ, length, get_or};
+ghost use Rattle.std.specs.Prelude.{◌≡◌, ◌≤◌, ℕ, length, get_or, vec_capacity};
+ghost use Rattle.grid_base.specs.Numbers.{vertices};
 ghost use Rattle.label_search.specs.RowParts.{ArePartsOfRow};
 ghost use Rattle.label_search.specs.Stamped.{far};
 
 use crate::found::Found;
 use crate::heap::Heap;
+use crate::padding::pad_to;
 use grid_base::{NoMemory, Size, Spot, Vertex};
 use std::alloc::Global;
 
@@ -17,13 +19,15 @@ pub const FAR: u64 = 1 << 61;
 
 /// The numbers of the vertices that a search has found, and those that wait, in the order of their keys.
 ///
-/// Numbers stand by index, so that the state of a search is dense; the first of them that are found are in use.
+/// Numbers stand by index, so that the state of a search is dense; the first of them that are found are in use. The list is
+/// as long as the widest search so far needed, with room for all vertices.
 #[derive(Drop)]
 pub struct Row {
     found: Found,
     numbers: Vec<u64>,
     heap: Heap,
     pub ghost parts: { ArePartsOfRow found numbers.items heap },
+    pub ghost numbers_room: { vertices found.size ≤ vec_capacity numbers },
 }
 
 impl Row {
@@ -41,7 +45,7 @@ impl Row {
     {
         let vertices = size.vertices();
         let found = Found::new(alloc, size)?;
-        let numbers = vec![in alloc; FAR; vertices as usize]?;
+        let numbers = Vec::with_capacity(alloc, vertices as usize)?;
         let heap = Heap::new(alloc, vertices)?;
         Ok(Row {
             found,
@@ -167,7 +171,8 @@ impl Row {
         ensures numbers { (v : ℕ) → number_in self.new v ≡ number_in self.old v }
         ensures waits { (v key : ℕ) → IsWaiting self.new v key → IsWaiting self.old v key }
     {
-        self.found.find(to);
+        let index = self.found.find(to);
+        pad_to(&mut self.numbers, index as usize, FAR);
     }
 
     /// Gives a vertex this number, with which it waits under this key.
@@ -185,6 +190,7 @@ impl Row {
         ensures only { (u k : ℕ) → IsWaiting self.new u k → ((u ≡ to.vertex.0) × (k ≡ key)) ⊎ ((u ≢ to.vertex.0) × IsWaiting self.old u k) }
     {
         let index = self.found.find(to);
+        pad_to(&mut self.numbers, index as usize, FAR);
         self.numbers[index as usize] = number;
         self.heap.lower(index, key);
     }

@@ -1,4 +1,4 @@
-use Rattle.std.proofs.Common.{◌∙◌, sym, ap}
+use Rattle.std.proofs.Common.{◌∙◌, sym, ap, arith}
 use Rattle.grid_base.specs.Numbers.{vertices}
 use Rattle.label_search.proofs.row.Row.forget.Goals as goal
 
@@ -8,10 +8,12 @@ invariant_of-self c =
     let same = ap vertices (sym c.forget.ensures.size) in
     record {
       parts = record {
-        count = r.parts.count ∙ same;
+        count = omega (arith, r.parts.count, same);
+        found_count = omega (arith, c.forget.ensures.none);
         room = r.parts.room ∙ same;
         limits = r.parts.limits;
         beyond = λ i past. c.clear.ensures.erased i;
         waiting = λ i key held. absurd (c.clear.ensures.idle i key held);
       };
+      numbers_room = omega (arith, r.numbers_room, same);
     }

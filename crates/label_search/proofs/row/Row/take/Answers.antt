@@ -10,11 +10,13 @@ invariant_of-self c =
     record {
       parts = record {
         count = r.parts.count;
+        found_count = r.parts.found_count;
         room = c.take-index.ensures.room ∙ r.parts.room;
         limits = r.parts.limits;
         beyond = r.parts.beyond;
         waiting = λ i key held. r.parts.waiting i key (c.take-index.ensures.only i key held).1;
       };
+      numbers_room = r.numbers_room;
     }
 
 pub spot-requires : goal.spot-requires
