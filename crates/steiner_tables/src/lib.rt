@@ -10,7 +10,7 @@
 //! ```
 //!
 //! The row of a terminal alone asks for no other row: `fill_alone` finds it by itself. A mask is made and read by `single_of`,
-//! `all_of`, `all_but_root_of`, `has_terminal` and `are_parts`.
+//! `all_of`, `all_but_root_of`, `has_terminal`, `are_parts` and `is_part`.
 //!
 //! A `Family` of lower bounds says what the other terminals cost at least (Hougardy, Silvanus and Vygen 2017), and what
 //! is above a limit together with them is left out; `NoFamily` leaves nothing out. `RestOf` makes one bound of it, of what is
@@ -40,4 +40,4 @@ pub use laws::{holding_tables_bound_sets, pruned_tables_hold_completed};
 pub use limits::{FEW_TERMINALS, LONE_MASKS, PROPER_MASKS, ROOTED_MASKS};
 pub use no_family::NoFamily;
 pub use rest_of::RestOf;
-pub use terminal_masks::{all_but_root_of, all_of, are_parts, has_terminal, single_of};
+pub use terminal_masks::{all_but_root_of, all_of, are_parts, has_terminal, is_part, single_of};

@@ -1,6 +1,6 @@
 //! What the row of a mask begins with.
 
-ghost use Rattle.std.specs.Prelude.{◌≡◌, ◌<◌, ◌≤◌, ◌+◌, ◌-◌, ◌^◌, ℕ, List, All, IsTrue, ◌↔◌, length};
+ghost use Rattle.std.specs.Prelude.{◌≡◌, ◌<◌, ◌≤◌, ◌+◌, ◌-◌, ◌^◌, ℕ, List, All, length};
 ghost use Rattle.grid_base.specs.declared.vertex.Vertex.{Vertex as Terminal};
 ghost use Rattle.grid_base.specs.Numbers.{IsVertex};
 ghost use Rattle.steiner_tables.specs.declared.kept_rows.KeptRows.{KeptRows as Kept};
@@ -13,6 +13,7 @@ ghost use Rattle.label_search.specs.Runs.{IsSearch};
 ghost use Rattle.label_search.specs.Stamped.{far};
 
 use crate::kept_rows::KeptRows;
+use crate::terminal_masks::is_part;
 use grid_base::{Spot, Vertex};
 use label_search::{Bound, FAR, Row, offer};
 
@@ -70,15 +71,6 @@ pub(crate) fn seed_alone<B: Bound>(
             offer(row, bound, limit, at, 0);
         }
     }
-}
-
-/// Whether the mask has all terminals of another.
-fn is_part(one: u32, mask: u32) -> bool
-    requires some { 0 < one }
-    requires less { one < mask }
-    ensures { IsTrue result ↔ AreParts one (mask - one) mask }
-{
-    one & mask == one
 }
 
 /// Offers each vertex the sum of its numbers for a part of the mask and for the rest of it.

@@ -64,3 +64,12 @@ pub fn are_parts(one: u32, other: u32, mask: u32) -> bool
     }
     true
 }
+
+/// Whether the mask has all terminals of another and more, so that it is in two parts.
+pub fn is_part(one: u32, mask: u32) -> bool
+    requires some { 0 < one }
+    requires less { one < mask }
+    ensures { IsTrue result ↔ AreParts one (mask - one) mask }
+{
+    one & mask == one
+}

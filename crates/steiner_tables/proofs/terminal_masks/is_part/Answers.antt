@@ -1,7 +1,7 @@
 use Rattle.std.proofs.Common.{◌-◌, arith}
 use Rattle.std.proofs.lemmas.Bool.Decides.{nat_tests}
 use Rattle.steiner_tables.proofs.Parts.{parts_from_and, and_from_parts}
-use Rattle.steiner_tables.proofs.seeds.is_part.Goals as goal
+use Rattle.steiner_tables.proofs.terminal_masks.is_part.Goals as goal
 
 pub returns : goal.returns
 returns c = (
