@@ -2,7 +2,8 @@
 
 ghost use Rattle.std.specs.Prelude.{◌<◌, length};
 
-use grid_base::{NoMemory, Vertex};
+use dijkstra_steiner::SetLabels;
+use grid_base::{NoMemory, Size, Vertex};
 use std::alloc::Global;
 
 /// So many costs are kept.
@@ -22,11 +23,13 @@ impl KeptCost {
     };
 }
 
-/// Least costs of a few tiles, each at a place that the tiles tell. A later one takes the place of an earlier one.
+/// Least costs of a few tiles, each at a place that the tiles tell, and labels for the searches that find them. A later cost takes
+/// the place of an earlier one.
 #[derive(Drop)]
 pub struct KeptCosts {
     entries: Vec<KeptCost>,
     puts: u32,
+    pub(crate) labels: Option<SetLabels>,
     ghost some: { 0 < length entries.items },
 }
 
@@ -38,10 +41,15 @@ impl KeptCosts {
     ghost use Rattle.label_search.specs.Sets.{IsLeastWeight};
     ghost use Rattle.least_weights.specs.KeptCosts.{AreKeptCosts};
 
-    /// Nothing is kept yet.
-    pub fn new(alloc: Global) -> Result<KeptCosts, NoMemory> {
-        let mut entries = vec![in alloc; KeptCost::NONE; ENTRIES]?;
-        Ok(KeptCosts { entries, puts: 0 })
+    /// Nothing is kept yet. Where the flat grid is of this size, its searches have labels.
+    pub fn new(alloc: Global, flat: Size) -> Result<KeptCosts, NoMemory> {
+        let entries = vec![in alloc; KeptCost::NONE; ENTRIES]?;
+        let labels = SetLabels::new(alloc, flat)?;
+        Ok(KeptCosts {
+            entries,
+            puts: 0,
+            labels,
+        })
     }
 
     /// Keeps nothing any more.

@@ -9,6 +9,7 @@ ghost use Rattle.steiner_tables.specs.Masks.{rooted_masks, few_terminals};
 ghost use Rattle.label_search.specs.Sets.{IsLeastWeight};
 ghost use Rattle.landmarks.specs.Numbers.{AreLandmarks};
 
+use dijkstra_steiner::{SetLabels, least_by_sets};
 use grid_base::Vertex;
 use grid_graph::{FlooredWeights, Weights};
 use landmarks::{LandmarkFamily, Landmarks};
@@ -39,11 +40,13 @@ pub fn least_weight<W: FlooredWeights>(
     least_by(weights, &family, terminals, labels)
 }
 
-/// The same of two to five terminals, led by landmarks.
+/// The same of two to five terminals, led by landmarks. Of more than two it is found by one search over their sets, where there are
+/// labels for that of a grid of this size; else, as for a grid of very many tiles, by a table.
 pub(crate) fn least_by_landmarks<W: FlooredWeights>(
     weights: &W,
     landmarks: &Landmarks,
     terminals: &[Vertex],
+    sets: &mut Option<SetLabels>,
     labels: &mut Labels,
 ) -> u64
     requires labels { labels_size labels.old ≡ W.size weights.now }
@@ -58,7 +61,12 @@ pub(crate) fn least_by_landmarks<W: FlooredWeights>(
     ensures masks { masks_of labels.new ≡ masks_of labels.old }
 {
     let led = LandmarkFamily::new(weights, labels.size(), terminals, landmarks);
-    least_by(weights, &led, terminals, labels)
+    match sets {
+        Some(sets) if terminals.len() > 2 && sets.size() == labels.size() => {
+            least_by_sets(weights, &led, terminals, sets)
+        }
+        _ => least_by(weights, &led, terminals, labels),
+    }
 }
 
 /// The same, led by a family. Of two terminals it is their distance. Of more the search begins under the weight of a tree.

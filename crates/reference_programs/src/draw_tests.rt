@@ -45,14 +45,15 @@ distances|9 1 2|4|none
 weights|2 2 2|4|none
 weights|3 2 1|4|none
 weights|1 1 5|4|none
-# least trees weigh what a full table says, and in the first five grids what the lightest of all sets does
+# least trees weigh what a full table says, and in the first five grids what the lightest of all sets does; on flat grids one search
+# over the sets of the terminals finds that too
 tree|3 2 1|16|none
 tree|3 3 1|16|none
 tree|2 2 2|16|none
 tree|2 1 3|16|none
 tree|1 1 5|16|none
 tree|3 2 2|16|none
-tree|6 5 1|16|none
+tree|6 5 1|32|none
 tree|4 3 3|16|none
 tree|5 4 2|16|none
 tree|9 1 2|16|none

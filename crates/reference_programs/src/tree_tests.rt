@@ -11,11 +11,12 @@ use crate::distance_tests::mixed;
 use crate::listed::Listed;
 use crate::piece_sets::{are_pieces, are_vertices};
 use crate::reference_weights::reference_least_weight;
+use dijkstra_steiner::{SetLabels, least_by_sets};
 use grid_base::{NoMemory, Size, Vertex};
 use shortest_paths::Labels;
 use std::alloc::Global;
 use std::test::Fail;
-use steiner_exact::{TreeLabels, least_tree};
+use steiner_exact::{BoxFamily, TreeLabels, least_tree};
 use tree_set::{Tree, joins};
 
 /// All sets of the pieces are tried where they are no more than these.
@@ -89,7 +90,30 @@ fn sets_agree(
     Ok(reference_least_weight(alloc, size, pieces, terminals)? == expected)
 }
 
-/// Whether a least tree weighs what the table says, and what the lightest of all sets weighs.
+/// Whether one search over the sets of the terminals finds this weight, where the grid is flat.
+fn search_agrees(
+    alloc: Global,
+    weights: &Listed,
+    size: Size,
+    terminals: &[Vertex],
+    expected: u64,
+) -> Result<bool, NoMemory>
+    requires size { weights.now.size ≡ size }
+    requires terminals { All (λ v. IsVertex size v.0) terminals.now }
+    requires two { 2 ≤ length terminals.now }
+    requires few { length terminals.now ≤ few_terminals }
+    requires joined { Joins size (IsAllowed weights.now.pieces.items) (InVertices terminals.now) }
+{
+    match SetLabels::new(alloc, size)? {
+        Some(mut labels) => {
+            let family = BoxFamily::new(weights, size, terminals);
+            Ok(least_by_sets(weights, &family, terminals, &mut labels) == expected)
+        }
+        None => Ok(true),
+    }
+}
+
+/// Whether a least tree weighs what the table says, what the lightest of all sets weighs, and what one search finds.
 pub(crate) fn tree_agrees(
     alloc: Global,
     weights: &Listed,
@@ -115,5 +139,8 @@ pub(crate) fn tree_agrees(
         return Ok(true);
     }
     let (tree, weight) = least_tree(alloc, weights, terminals, labels)?;
+    if !search_agrees(alloc, weights, size, terminals, weight)? {
+        return Ok(false);
+    }
     Ok(expected == Some(weight) && is_tree(alloc, weights, size, terminals, &tree, weight)?)
 }
