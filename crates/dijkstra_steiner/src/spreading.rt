@@ -49,7 +49,13 @@ pub(crate) fn spread<W: Weights, F: Family>(
     for step in &spot_steps(stack.flat(), at) {
         if let Some((to, by)) = *step {
             if weights.allows(by) {
-                offer(row, rest, NO_LIMIT, stack.spot(mask, to), number + weights.weight(by));
+                offer(
+                    row,
+                    rest,
+                    NO_LIMIT,
+                    stack.spot(mask, to),
+                    number + weights.weight(by),
+                );
             }
         }
     }

@@ -1,6 +1,9 @@
 -- Spans of terminals, landmark by landmark.
-use Rattle.std.proofs.Common.{ℕ, ◌≡◌, ◌+◌, ◌*◌, ◌/◌, ◌%◌, ◌^◌, ◌<◌, List, length, max, get_or, ap, ◌∙◌, arith, add-one, refl}
-use Rattle.std.proofs.lemmas.Option.{get_or_from_slice_get}
+use Rattle.std.proofs.Common.{ℕ, ◌≡◌, ◌+◌, ◌*◌, ◌/◌, ◌%◌, ◌^◌, ◌<◌, List, Some, length, max, get_or, set, get_or-set_same, get_or-set_other, ap, sym, ◌∙◌, ⊎_elim, arith, add-one, refl}
+use Rattle.std.proofs.lemmas.Bool.{cases_eq}
+use Rattle.std.proofs.lemmas.List.{length-set}
+use Rattle.std.proofs.lemmas.Option.{slice_get-get_or, get_or_from_slice_get}
+use Rattle.grid_base.specs.Lists.{At}
 use Rattle.grid_base.specs.declared.vertex.Vertex.{Vertex}
 use Rattle.steiner_exact.specs.declared.extent.Extent.{Extent}
 use Rattle.steiner_exact.specs.Boxes.{width_with}
@@ -42,3 +45,13 @@ widest_step numbers terminals spans mask v k widest number width next other are 
     reach ∙ ap (λ (e : Extent). width_with e number) span
     ∙ ap (λ n. width_with (span_of numbers terminals mask (length terminals) k) n) its in
     omega (arith, is, before, wide, widest-more numbers terminals mask v k)
+
+-- one item more of a list is written
+pub written_more : {X : Type 0} (xs : List X) (n : ℕ) (x : X) (f : ℕ → X) → n < length xs → ((k : ℕ) → k < n → At xs k (f k))
+    → x ≡ f n → (k : ℕ) → k < n + 1 → At (set xs n x) k (f k)
+written_more xs n x f inside before is k low =
+    let read : get_or (set xs n x) k x ≡ f k = ⊎_elim
+    (λ here. ap (λ i. get_or (set xs n x) i x) here ∙ get_or-set_same xs n x x inside ∙ is ∙ ap f (sym here))
+    (λ other. get_or-set_other xs n k x x other ∙ get_or_from_slice_get xs k (f k) x (before k (omega (arith, low, other))))
+    (cases_eq k n) in
+    slice_get-get_or (set xs n x) k x (omega (arith, low, inside, length-set xs n x)) ∙ ap Some read
