@@ -18,26 +18,7 @@ use Rattle.steiner_tables.specs.Tables.{IsHoldingTable, IsFamily, HasTree, rest_
 use Rattle.steiner_tables.proofs.Masks.{parts_rest, parts_sum, parts_turned}
 use Rattle.steiner_tables.proofs.Roots.{root_mask, root_none, terminal_of_root, joins_terminals}
 use Rattle.steiner_tables.proofs.Tables.{holds_for_sets}
-
--- numbers of the masks up to the last one, where each that is below `least` together with what is left to go was spread and merged
-pub record IsClosed (s : Size) (pieces : List (Piece × ℕ)) (terminals : List Vertex) (last : ℕ) (low : ℕ → ℕ → ℕ) (least : ℕ)
-    (num : ℕ → ℕ → ℕ) : Type 0 where
-  pub family : IsFamily s pieces terminals low
-  pub below : last < all_of terminals
-  pub small : least ≤ far
-  pub above : (mask v : ℕ) → num mask v ≤ far
-  pub trees : (mask v : ℕ) → 0 < mask → mask ≤ last → IsVertex s v → num mask v < far
-      → HasTree s pieces terminals mask v (num mask v)
-  pub own : (place : ℕ) (v : Vertex) → At terminals place v → single place ≤ last → num (single place) v.0 ≡ 0
-  pub spread : (mask : ℕ) (p : Piece) (k v u : ℕ) → 0 < mask → mask ≤ last → IsVertex s v
-      → num mask v + rest_of terminals low mask v < least → Weighs pieces p k → Connects s p v u → num mask u ≤ num mask v + k
-  pub merged : (one other mask v : ℕ) → AreParts one other mask → mask ≤ last → IsVertex s v
-      → num one v + rest_of terminals low one v < least → num other v + rest_of terminals low other v < least
-      → num mask v ≤ num one v + num other v
-
--- what such numbers know: the number, or what the family and `least` leave of it where that is smaller
-abbrev pub known_of : List Vertex → (ℕ → ℕ → ℕ) → ℕ → (ℕ → ℕ → ℕ) → ℕ → ℕ → ℕ
-known_of terminals low least num mask v = min (num mask v) (max (low mask v) (least - rest_of terminals low mask v))
+use Rattle.dijkstra_steiner.specs.Closed.{IsClosed, known_of}
 
 -- a bound is one for the sets that were found
 low_below : (s : Size) (pieces : List (Piece × ℕ)) (terminals : List Vertex) (last : ℕ) (low : ℕ → ℕ → ℕ) (least : ℕ)
@@ -52,7 +33,7 @@ low_below s pieces terminals last low least num is mask v some within vertex fou
           (omega arith) tree.set tree.is_set mask v some (omega (arith, within, is.below)) tree.joins,
     )
 
--- a number that was spread and merged is known
+-- a number that was relaxed and merged is known
 record IsDone (n low rest least t : ℕ) : Type 0 where
   below : n + rest < least
   is : t ≡ n
@@ -93,8 +74,8 @@ known n low rest least t is small limit bound = record {
 -- a neighbour's number b, by a piece of weight k
 step_known : (a b low_a low_b rest_a rest_b least k x y : ℕ) → low_b ≤ low_a + k → rest_a ≤ rest_b + k
     → IsKnown a low_a rest_a least x → IsKnown b low_b rest_b least y → (a + rest_a < least → b ≤ a + k) → y ≤ x + k
-step_known a b low_a low_b rest_a rest_b least k x y low rest first second spread = ⊎_elim
-    (λ done. omega (arith, done.is, spread done.below, second.within))
+step_known a b low_a low_b rest_a rest_b least k x y low rest first second relaxed = ⊎_elim
+    (λ done. omega (arith, done.is, relaxed done.below, second.within))
     (λ open_a. ⊎_elim
     (λ most. omega (arith, most, second.limit))
     (λ left. second.smallest (x + k) (omega (arith, left.above, low)) (omega (arith, left.over, rest)))
@@ -159,7 +140,7 @@ closed_holds s pieces terminals last low least num is =
           (is.family.steps mask some (omega (arith, within, is.below)) p k a b weighs connects)
           (is.family.steps (all - mask) (omega (arith, within, is.below)) (omega (arith, some)) p k b a weighs back)
           (at mask a some within near) (at mask b some within (end_vertex s p a b connects))
-          (λ below. is.spread mask p k a b some within near below weighs connects);
+          (λ below. is.relaxed mask p k a b some within near below weighs connects);
       splits = λ one other mask v parts within vertex.
           let sum = parts_sum one other mask parts in
           let small : mask < all = omega (arith, within, is.below) in

@@ -1,5 +1,5 @@
 pub mod Closed
 pub mod OnStack
-pub mod SetOffers
+pub mod MaskOffers
 pub mod Starting
 pub mod Settling

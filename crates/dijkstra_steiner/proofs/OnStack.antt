@@ -57,15 +57,15 @@ mask_on stack flat mask v is some room vertex =
     )
 
 -- over that vertex
-pub ground_on : (stack flat : Size) (mask v : ℕ) → IsStackOf stack flat → 0 < mask → mask ≤ rooted_masks → IsVertex flat v
+pub under_on : (stack flat : Size) (mask v : ℕ) → IsStackOf stack flat → 0 < mask → mask ≤ rooted_masks → IsVertex flat v
     → tile_of stack (on_stack flat mask v) ≡ v
-ground_on stack flat mask v is some room vertex =
+under_on stack flat mask v is some room vertex =
     ap (λ n. on_stack flat mask v % n) (stack_tiles stack flat is)
     ∙ mod-mul-add (mask - 1) (tiles flat) v (omega (arith, vertex, flat_vertices stack flat is))
 
 -- under a vertex of the stack lies one of the flat grid
-pub ground_vertex : (stack flat : Size) (w : ℕ) → IsStackOf stack flat → IsVertex stack w → IsVertex flat (tile_of stack w)
-ground_vertex stack flat w is vertex =
+pub under_vertex : (stack flat : Size) (w : ℕ) → IsStackOf stack flat → IsVertex stack w → IsVertex flat (tile_of stack w)
+under_vertex stack flat w is vertex =
     omega (arith, mod-lt w (some_tiles stack), stack_tiles stack flat is, flat_vertices stack flat is)
 
 -- there are no more masks than the stack has layers
@@ -91,7 +91,7 @@ rest_at stack flat terminals low mask v is some room vertex less =
     ap (λ m. cond (ltb m (all_of terminals)) (rest_of terminals low m (tile_of stack w)) 0)
     (mask_on stack flat mask v is some room vertex)
     ∙ ap (λ b. cond b (rest_of terminals low mask (tile_of stack w)) 0) test
-    ∙ ap (rest_of terminals low mask) (ground_on stack flat mask v is some room vertex)
+    ∙ ap (rest_of terminals low mask) (under_on stack flat mask v is some room vertex)
 
 -- two masks at two vertices of the flat grid stand at one vertex of the stack only where they are the same
 pub same_on : (stack flat : Size) (one u other v : ℕ) → IsStackOf stack flat → 0 < one → one ≤ rooted_masks → IsVertex flat u
@@ -100,8 +100,8 @@ pub same_on : (stack flat : Size) (one u other v : ℕ) → IsStackOf stack flat
 same_on stack flat one u other v is some room vertex some_other room_other vertex_other same = (
   sym (mask_on stack flat one u is some room vertex) ∙ ap (mask_of stack) same
       ∙ mask_on stack flat other v is some_other room_other vertex_other,
-  sym (ground_on stack flat one u is some room vertex) ∙ ap (tile_of stack) same
-      ∙ ground_on stack flat other v is some_other room_other vertex_other,
+  sym (under_on stack flat one u is some room vertex) ∙ ap (tile_of stack) same
+      ∙ under_on stack flat other v is some_other room_other vertex_other,
 )
 
 -- a place of the stack is that of a vertex of the flat grid, and of a layer
@@ -109,10 +109,10 @@ stack_place : (stack flat : Size) (mask v : ℕ) → IsStackOf stack flat → 0 
     → place_at stack (on_stack flat mask v) ≡ record { col = col_of flat v; row = row_of flat v; layer = mask - 1 }
 stack_place stack flat mask v is some room vertex =
     let at = place_at-inside flat v vertex in
-    let ground : layer_of flat v ≡ 0 = omega (arith, at.2, is.single) in
+    let under : layer_of flat v ≡ 0 = omega (arith, at.2, is.single) in
     let number = vertex_number-place flat v in
     let here : on_stack flat mask v ≡ vertex_number flat (col_of flat v) (row_of flat v) (mask - 1) =
-    grind (arith, ground, number) in
+    grind (arith, under, number) in
     let over : vertex_number flat (col_of flat v) (row_of flat v) (mask - 1)
     ≡ vertex_number stack (col_of flat v) (row_of flat v) (mask - 1) =
     sym (ap (λ n. ((mask - 1) * n + row_of flat v) * cols stack + col_of flat v) is.rows_of
@@ -139,21 +139,21 @@ spot_on stack flat mask v count place is some room at counted =
     })
 
 -- the number of the vertex under one of the stack
-pub ground_number : (stack flat : Size) (w count : ℕ) (place : Place) → IsStackOf stack flat → StandsAt stack place w
+pub under_number : (stack flat : Size) (w count : ℕ) (place : Place) → IsStackOf stack flat → StandsAt stack place w
     → count ≡ vertices flat → w - place.layer * count ≡ tile_of stack w
-ground_number stack flat w count place is at counted =
+under_number stack flat w count place is at counted =
     let layer : place.layer ≡ w / tiles flat = ap (λ (p : Place). p.layer) at.placed ∙ layer_number stack flat w is in
     ap (λ n. w - n * count) layer ∙ ap (λ n. w - w / tiles flat * n) (counted ∙ flat_vertices stack flat is)
     ∙ omega (arith, div-add-mod w (tiles flat))
     ∙ ap (λ n. w % n) (sym (stack_tiles stack flat is))
 
-pub ground_spot : (stack flat : Size) (w number : ℕ) (place : Place) → IsStackOf stack flat → StandsAt stack place w
+pub under_spot : (stack flat : Size) (w number : ℕ) (place : Place) → IsStackOf stack flat → StandsAt stack place w
     → number ≡ tile_of stack w → StandsAt flat (record { col = place.col; row = place.row; layer = 0 }) number
-ground_spot stack flat w number place is at numbered =
+under_spot stack flat w number place is at numbered =
     let same : HaveSameTiles flat stack = record { cols_of = sym is.cols_of; rows_of = sym is.rows_of } in
     let placed = ground_place flat stack w number place same at.vertex at.placed numbered in
     record {
-      vertex = omega (arith, numbered, ground_vertex stack flat w is at.vertex);
+      vertex = omega (arith, numbered, under_vertex stack flat w is at.vertex);
       placed = placed;
       number = ap (λ (p : Place). vertex_number flat p.col p.row p.layer) placed ∙ vertex_number-place flat number;
     }

@@ -25,11 +25,12 @@ use Rattle.steiner_tables.specs.Tables.{IsFamily, rest_of}
 use Rattle.steiner_tables.proofs.Masks.{parts_sum, parts_turned}
 use Rattle.steiner_tables.proofs.Roots.{root_mask}
 use Rattle.dijkstra_steiner.specs.Stacks.{IsStackOf, on_stack, mask_of, rest_on}
-use Rattle.dijkstra_steiner.specs.SetSearches.{set_number, IsSetSearch, AreStarted, AreSetsSettled, Proceeds}
-use Rattle.dijkstra_steiner.proofs.Closed.{IsClosed, closed_least, closed_apart}
-use Rattle.dijkstra_steiner.proofs.SetOffers.{stays}
+use Rattle.dijkstra_steiner.specs.MaskSearches.{mask_number, IsMaskSearch, AreStarted, AreMasksSettled, Proceeds}
+use Rattle.dijkstra_steiner.specs.Closed.{IsClosed}
+use Rattle.dijkstra_steiner.proofs.Closed.{closed_least, closed_apart}
+use Rattle.dijkstra_steiner.proofs.MaskOffers.{stays}
 use Rattle.dijkstra_steiner.proofs.Starting.{last_room}
-use Rattle.dijkstra_steiner.proofs.OnStack.{mask_on, ground_on, on_of, rest_at}
+use Rattle.dijkstra_steiner.proofs.OnStack.{mask_on, under_on, on_of, rest_at}
 
 -- a vertex was taken out
 pub record IsTaken (old new : Row) (w : ℕ) : Type 0 where
@@ -39,10 +40,10 @@ pub record IsTaken (old new : Row) (w : ℕ) : Type 0 where
   pub only : (u k : ℕ) → IsWaiting new u k → (u ≢ w) × IsWaiting old u k
 
 -- a vertex other than the root is taken out
-pub taken_sets : (flat : Size) (pieces : List (Piece × ℕ)) (terminals : List Vertex) (low : ℕ → ℕ → ℕ) (last root : ℕ)
-    (old new : Row) (w : ℕ) → IsSetSearch flat pieces terminals low last root old → IsTaken old new w → w ≢ root
-    → IsSetSearch flat pieces terminals low last root new
-taken_sets flat pieces terminals low last root old new w before is other =
+pub taken_masks : (flat : Size) (pieces : List (Piece × ℕ)) (terminals : List Vertex) (low : ℕ → ℕ → ℕ) (last root : ℕ)
+    (old new : Row) (w : ℕ) → IsMaskSearch flat pieces terminals low last root old → IsTaken old new w → w ≢ root
+    → IsMaskSearch flat pieces terminals low last root new
+taken_masks flat pieces terminals low last root old new w before is other =
     let same : size_in old ≡ size_in new = ap (λ (f : Found). f.size) (sym is.found) in
     record {
       search = subst (λ (s : Size). IsSearch (rest_on s terminals low) max_key new) same (record {
@@ -70,9 +71,9 @@ pub record IsStep (stack flat : Size) (pieces : List (Piece × ℕ)) (last mask 
   pub first : Proceeds taken merged
   pub second : Proceeds merged new
   pub sums : (other both : ℕ) → AreParts mask other both → both ≤ last → ¬ Waits merged (on_stack flat other v)
-      → set_number flat merged both v ≤ set_number flat taken mask v + set_number flat merged other v
+      → mask_number flat merged both v ≤ mask_number flat taken mask v + mask_number flat merged other v
   pub steps : (p : Piece) (k u : ℕ) → Weighs pieces p k → Connects flat p v u
-      → set_number flat new mask u ≤ set_number flat merged mask v + k
+      → mask_number flat new mask u ≤ mask_number flat merged mask v + k
 
 -- what doesn't wait behind a step has kept its number
 pub record IsStill (old taken merged new : Row) (u : ℕ) : Type 0 where
@@ -110,14 +111,14 @@ one_place : (stack flat : Size) (pieces : List (Piece × ℕ)) (last mask v w : 
 one_place stack flat pieces last mask v w old taken merged new is one u some below vertex here =
     let room : one ≤ rooted_masks = omega (arith, below, is.room) in (
       sym (mask_on stack flat one u is.is_stack some room vertex) ∙ ap (mask_of stack) here ∙ sym is.masked,
-      sym (ground_on stack flat one u is.is_stack some room vertex) ∙ ap (tile_of stack) here ∙ sym is.under,
+      sym (under_on stack flat one u is.is_stack some room vertex) ∙ ap (tile_of stack) here ∙ sym is.under,
     )
 
 -- the sums of the vertex that is taken out
 sums_of : (stack flat : Size) (pieces : List (Piece × ℕ)) (last mask v w : ℕ) (old taken merged new : Row)
     → IsStep stack flat pieces last mask v w old taken merged new → (one other both u : ℕ) → AreParts one other both → both ≤ last
     → (one ≡ mask) × (u ≡ v) → ¬ Waits new (on_stack flat one u) → ¬ Waits new (on_stack flat other u)
-    → set_number flat new both u ≤ set_number flat new one u + set_number flat new other u
+    → mask_number flat new both u ≤ mask_number flat new one u + mask_number flat new other u
 sums_of stack flat pieces last mask v w old taken merged new is one other both u parts below here done also =
     let a = on_stack flat one u in
     let b = on_stack flat other u in
@@ -129,21 +130,21 @@ sums_of stack flat pieces last mask v w old taken merged new is one other both u
       arith,
       sum,
       is.second.falls (on_stack flat both u),
-      ap (λ x. set_number flat merged both x) here.1,
-      ap (λ x. set_number flat merged other x) here.1,
-      ap (λ x. set_number flat taken one x) here.1,
-      ap (λ m. set_number flat taken m v) here.0,
+      ap (λ x. mask_number flat merged both x) here.1,
+      ap (λ x. mask_number flat merged other x) here.1,
+      ap (λ x. mask_number flat taken one x) here.1,
+      ap (λ m. mask_number flat taken m v) here.0,
       first.later,
       first.before,
       second.later,
     )
 
--- after a vertex that was taken out was merged and spread, each vertex that doesn't wait is done
+-- after a vertex that was taken out was merged and relaxed, each vertex that doesn't wait is done
 pub settled_step : (stack flat : Size) (pieces : List (Piece × ℕ)) (last mask v w : ℕ) (old taken merged new : Row)
-    → IsStep stack flat pieces last mask v w old taken merged new → AreSetsSettled flat pieces last old
-    → AreSetsSettled flat pieces last new
+    → IsStep stack flat pieces last mask v w old taken merged new → AreMasksSettled flat pieces last old
+    → AreMasksSettled flat pieces last new
 settled_step stack flat pieces last mask v w old taken merged new is before = record {
-  spread = λ one p k a u some below vertex done weighs connects.
+  relaxed = λ one p k a u some below vertex done weighs connects.
       let x = on_stack flat one a in
       let same = still stack flat pieces last mask v w old taken merged new is x done in
       ⊎_elim
@@ -152,14 +153,14 @@ settled_step stack flat pieces last mask v w old taken merged new is before = re
       omega (
         arith,
         is.steps p k u weighs (subst (λ y. Connects flat p y u) place.1 connects),
-        ap (λ m. set_number flat new m u) place.0,
-        ap (λ y. set_number flat merged one y) place.1,
-        ap (λ m. set_number flat merged m v) place.0,
+        ap (λ m. mask_number flat new m u) place.0,
+        ap (λ y. mask_number flat merged one y) place.1,
+        ap (λ m. mask_number flat merged m v) place.0,
         same.later,
       ))
       (λ other. omega (
         arith,
-        before.spread one p k a u some below vertex
+        before.relaxed one p k a u some below vertex
             (done_before stack flat pieces last mask v w old taken merged new is x done other) weighs connects,
         fallen stack flat pieces last mask v w old taken merged new is (on_stack flat one u),
         same.later,
@@ -212,9 +213,9 @@ started_step flat terminals last old new falls before place v at below =
 -- what a search over masks knows from one step to the next
 pub record IsSettling (flat : Size) (pieces : List (Piece × ℕ)) (terminals : List Vertex) (low : ℕ → ℕ → ℕ) (last root : ℕ)
     (r : Row) : Type 0 where
-  pub sets : IsSetSearch flat pieces terminals low last root r
+  pub masks : IsMaskSearch flat pieces terminals low last root r
   pub started : AreStarted flat terminals last r
-  pub settled : AreSetsSettled flat pieces last r
+  pub settled : AreMasksSettled flat pieces last r
 
 -- it is known by equal words
 pub settling_as : (t s : Size) (pieces : List (Piece × ℕ)) (listed terminals : List Vertex) (low : ℕ → ℕ → ℕ)
@@ -228,10 +229,10 @@ settling_as t s pieces listed terminals low last all root r size list same is =
 -- and after a step
 pub settling_step : (stack flat : Size) (pieces : List (Piece × ℕ)) (terminals : List Vertex) (low : ℕ → ℕ → ℕ)
     (last root mask v w : ℕ) (old taken merged new : Row) → IsStep stack flat pieces last mask v w old taken merged new
-    → IsSetSearch flat pieces terminals low last root new → IsSettling flat pieces terminals low last root old
+    → IsMaskSearch flat pieces terminals low last root new → IsSettling flat pieces terminals low last root old
     → IsSettling flat pieces terminals low last root new
 settling_step stack flat pieces terminals low last root mask v w old taken merged new is sets before = record {
-  sets = sets;
+  masks = sets;
   started = started_step flat terminals last old new (fallen stack flat pieces last mask v w old taken merged new is) before.started;
   settled = settled_step stack flat pieces last mask v w old taken merged new is before.settled;
 }
@@ -242,12 +243,12 @@ number_limit r w = r.parts.limits (index_in r.found w)
 
 -- at the begin what has a number waits, so that nothing is owed for the others
 pub settled_begin : (flat : Size) (pieces : List (Piece × ℕ)) (last : ℕ) (r : Row)
-    → ((w : ℕ) → number_in r w < far → Waits r w) → AreSetsSettled flat pieces last r
+    → ((w : ℕ) → number_in r w < far → Waits r w) → AreMasksSettled flat pieces last r
 settled_begin flat pieces last r waits =
     let none : (w : ℕ) → ¬ Waits r w → far ≤ number_in r w =
     λ w done. ⊎_elim (λ has. absurd (done (waits w has))) (λ none. omega (arith, none)) (cases_lt (number_in r w) far) in
     record {
-      spread = λ mask p k v u some below vertex done weighs connects.
+      relaxed = λ mask p k v u some below vertex done weighs connects.
           omega (arith, none (on_stack flat mask v) done, number_limit r (on_stack flat mask u));
       merged = λ one other mask v parts below vertex done also.
           omega (arith, none (on_stack flat one v) done, number_limit r (on_stack flat mask v));
@@ -255,7 +256,7 @@ settled_begin flat pieces last r waits =
 
 -- what is taken out is of a mask up to the last one
 pub taken_mask : (stack flat : Size) (pieces : List (Piece × ℕ)) (terminals : List Vertex) (low : ℕ → ℕ → ℕ)
-    (last root w mask : ℕ) (r : Row) → size_in r ≡ stack → IsSetSearch flat pieces terminals low last root r
+    (last root w mask : ℕ) (r : Row) → size_in r ≡ stack → IsMaskSearch flat pieces terminals low last root r
     → IsLeastWaiting r w → mask ≡ mask_of stack w → mask ≤ last
 taken_mask stack flat pieces terminals low last root w mask r size sets least masked =
     omega (
@@ -302,19 +303,19 @@ rest_within s pieces terminals low root goal r is mask v some below vertex =
 done_below : (s : Size) (pieces : List (Piece × ℕ)) (terminals : List Vertex) (low : ℕ → ℕ → ℕ) (root : Vertex) (goal : ℕ)
     (r : Row) (least : ℕ) → IsForRoot s pieces terminals low root goal r → ((w key : ℕ) → IsWaiting r w key → least ≤ key)
     → (mask v : ℕ) → 0 < mask → mask ≤ all_but_root terminals → IsVertex s v
-    → set_number s r mask v + rest_of terminals low mask v < least → ¬ Waits r (on_stack s mask v)
+    → mask_number s r mask v + rest_of terminals low mask v < least → ¬ Waits r (on_stack s mask v)
 done_below s pieces terminals low root goal r least is above mask v some below vertex less waits =
     omega (
       arith,
       less,
       above (on_stack s mask v) waits.0 waits.1,
-      is.settling.sets.search.keys (on_stack s mask v) waits.0 waits.1,
+      is.settling.masks.search.keys (on_stack s mask v) waits.0 waits.1,
       rest_within s pieces terminals low root goal r is mask v some below vertex,
     )
 
 closed_below : (s : Size) (pieces : List (Piece × ℕ)) (terminals : List Vertex) (low : ℕ → ℕ → ℕ) (root : Vertex) (goal : ℕ)
     (r : Row) (least : ℕ) → IsForRoot s pieces terminals low root goal r → ((w key : ℕ) → IsWaiting r w key → least ≤ key)
-    → least ≤ far → IsClosed s pieces terminals (all_but_root terminals) low least (set_number s r)
+    → least ≤ far → IsClosed s pieces terminals (all_but_root terminals) low least (mask_number s r)
 closed_below s pieces terminals low root goal r least is above small =
     let done = done_below s pieces terminals low root goal r least is above in
     record {
@@ -322,10 +323,10 @@ closed_below s pieces terminals low root goal r least is above small =
       below = (root_mask terminals is.two).1;
       small = small;
       above = λ mask v. number_limit r (on_stack s mask v);
-      trees = is.settling.sets.trees;
+      trees = is.settling.masks.trees;
       own = is.settling.started;
-      spread = λ mask p k v u some below vertex less weighs connects.
-          is.settling.settled.spread mask p k v u some below vertex (done mask v some below vertex less) weighs connects;
+      relaxed = λ mask p k v u some below vertex less weighs connects.
+          is.settling.settled.relaxed mask p k v u some below vertex (done mask v some below vertex less) weighs connects;
       merged = λ one other mask v parts below vertex less also.
           let sum = parts_sum one other mask parts in
           is.settling.settled.merged one other mask v parts below vertex
@@ -356,13 +357,13 @@ taken_least s pieces terminals low root goal r least is waiting number =
     let key : waiting.key ≡ least = omega (
       arith,
       number,
-      is.settling.sets.search.keys goal waiting.key waiting.waits,
+      is.settling.masks.search.keys goal waiting.key waiting.waits,
       rest_at_root s pieces terminals low root goal r is,
     ) in
-    let small : least < far = omega (arith, number, is.settling.sets.search.numbered goal waiting.key waiting.waits) in
+    let small : least < far = omega (arith, number, is.settling.masks.search.numbered goal waiting.key waiting.waits) in
     let closed = closed_below s pieces terminals low root goal r least is
     (λ w k waits. omega (arith, key, waiting.least w k waits)) (omega (arith, small)) in
-    closed_least s pieces terminals low least (set_number s r) root closed is.two is.last is.vertex
+    closed_least s pieces terminals low least (mask_number s r) root closed is.two is.last is.vertex
     (ap (number_in r) (sym is.is) ∙ sym number) small
 
 -- where nothing waits no set joins the terminals
@@ -372,8 +373,8 @@ pub idle_apart : (s : Size) (pieces : List (Piece × ℕ)) (terminals : List Ver
 idle_apart s pieces terminals low root goal r is idle once small =
     let closed = closed_below s pieces terminals low root goal r far is (λ w k waits. absurd (idle w k waits)) (omega arith) in
     let none : far ≤ number_in r goal = ⊎_elim
-    (λ has. let waits = is.settling.sets.waits has in absurd (idle goal waits.0 waits.1))
+    (λ has. let waits = is.settling.masks.waits has in absurd (idle goal waits.0 waits.1))
     (λ none. omega (arith, none))
     (cases_lt (number_in r goal) far) in
-    closed_apart s pieces terminals low (set_number s r) root closed is.two is.last
+    closed_apart s pieces terminals low (mask_number s r) root closed is.two is.last
     (omega (arith, none, ap (number_in r) is.is)) once small

@@ -17,7 +17,7 @@ use Rattle.steiner_tables.specs.Masks.{few_terminals, rooted_masks, single, all_
 use Rattle.steiner_tables.specs.Tables.{HasTree}
 use Rattle.steiner_tables.proofs.Trees.{has_alone}
 use Rattle.dijkstra_steiner.specs.Stacks.{IsStackOf, on_stack, mask_of, rest_on}
-use Rattle.dijkstra_steiner.specs.SetSearches.{IsSetSearch, AreStarted, set_number}
+use Rattle.dijkstra_steiner.specs.MaskSearches.{IsMaskSearch, AreStarted, mask_number}
 use Rattle.dijkstra_steiner.proofs.OnStack.{vertex_on, mask_on, same_on}
 
 -- the vertex of the stack for a terminal alone, which isn't the root
@@ -33,7 +33,7 @@ pub record AreSeeded (flat : Size) (terminals : List Vertex) (n : ℕ) (r : Row)
   pub seeds : (w : ℕ) → number_in r w < far → IsSeed flat terminals w
   pub waits : (w : ℕ) → number_in r w < far → Waits r w
   pub zero : (w : ℕ) → number_in r w < far → number_in r w ≡ 0
-  pub own : (place : ℕ) (v : Vertex) → place < n → At terminals place v → set_number flat r (single place) v.0 ≡ 0
+  pub own : (place : ℕ) (v : Vertex) → place < n → At terminals place v → mask_number flat r (single place) v.0 ≡ 0
 
 pub none_seeded : (flat : Size) (terminals : List Vertex) (r : Row) → ((w : ℕ) → number_in r w ≡ far)
     → AreSeeded flat terminals 0 r
@@ -95,11 +95,11 @@ pub seed_room : (terminals : List Vertex) (place : ℕ) → length terminals ≤
 seed_room terminals place few before = omega (arith, last_room terminals few, seed_last terminals place before)
 
 -- a search that begins so
-pub seeded_sets : (stack flat : Size) (pieces : List (Piece × ℕ)) (terminals : List Vertex) (low : ℕ → ℕ → ℕ) (n root : ℕ)
+pub seeded_masks : (stack flat : Size) (pieces : List (Piece × ℕ)) (terminals : List Vertex) (low : ℕ → ℕ → ℕ) (n root : ℕ)
     (r : Row) → IsStackOf stack flat → size_in r ≡ stack → length terminals ≤ few_terminals
     → All (λ (v : Vertex). IsVertex flat v.0) terminals → IsSearch (rest_on stack terminals low) max_key r
-    → AreSeeded flat terminals n r → IsSetSearch flat pieces terminals low (all_but_root terminals) root r
-seeded_sets stack flat pieces terminals low n root r is size few vertices search seeded =
+    → AreSeeded flat terminals n r → IsMaskSearch flat pieces terminals low (all_but_root terminals) root r
+seeded_masks stack flat pieces terminals low n root r is size few vertices search seeded =
     let some : (place : ℕ) → 0 < single place = λ place. pow_pos place in
     let inside : (place : ℕ) (t : Vertex) → At terminals place t → IsVertex flat t.0 =
     λ place t at. subst (λ (v : Vertex). IsVertex flat v.0) (get_or_from_slice_get terminals place t t at)

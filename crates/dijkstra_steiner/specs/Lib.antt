@@ -1,2 +1,4 @@
 pub mod Stacks
-pub mod SetSearches
+pub mod MaskSearches
+pub mod Closed
+pub mod LabelWords

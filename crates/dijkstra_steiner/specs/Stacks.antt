@@ -1,7 +1,8 @@
--- A flat grid on top of itself, a layer for each mask of terminals.
+-- A flat grid on top of itself, a layer for each mask of up to four terminals.
 use Rattle.std.specs.Prelude.{ℕ, ◌≡◌, ◌+◌, ◌*◌, ◌-◌, ltb, cond, List}
 use Rattle.grid_base.specs.declared.size.Size.{Size}
 use Rattle.grid_base.specs.declared.vertex.Vertex.{Vertex}
+use Rattle.grid_base.specs.Limits.{IsGridSize}
 use Rattle.grid_base.specs.Numbers.{cols, rows, layers, layer_of}
 use Rattle.grid_graph.specs.Flat.{tiles, tile_of}
 use Rattle.steiner_tables.specs.Masks.{rooted_masks, all_of}
@@ -14,7 +15,11 @@ pub record IsStackOf (stack flat : Size) : Type 0 where
   pub single : layers flat ≡ 1
   pub masks : layers stack ≡ rooted_masks
 
--- the vertex of the stack for a mask at a vertex of the flat grid: its layer is 1 below the mask
+-- the grid is flat, and no more vertices than a grid may have are on its stack
+abbrev pub HasStack : Size → Type 0
+HasStack flat = (layers flat ≡ 1) × IsGridSize (cols flat) (rows flat) rooted_masks
+
+-- the vertex of the stack for a mask at a vertex of the flat grid: the number of its layer is one less than the mask
 abbrev pub on_stack : Size → ℕ → ℕ → ℕ
 on_stack flat mask v = (mask - 1) * tiles flat + v
 
@@ -22,7 +27,7 @@ on_stack flat mask v = (mask - 1) * tiles flat + v
 abbrev pub mask_of : Size → ℕ → ℕ
 mask_of stack w = layer_of stack w + 1
 
--- what a family leaves to go from a vertex of the stack; nothing where the terminals have no such mask
+-- what a family leaves to go from a vertex of the stack; nothing where the mask is that of all terminals, or not one of theirs
 abbrev pub rest_on : Size → List Vertex → (ℕ → ℕ → ℕ) → ℕ → ℕ
 rest_on stack terminals low w =
     cond (ltb (mask_of stack w) (all_of terminals)) (rest_of terminals low (mask_of stack w) (tile_of stack w)) 0

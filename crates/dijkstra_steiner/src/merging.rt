@@ -1,4 +1,4 @@
-//! Sums of two sets at a vertex.
+//! Sums of two masks at a vertex.
 
 ghost use Rattle.std.specs.Prelude.{◌≡◌, ◌<◌, ◌≤◌, ◌+◌, ℕ, List};
 ghost use Rattle.grid_base.specs.declared.piece.Piece.{Piece};
@@ -8,7 +8,7 @@ ghost use Rattle.label_search.specs.Runs.{IsSearch};
 ghost use Rattle.label_search.specs.Stamped.{far, max_key};
 ghost use Rattle.steiner_tables.specs.Masks.{rooted_masks, AreParts};
 ghost use Rattle.dijkstra_steiner.specs.Stacks.{on_stack, rest_on};
-ghost use Rattle.dijkstra_steiner.specs.SetSearches.{IsSetSearch, Proceeds, set_number};
+ghost use Rattle.dijkstra_steiner.specs.MaskSearches.{IsMaskSearch, Proceeds, mask_number};
 
 use crate::limits::NO_LIMIT;
 use crate::rest_on_stack::RestOnStack;
@@ -16,7 +16,7 @@ use grid_base::Spot;
 use label_search::{FAR, Row, offer};
 use steiner_tables::{Family, is_part};
 
-/// Offers each mask up to the last one of which this one is a part the sum of its two numbers at the vertex.
+/// Offers each mask up to the last one that has this one as a part the sum of the numbers of its two parts at the vertex.
 pub(crate) fn merge<F: Family>(
     row: &mut Row,
     rest: &RestOnStack<'_, F>,
@@ -29,17 +29,17 @@ pub(crate) fn merge<F: Family>(
     requires mask { mask ≤ last }
     requires last { last ≤ rooted_masks }
     requires at { IsSpot rest.now.stack.flat at }
-    requires here { set_number rest.now.stack.flat row.old mask at.vertex.0 < far }
+    requires here { mask_number rest.now.stack.flat row.old mask at.vertex.0 < far }
     requires search { IsSearch (rest_on rest.now.stack.size (F.terminals rest.now.family.now) (F.low rest.now.family.now)) max_key row.old }
     ensures search { IsSearch (rest_on rest.now.stack.size (F.terminals rest.now.family.now) (F.low rest.now.family.now)) max_key row.new }
-    ensures sets { (pieces : List (Piece × ℕ)) (root : ℕ)
-        → IsSetSearch rest.now.stack.flat pieces (F.terminals rest.now.family.now) (F.low rest.now.family.now) last root row.old
-        → IsSetSearch rest.now.stack.flat pieces (F.terminals rest.now.family.now) (F.low rest.now.family.now) last root row.new }
+    ensures masks { (pieces : List (Piece × ℕ)) (goal : ℕ)
+        → IsMaskSearch rest.now.stack.flat pieces (F.terminals rest.now.family.now) (F.low rest.now.family.now) last goal row.old
+        → IsMaskSearch rest.now.stack.flat pieces (F.terminals rest.now.family.now) (F.low rest.now.family.now) last goal row.new }
     ensures proceeds { Proceeds row.old row.new }
     ensures merged { (other both : ℕ) → AreParts mask other both → both ≤ last
         → ¬ Waits row.new (on_stack rest.now.stack.flat other at.vertex.0)
-        → set_number rest.now.stack.flat row.new both at.vertex.0
-        ≤ set_number rest.now.stack.flat row.old mask at.vertex.0 + set_number rest.now.stack.flat row.new other at.vertex.0 }
+        → mask_number rest.now.stack.flat row.new both at.vertex.0
+        ≤ mask_number rest.now.stack.flat row.old mask at.vertex.0 + mask_number rest.now.stack.flat row.new other at.vertex.0 }
 {
     let stack = rest.stack;
     let number = row.number(stack.spot(mask, at).vertex);

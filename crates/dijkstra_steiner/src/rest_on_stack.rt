@@ -1,14 +1,15 @@
-//! What is still to go from a set of terminals at a vertex.
+//! What is still to go from a mask at a vertex.
 
-ghost use Rattle.std.specs.Prelude.{◌≡◌, ◌≤◌, length};
-ghost use Rattle.steiner_tables.specs.Masks.{few_terminals, all_of};
+ghost use Rattle.std.specs.Prelude.{◌≡◌};
+ghost use Rattle.steiner_tables.specs.Masks.{all_of};
 
 use crate::stack::Stack;
 use grid_base::{Place, Spot, Vertex};
 use label_search::Bound;
 use steiner_tables::Family;
 
-/// The bound of a family for the terminals that a set doesn't have yet.
+/// The bound of a family for the terminals that a mask doesn't have yet. What leads from one layer of the stack to another is no
+/// piece, so the law of bounds says nothing of it, and `offer` asks for none.
 #[derive(Drop)]
 pub(crate) struct RestOnStack<'a, F: Family> {
     pub(crate) family: &'a F,
@@ -37,7 +38,7 @@ impl<F: Family> Bound for RestOnStack<'_, F> {
         if mask >= self.all {
             return 0;
         }
-        let under = self.stack.ground(at);
+        let under = self.stack.under(at);
         self.family.low(self.all - mask, under.vertex, under.place)
     }
 }

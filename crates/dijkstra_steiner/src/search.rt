@@ -1,37 +1,36 @@
 //! The search for the least weight that joins a few terminals.
 
 ghost use Rattle.std.specs.Prelude.{◌≡◌, ◌<◌, ◌≤◌, ℕ, List, All, IfSome, None, length};
-ghost use Rattle.grid_base.specs.Lists.{At};
 ghost use Rattle.grid_base.specs.Numbers.{IsVertex};
 ghost use Rattle.grid_base.specs.Walks.{Joins, InVertices};
 ghost use Rattle.grid_graph.specs.Weighed.{IsAllowed};
-ghost use Rattle.label_search.specs.Rows.{size_in, number_in, IsWaiting, Waits, work_left};
+ghost use Rattle.label_search.specs.Rows.{size_in, number_in, IsWaiting, Waits};
 ghost use Rattle.label_search.specs.Sets.{IsLeastWeight};
 ghost use Rattle.label_search.specs.Stamped.{far};
 ghost use Rattle.steiner_tables.specs.Masks.{few_terminals, all_of, all_but_root};
 ghost use Rattle.steiner_tables.specs.Tables.{IsFamily};
-ghost use Rattle.dijkstra_steiner.specs.Stacks.{on_stack};
-ghost use Rattle.dijkstra_steiner.specs.SetSearches.{IsSetSearch, AreStarted, AreSetsSettled};
+ghost use Rattle.dijkstra_steiner.specs.LabelWords.{mask_labels_size};
+ghost use Rattle.dijkstra_steiner.specs.MaskSearches.{IsMaskSearch, AreStarted, AreMasksSettled};
 ghost use Rattle.grid_base.specs.declared.piece.Piece.{Piece};
 
 use crate::limits::NO_LIMIT;
 use crate::merging::merge;
 use crate::rest_on_stack::RestOnStack;
-use crate::set_labels::SetLabels;
-use crate::spreading::spread;
+use crate::mask_labels::MaskLabels;
+use crate::relaxing::relax;
 use grid_base::{Spot, Vertex};
 use grid_graph::Weights;
 use label_search::{Row, offer};
 use steiner_tables::{Family, all_but_root_of, all_of, single_of};
 
 /// The least weight of a set of allowed pieces that joins two to five terminals.
-pub fn least_by_sets<W: Weights, F: Family>(
+pub fn least_over_masks<W: Weights, F: Family>(
     weights: &W,
     family: &F,
     terminals: &[Vertex],
-    labels: &mut SetLabels,
+    labels: &mut MaskLabels,
 ) -> u64
-    requires labels { labels.old.stack.flat ≡ W.size weights.now }
+    requires labels { mask_labels_size labels.old ≡ W.size weights.now }
     requires family_size { F.size family.now ≡ W.size weights.now }
     requires family { F.pieces family.now ≡ W.pieces weights.now }
     requires family_terminals { F.terminals family.now ≡ terminals.now }
@@ -40,7 +39,7 @@ pub fn least_by_sets<W: Weights, F: Family>(
     requires vertices { All (λ v. IsVertex (W.size weights.now) v.0) terminals.now }
     requires joined { Joins (W.size weights.now) (IsAllowed (W.pieces weights.now)) (InVertices terminals.now) }
     ensures least { IsLeastWeight (W.size weights.now) (W.pieces weights.now) (InVertices terminals.now) result }
-    ensures labels { labels.new.stack ≡ labels.old.stack }
+    ensures labels { mask_labels_size labels.new ≡ mask_labels_size labels.old }
 {
     let rest = RestOnStack {
         family,
@@ -62,8 +61,8 @@ fn start<F: Family>(row: &mut Row, rest: &RestOnStack<'_, F>, terminals: &[Verte
     requires none { (w : ℕ) → number_in row.old w ≡ far }
     requires idle { (w key : ℕ) → ¬ IsWaiting row.old w key }
     ensures size { size_in row.new ≡ size_in row.old }
-    ensures sets { (pieces : List (Piece × ℕ)) (root : ℕ)
-        → IsSetSearch rest.now.stack.flat pieces terminals.now (F.low rest.now.family.now) (all_but_root terminals.now) root row.new }
+    ensures masks { (pieces : List (Piece × ℕ)) (goal : ℕ)
+        → IsMaskSearch rest.now.stack.flat pieces terminals.now (F.low rest.now.family.now) (all_but_root terminals.now) goal row.new }
     ensures started { AreStarted rest.now.stack.flat terminals.now (all_but_root terminals.now) row.new }
     ensures waits { (w : ℕ) → number_in row.new w < far → Waits row.new w }
 {
@@ -74,8 +73,8 @@ fn start<F: Family>(row: &mut Row, rest: &RestOnStack<'_, F>, terminals: &[Verte
     }
 }
 
-/// Goes on with a search until all terminals but the root are taken out at the root, and answers their number there: `None` where
-/// nothing waits any more.
+/// Runs a search that has just begun, in which all that has a number waits, until all terminals but the root are taken out at the
+/// root, and answers their number there: `None` where nothing waits any more.
 fn settle_root<W: Weights, F: Family>(
     row: &mut Row,
     weights: &W,
@@ -89,10 +88,10 @@ fn settle_root<W: Weights, F: Family>(
     requires two { 2 ≤ length terminals.now }
     requires few { length terminals.now ≤ few_terminals }
     requires vertices { All (λ v. IsVertex (W.size weights.now) v.0) terminals.now }
-    requires sets { (root : ℕ) → IsSetSearch (W.size weights.now) (W.pieces weights.now) terminals.now (F.low rest.now.family.now)
-        (all_but_root terminals.now) root row.old }
+    requires masks { (goal : ℕ) → IsMaskSearch (W.size weights.now) (W.pieces weights.now) terminals.now (F.low rest.now.family.now)
+        (all_but_root terminals.now) goal row.old }
     requires started { AreStarted (W.size weights.now) terminals.now (all_but_root terminals.now) row.old }
-    requires settled { AreSetsSettled (W.size weights.now) (W.pieces weights.now) (all_but_root terminals.now) row.old }
+    requires settled { AreMasksSettled (W.size weights.now) (W.pieces weights.now) (all_but_root terminals.now) row.old }
     ensures size { size_in row.new ≡ size_in row.old }
     ensures least { IfSome result (λ x. IsLeastWeight (W.size weights.now) (W.pieces weights.now) (InVertices terminals.now) x) }
     ensures none { result ≡ None → ¬ Joins (W.size weights.now) (IsAllowed (W.pieces weights.now)) (InVertices terminals.now) }
@@ -105,9 +104,9 @@ fn settle_root<W: Weights, F: Family>(
         if from.vertex == goal {
             return Some(row.number(goal));
         }
-        let (mask, at) = (rest.stack.mask(from), rest.stack.ground(from));
+        let (mask, at) = (rest.stack.mask(from), rest.stack.under(from));
         merge(row, rest, last, mask, at);
-        spread(row, weights, rest, last, mask, at);
+        relax(row, weights, rest, last, mask, at);
     }
     None
 }

@@ -5,7 +5,8 @@ ghost use Rattle.dijkstra_steiner.specs.Stacks.{IsStackOf};
 use grid_base::{Place, Size, Spot, Vertex};
 use steiner_tables::ROOTED_MASKS;
 
-/// A grid with the tiles of a flat grid and a layer for each mask of terminals but their root.
+/// A grid with the tiles of a flat grid and a layer for each mask of up to four terminals, those of a net but its root: a layered
+/// graph, whose layers no piece joins.
 #[derive(Clone, Copy)]
 pub(crate) struct Stack {
     flat: Size,
@@ -14,15 +15,16 @@ pub(crate) struct Stack {
 }
 
 impl Stack {
-    ghost use Rattle.std.specs.Prelude.{◌≡◌, ◌<◌, ◌≤◌, IfSome};
+    ghost use Rattle.std.specs.Prelude.{◌≡◌, ◌<◌, ◌≤◌, ◌↔◌, IfSome, IsSome};
     ghost use Rattle.grid_base.specs.Spots.{IsSpot};
     ghost use Rattle.grid_graph.specs.Flat.{tile_of};
     ghost use Rattle.steiner_tables.specs.Masks.{rooted_masks};
-    ghost use Rattle.dijkstra_steiner.specs.Stacks.{on_stack, mask_of};
+    ghost use Rattle.dijkstra_steiner.specs.Stacks.{HasStack, on_stack, mask_of};
 
-    /// The stack of a flat grid; `None` where that has several layers, or a grid can't have so many vertices.
+    /// The stack of a flat grid; `None` where that has several layers, or where no grid has so many vertices.
     pub(crate) fn of(flat: Size) -> Option<Stack>
-        ensures { IfSome result (λ x. x.flat ≡ flat) }
+        ensures flat { IfSome result (λ x. x.flat ≡ flat) }
+        ensures some { IsSome result ↔ HasStack flat }
     {
         if flat.layers() != 1 {
             return None;
@@ -72,7 +74,7 @@ impl Stack {
     }
 
     /// The vertex of the flat grid under one of the stack.
-    pub(crate) fn ground(self, at: Spot) -> Spot
+    pub(crate) fn under(self, at: Spot) -> Spot
         requires { IsSpot self.size at }
         ensures spot { IsSpot self.flat result }
         ensures vertex { result.vertex.0 ≡ tile_of self.size at.vertex.0 }

@@ -2,7 +2,7 @@
 
 ghost use Rattle.std.specs.Prelude.{◌<◌, length};
 
-use dijkstra_steiner::SetLabels;
+use dijkstra_steiner::MaskLabels;
 use grid_base::{NoMemory, Size, Vertex};
 use std::alloc::Global;
 
@@ -23,33 +23,42 @@ impl KeptCost {
     };
 }
 
-/// Least costs of a few tiles, each at a place that the tiles tell, and labels for the searches that find them. A later cost takes
-/// the place of an earlier one.
+/// Least costs of a few tiles, each at a place that the tiles tell, and labels for searches that find them. A later cost takes the
+/// place of an earlier one.
 #[derive(Drop)]
 pub struct KeptCosts {
     entries: Vec<KeptCost>,
     puts: u32,
-    pub(crate) labels: Option<SetLabels>,
+    pub(crate) labels: Option<MaskLabels>,
     ghost some: { 0 < length entries.items },
 }
 
 impl KeptCosts {
-    ghost use Rattle.std.specs.Prelude.{ℕ, List, IfOk, IfSome};
+    ghost use Rattle.std.specs.Prelude.{◌≡◌, ℕ, List, IfSome};
     ghost use Rattle.grid_base.specs.declared.piece.Piece.{Piece};
     ghost use Rattle.grid_base.specs.declared.size.Size.{Size};
     ghost use Rattle.grid_base.specs.Walks.{InVertices};
     ghost use Rattle.label_search.specs.Sets.{IsLeastWeight};
     ghost use Rattle.least_weights.specs.KeptCosts.{AreKeptCosts};
 
-    /// Nothing is kept yet. Where the flat grid is of this size, its searches have labels.
-    pub fn new(alloc: Global, flat: Size) -> Result<KeptCosts, NoMemory> {
+    /// Nothing is kept yet.
+    pub fn new(alloc: Global) -> Result<KeptCosts, NoMemory> {
         let entries = vec![in alloc; KeptCost::NONE; ENTRIES]?;
-        let labels = SetLabels::new(alloc, flat)?;
         Ok(KeptCosts {
             entries,
             puts: 0,
-            labels,
+            labels: None,
         })
+    }
+
+    /// Has labels from now on for searches over masks in a flat grid of this size, unless it has too many tiles or there is no memory
+    /// for them: tables serve as well.
+    pub fn label_masks(&mut self, alloc: Global, flat: Size)
+        ensures { self.new.entries ≡ self.old.entries }
+    {
+        if self.labels.is_none() {
+            self.labels = MaskLabels::new(alloc, flat).unwrap_or(None);
+        }
     }
 
     /// Keeps nothing any more.

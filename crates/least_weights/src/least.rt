@@ -9,7 +9,7 @@ ghost use Rattle.steiner_tables.specs.Masks.{rooted_masks, few_terminals};
 ghost use Rattle.label_search.specs.Sets.{IsLeastWeight};
 ghost use Rattle.landmarks.specs.Numbers.{AreLandmarks};
 
-use dijkstra_steiner::{SetLabels, least_by_sets};
+use dijkstra_steiner::{MaskLabels, least_over_masks};
 use grid_base::Vertex;
 use grid_graph::{FlooredWeights, Weights};
 use landmarks::{LandmarkFamily, Landmarks};
@@ -40,13 +40,13 @@ pub fn least_weight<W: FlooredWeights>(
     least_by(weights, &family, terminals, labels)
 }
 
-/// The same of two to five terminals, led by landmarks. Of more than two it is found by one search over their sets, where there are
-/// labels for that of a grid of this size; else, as for a grid of very many tiles, by a table.
+/// The same of two to five terminals, led by landmarks. Of more than two it is found by one search over their masks where there are
+/// labels for that, of this size, and else by a table.
 pub(crate) fn least_by_landmarks<W: FlooredWeights>(
     weights: &W,
     landmarks: &Landmarks,
     terminals: &[Vertex],
-    sets: &mut Option<SetLabels>,
+    masks: &mut Option<MaskLabels>,
     labels: &mut Labels,
 ) -> u64
     requires labels { labels_size labels.old ≡ W.size weights.now }
@@ -61,9 +61,9 @@ pub(crate) fn least_by_landmarks<W: FlooredWeights>(
     ensures masks { masks_of labels.new ≡ masks_of labels.old }
 {
     let led = LandmarkFamily::new(weights, labels.size(), terminals, landmarks);
-    match sets {
-        Some(sets) if terminals.len() > 2 && sets.size() == labels.size() => {
-            least_by_sets(weights, &led, terminals, sets)
+    match masks {
+        Some(masks) if terminals.len() > 2 && masks.size() == labels.size() => {
+            least_over_masks(weights, &led, terminals, masks)
         }
         _ => least_by(weights, &led, terminals, labels),
     }

@@ -58,7 +58,7 @@ impl ClassCosts<'_> {
         self.least_cost(alloc, terminals, labels)
     }
 
-    /// Takes the landmarks of the class once so many searches were made for its nets that they pay.
+    /// Takes the landmarks of the class, and labels for searches over masks, once so many searches were made for its nets that they pay.
     fn lead(&mut self, labels: &mut Labels)
         requires current { IsCurrentClass self.old }
         requires labels { labels_size labels.old ≡ tiles_size self.old }
@@ -70,6 +70,8 @@ impl ClassCosts<'_> {
     {
         if !self.is_led && self.kept.puts() >= self.costs.size().vertices() / TILES_PER_SEARCH {
             self.landmarks.renew(&self.costs, labels);
+            self.kept
+                .label_masks(labels.allocator(), self.costs.size());
             self.is_led = true;
         }
     }

@@ -54,7 +54,7 @@ impl<'a> ClassCosts<'a> {
     {
         let mut costs = TileCosts::new(alloc, grid.size())?;
         let mut representatives = Representatives::new(alloc, costs.size())?;
-        let mut kept = KeptCosts::new(alloc, costs.size())?;
+        let mut kept = KeptCosts::new(alloc)?;
         let mut landmarks = Landmarks::new(alloc, costs.size())?;
         let costing = Costing::new(grid, width, ground, prices);
         costs.renew(&costing, grid.size());

@@ -11,7 +11,7 @@ use crate::distance_tests::mixed;
 use crate::listed::Listed;
 use crate::piece_sets::{are_pieces, are_vertices};
 use crate::reference_weights::reference_least_weight;
-use dijkstra_steiner::{SetLabels, least_by_sets};
+use dijkstra_steiner::{MaskLabels, least_over_masks};
 use grid_base::{NoMemory, Size, Vertex};
 use shortest_paths::Labels;
 use std::alloc::Global;
@@ -90,7 +90,7 @@ fn sets_agree(
     Ok(reference_least_weight(alloc, size, pieces, terminals)? == expected)
 }
 
-/// Whether one search over the sets of the terminals finds this weight, where the grid is flat.
+/// Whether one search over the masks of the terminals finds this weight, where the grid is flat.
 fn search_agrees(
     alloc: Global,
     weights: &Listed,
@@ -104,12 +104,12 @@ fn search_agrees(
     requires few { length terminals.now ≤ few_terminals }
     requires joined { Joins size (IsAllowed weights.now.pieces.items) (InVertices terminals.now) }
 {
-    match SetLabels::new(alloc, size)? {
+    match MaskLabels::new(alloc, size)? {
         Some(mut labels) => {
             let family = BoxFamily::new(weights, size, terminals);
-            Ok(least_by_sets(weights, &family, terminals, &mut labels) == expected)
+            Ok(least_over_masks(weights, &family, terminals, &mut labels) == expected)
         }
-        None => Ok(true),
+        None => Ok(size.layers() > 1),
     }
 }
 

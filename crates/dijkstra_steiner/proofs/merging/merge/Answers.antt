@@ -5,9 +5,9 @@ use Rattle.steiner_tables.specs.Masks.{AreParts}
 use Rattle.steiner_tables.specs.Tables.{HasTree}
 use Rattle.steiner_tables.proofs.Trees.{has_union}
 use Rattle.dijkstra_steiner.specs.Stacks.{on_stack}
-use Rattle.dijkstra_steiner.specs.SetSearches.{set_number}
-use Rattle.dijkstra_steiner.proofs.SetOffers.{Proceeds-refl, Proceeds-trans, offered_proceeds, offered_sets, number_at}
-use Rattle.dijkstra_steiner.proofs.SetOffers.{merged_none, merged_more, sum_offered}
+use Rattle.dijkstra_steiner.specs.MaskSearches.{mask_number}
+use Rattle.dijkstra_steiner.proofs.MaskOffers.{Proceeds-refl, Proceeds-trans, offered_proceeds, offered_masks, number_at}
+use Rattle.dijkstra_steiner.proofs.MaskOffers.{merged_none, merged_more, sum_offered}
 use Rattle.dijkstra_steiner.proofs.merging.merge.Goals as goal
 use Rattle.dijkstra_steiner.proofs.merging.merge.Goals.{then-is_part+then-beside-lt-FAR, then-is_part+else-beside-lt-FAR}
 use Rattle.dijkstra_steiner.proofs.merging.merge.Goals.{else-is_part}
@@ -15,7 +15,7 @@ use Rattle.dijkstra_steiner.proofs.merging.merge.Goals.{else-is_part}
 pub loop-both-init : goal.loop-both-init
 loop-both-init g c = record {
   search = c.requires.search;
-  sets = λ pieces root is. is;
+  masks = λ pieces root is. is;
   proceeds = Proceeds-refl c.args.row.now;
   merged = merged_none c.args.rest.now.stack.flat c.args.row.now c.number-number.result c.args.mask c.args.at.vertex.0;
 }
@@ -48,17 +48,17 @@ loop-both-preserved g c =
           let on = offered_proceeds old new to (number + beside) after.taken in
           rw w.row-is (record {
             search = after.search;
-            sets = λ pieces root is.
+            masks = λ pieces root is.
                 let one : HasTree flat pieces terminals mask at number = subst (HasTree flat pieces terminals mask at) (sym here)
                 (is.trees mask at c.requires.some c.requires.mask c.requires.at.vertex c.requires.here) in
                 let two : HasTree flat pieces terminals other at beside =
                 subst (HasTree flat pieces terminals other at) (sym there)
-                ((before.sets pieces root is).trees other at parts.others (omega (arith, c.loop-both-test.true))
+                ((before.masks pieces root is).trees other at parts.others (omega (arith, c.loop-both-test.true))
                 c.requires.at.vertex (omega (arith, there, w.if-beside-lt-FAR.true))) in
-                offered_sets stack.size flat pieces terminals low c.args.last root both at to (number + beside) old new stack.is
+                offered_masks stack.size flat pieces terminals low c.args.last root both at to (number + beside) old new stack.is
                 (before.proceeds.found.size ∙ c.requires.size) (omega (arith, c.loop-both.auto.both))
                 (omega (arith, c.loop-both-test.true)) c.requires.last c.requires.at.vertex at_to after.taken after.search
-                (has_union flat pieces terminals mask other both at number beside parts one two) (before.sets pieces root is);
+                (has_union flat pieces terminals mask other both at number beside parts one two) (before.masks pieces root is);
             proceeds = Proceeds-trans initial old new before.proceeds on;
             merged = merged_more flat old new number mask at both on before.merged
                 (λ is still. sum_offered flat old new number other beside both at to on there at_to after.free still);
@@ -66,10 +66,10 @@ loop-both-preserved g c =
       | then-is_part+else-beside-lt-FAR w ↦
           let there = number_at flat old w.number-beside.result other at w.spot-then-is_part.result.vertex.0
           w.number-beside.ensures.number w.spot-then-is_part.ensures.vertex in
-          let limit : set_number flat old both at ≤ far = old.parts.limits _ in
+          let limit : mask_number flat old both at ≤ far = old.parts.limits _ in
           rw w.row-is (record {
             search = before.search;
-            sets = before.sets;
+            masks = before.masks;
             proceeds = before.proceeds;
             merged = merged_more flat old old number mask at both (Proceeds-refl old) before.merged
                 (λ is still. omega (arith, there, limit, w.if-beside-lt-FAR.false));
@@ -77,7 +77,7 @@ loop-both-preserved g c =
       | else-is_part w ↦
           rw w.row-is (record {
             search = before.search;
-            sets = before.sets;
+            masks = before.masks;
             proceeds = before.proceeds;
             merged = merged_more flat old old number mask at both (Proceeds-refl old) before.merged
                 (λ is still. let yes : IsTrue false = w.if-is_part.ensures.1 is in cc);

@@ -10,7 +10,7 @@ use Rattle.label_search.specs.Runs.{IsSearch}
 use Rattle.label_search.specs.Stamped.{max_key}
 use Rattle.steiner_tables.specs.Masks.{single}
 use Rattle.dijkstra_steiner.specs.Stacks.{on_stack, rest_on}
-use Rattle.dijkstra_steiner.proofs.Starting.{none_seeded, seed_number, seeded_more, seeded_sets, seeded_started, seed_room}
+use Rattle.dijkstra_steiner.proofs.Starting.{none_seeded, seed_number, seeded_more, seeded_masks, seeded_started, seed_room}
 use Rattle.dijkstra_steiner.proofs.search.start.Goals as goal
 
 none : Vertex
@@ -67,11 +67,11 @@ loop-place-preserved g c =
           (after.free (omega arith)) before.seeded;
     }
 
-pub returns-clause-sets : goal.returns-clause-sets
-returns-clause-sets g c = λ pieces root.
+pub returns-clause-masks : goal.returns-clause-masks
+returns-clause-masks g c = λ pieces root.
     let stack = c.args.rest.now.stack in
     let begun = c.loop-place.invariant in
-    seeded_sets stack.size stack.flat pieces c.args.terminals.now
+    seeded_masks stack.size stack.flat pieces c.args.terminals.now
     (g.F.Family.low c.args.rest.now.family.now) c.loop-place.place root c.loop-place.row stack.is begun.size c.requires.few
     c.requires.vertices begun.search begun.seeded
 

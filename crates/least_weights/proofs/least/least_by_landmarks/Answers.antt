@@ -15,8 +15,8 @@ pub new-led-requires-clause-landmarks : goal.new-led-requires-clause-landmarks
 new-led-requires-clause-landmarks g c =
     subst (λ (x : Size). AreLandmarks x (g.W.Weights.pieces c.args.weights.now) c.args.landmarks.now) (sym (c.size.ensures ∙ c.requires.labels)) c.requires.landmarks
 
-pub least_by_sets-requires-clause-labels : goal.least_by_sets-requires-clause-labels
-least_by_sets-requires-clause-labels g c =
+pub least_over_masks-requires-clause-labels : goal.least_over_masks-requires-clause-labels
+least_over_masks-requires-clause-labels g c =
     let one = c.size-then-terminals-gt2.result in
     let other = c.size-then-terminals-gt2-2.result in
     let all = and_parts (eqb one.cols other.cols) _ (sym c.eq.ensures ∙ c.if-eq.true) in

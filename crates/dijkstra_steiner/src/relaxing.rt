@@ -1,4 +1,4 @@
-//! Steps from a set at a vertex to its neighbours.
+//! Steps from a mask at a vertex to its neighbours.
 
 ghost use Rattle.std.specs.Prelude.{◌≡◌, ◌<◌, ◌≤◌, ◌+◌, ℕ};
 ghost use Rattle.grid_base.specs.declared.piece.Piece.{Piece};
@@ -10,7 +10,7 @@ ghost use Rattle.label_search.specs.Runs.{IsSearch};
 ghost use Rattle.label_search.specs.Stamped.{far, max_key};
 ghost use Rattle.steiner_tables.specs.Masks.{rooted_masks};
 ghost use Rattle.dijkstra_steiner.specs.Stacks.{rest_on};
-ghost use Rattle.dijkstra_steiner.specs.SetSearches.{IsSetSearch, Proceeds, set_number};
+ghost use Rattle.dijkstra_steiner.specs.MaskSearches.{IsMaskSearch, Proceeds, mask_number};
 
 use crate::limits::NO_LIMIT;
 use crate::rest_on_stack::RestOnStack;
@@ -20,7 +20,7 @@ use label_search::{Row, offer};
 use steiner_tables::Family;
 
 /// Offers each neighbour of a vertex the number that a mask gets from there.
-pub(crate) fn spread<W: Weights, F: Family>(
+pub(crate) fn relax<W: Weights, F: Family>(
     row: &mut Row,
     weights: &W,
     rest: &RestOnStack<'_, F>,
@@ -34,15 +34,15 @@ pub(crate) fn spread<W: Weights, F: Family>(
     requires mask { mask ≤ last }
     requires last { last ≤ rooted_masks }
     requires at { IsSpot rest.now.stack.flat at }
-    requires here { set_number rest.now.stack.flat row.old mask at.vertex.0 < far }
+    requires here { mask_number rest.now.stack.flat row.old mask at.vertex.0 < far }
     requires search { IsSearch (rest_on rest.now.stack.size (F.terminals rest.now.family.now) (F.low rest.now.family.now)) max_key row.old }
     ensures search { IsSearch (rest_on rest.now.stack.size (F.terminals rest.now.family.now) (F.low rest.now.family.now)) max_key row.new }
-    ensures sets { (root : ℕ)
-        → IsSetSearch rest.now.stack.flat (W.pieces weights.now) (F.terminals rest.now.family.now) (F.low rest.now.family.now) last root row.old
-        → IsSetSearch rest.now.stack.flat (W.pieces weights.now) (F.terminals rest.now.family.now) (F.low rest.now.family.now) last root row.new }
+    ensures masks { (goal : ℕ)
+        → IsMaskSearch rest.now.stack.flat (W.pieces weights.now) (F.terminals rest.now.family.now) (F.low rest.now.family.now) last goal row.old
+        → IsMaskSearch rest.now.stack.flat (W.pieces weights.now) (F.terminals rest.now.family.now) (F.low rest.now.family.now) last goal row.new }
     ensures proceeds { Proceeds row.old row.new }
-    ensures spread { (p : Piece) (k u : ℕ) → Weighs (W.pieces weights.now) p k → Connects (W.size weights.now) p at.vertex.0 u
-        → set_number rest.now.stack.flat row.new mask u ≤ set_number rest.now.stack.flat row.old mask at.vertex.0 + k }
+    ensures relaxed { (p : Piece) (k u : ℕ) → Weighs (W.pieces weights.now) p k → Connects (W.size weights.now) p at.vertex.0 u
+        → mask_number rest.now.stack.flat row.new mask u ≤ mask_number rest.now.stack.flat row.old mask at.vertex.0 + k }
 {
     let stack = rest.stack;
     let number = row.number(stack.spot(mask, at).vertex);
