@@ -5,16 +5,16 @@ use Rattle.grid_base.specs.declared.piece.Piece.{Piece}
 use Rattle.grid_base.specs.declared.size.Size.{Size}
 use Rattle.grid_base.specs.declared.vertex.Vertex.{Vertex}
 use Rattle.grid_base.specs.Lists.{At}
-use Rattle.grid_base.specs.Numbers.{IsVertex, Connects}
+use Rattle.grid_base.specs.Numbers.{IsVertex}
 use Rattle.grid_base.specs.Walks.{Joins, InVertices}
 use Rattle.grid_base.proofs.Pieces.{connects_back, end_vertex}
 use Rattle.grid_base.proofs.Walks.{walk_vertices}
-use Rattle.grid_graph.specs.Weighed.{Weighs, IsAllowed, NoPieceTwice, AreWithinLimit}
+use Rattle.grid_graph.specs.Weighed.{IsAllowed, NoPieceTwice, AreWithinLimit}
 use Rattle.label_search.specs.Sets.{IsSetOf, IsLeastWeight, weight}
 use Rattle.label_search.specs.Stamped.{far}
 use Rattle.label_search.proofs.Forests.{light_part}
-use Rattle.steiner_tables.specs.Masks.{single, all_of, all_but_root, AreParts}
-use Rattle.steiner_tables.specs.Tables.{IsHoldingTable, IsFamily, HasTree, rest_of}
+use Rattle.steiner_tables.specs.Masks.{all_of, all_but_root}
+use Rattle.steiner_tables.specs.Tables.{IsHoldingTable, rest_of}
 use Rattle.steiner_tables.proofs.Masks.{parts_rest, parts_sum, parts_turned}
 use Rattle.steiner_tables.proofs.Roots.{root_mask, root_none, terminal_of_root, joins_terminals}
 use Rattle.steiner_tables.proofs.Tables.{holds_for_sets}

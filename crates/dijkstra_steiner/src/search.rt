@@ -14,10 +14,10 @@ ghost use Rattle.dijkstra_steiner.specs.MaskSearches.{IsMaskSearch, AreStarted, 
 ghost use Rattle.grid_base.specs.declared.piece.Piece.{Piece};
 
 use crate::limits::NO_LIMIT;
-use crate::merging::merge;
-use crate::rest_on_stack::RestOnStack;
 use crate::mask_labels::MaskLabels;
+use crate::merging::merge;
 use crate::relaxing::relax;
+use crate::rest_on_stack::RestOnStack;
 use grid_base::{Spot, Vertex};
 use grid_graph::Weights;
 use label_search::{Row, offer};

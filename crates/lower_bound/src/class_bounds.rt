@@ -70,8 +70,7 @@ impl ClassCosts<'_> {
     {
         if !self.is_led && self.kept.puts() >= self.costs.size().vertices() / TILES_PER_SEARCH {
             self.landmarks.renew(&self.costs, labels);
-            self.kept
-                .label_masks(labels.allocator(), self.costs.size());
+            self.kept.label_masks(labels.allocator(), self.costs.size());
             self.is_led = true;
         }
     }
