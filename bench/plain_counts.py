@@ -36,6 +36,7 @@ ADDED = (
     ('price_workers/reading', r'fn read_all\([^)]*\)\s*\{\n', 'let _timed = std::tally::reading(table.table.shared.words());'),
     ('routing_passes/workers', r'if last - first == 1 \{\n', 'let _timed = std::tally::part(first);'),
     ('label_search/search', r'fn advance<[^{]*\{\n', 'std::tally::taken(core::any::type_name::<B>());'),
+    ('dijkstra_steiner/search', r'(?=let from = row\.take\(\);)', 'std::tally::taken("masks at tiles");'),
     ('shortest_paths/nearest', r'(?=let at = row\.take\(\);)', 'std::tally::taken("nearest terminal");'),
     ('shortest_paths/led_search', r'(?=Some\(self\.row\.take\(\)\))', 'std::tally::taken("led search, step by step");'),
 )

@@ -43,6 +43,7 @@ NAMED = {
     'lower_bound/spread': ['choose'],
     'least_weights/least': ['least_by_landmarks', 'distance_by'],
     'landmarks/landmarks': ['renew'],
+    'dijkstra_steiner/search': ['least_over_masks'],
     'judge_cli/judged_files': ['read_blocks', 'read_certificate'],
     'route_judge/routes': ['measure_routes'],
     'dual_bound/class_order': ['nets_by_class'],
