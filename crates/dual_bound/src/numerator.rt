@@ -16,7 +16,7 @@ use std::alloc::Global;
 use std::thread::Threads;
 
 /// The nets are divided in at most so many parts.
-const MAX_PARTS: u32 = 8;
+const MAX_PARTS: u32 = 6;
 
 /// In how many parts the nets are divided, each of which has labels for so many vertices.
 fn part_count(vertices: u32) -> usize
