@@ -21,7 +21,7 @@ max_wirelength_cost = 2 ^ 57
 
 -- in so many parts the nets are divided at most
 abbrev pub max_parts : ℕ
-max_parts = 6
+max_parts = 8
 
 -- the greatest overflow that a price list shows: each net pays the greatest price for a demand on fewer edges than there are vertices
 abbrev pub max_least_overflow : ℕ

@@ -6,7 +6,7 @@ ghost use Rattle.std.specs.List.{sum};
 use crate::bound_labels::BoundLabels;
 use crate::class_order::{ClassedNet, nets_by_class};
 use crate::priced::Priced;
-use grid_base::{MAX_VERTICES, NoMemory, Size};
+use grid_base::{NoMemory, Size};
 use lower_bound::ClassCosts;
 use shortest_paths::Labels;
 use std::alloc::Global;
@@ -26,7 +26,7 @@ pub fn total_of(numbers: &[u64]) -> u128
 }
 
 impl Priced<'_> {
-    ghost use Rattle.std.specs.Prelude.{◌≡◌, ◌+◌, ◌*◌, ◌≤◌, ◌<◌, All, length, IfOk};
+    ghost use Rattle.std.specs.Prelude.{◌≡◌, ◌+◌, ◌≤◌, ◌<◌, All, length, IfOk};
     ghost use Rattle.std.specs.List.{slice_range};
     ghost use Rattle.grid_base.specs.Limits.{max_vertices};
     ghost use Rattle.grid_base.specs.Lists.{At};
@@ -134,21 +134,16 @@ impl Priced<'_> {
         Ok(total_of(bounds.as_slice()))
     }
 
-    /// Of how many vertices the labels of a part are at most: of a grid's, or of tiles and those of a stack of these, a layer for each
-    /// mask, where a grid may have so many.
+    /// Of how many vertices the labels of a part are.
     pub fn labelled(&self) -> u32
         ensures some { 1 ≤ result }
-        ensures most { result ≤ 2 * max_vertices }
+        ensures most { result ≤ max_vertices }
     {
         let size = self.design.grid.size();
         if self.per_piece() > 0 {
-            return size.vertices();
-        }
-        let tiles = size.cols() * size.rows();
-        if tiles <= MAX_VERTICES / ROOTED_MASKS {
-            tiles + tiles * ROOTED_MASKS
+            size.vertices()
         } else {
-            tiles
+            size.cols() * size.rows()
         }
     }
 }

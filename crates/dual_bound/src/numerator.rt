@@ -1,6 +1,6 @@
 //! The sum of the net bounds of a design.
 
-ghost use Rattle.std.specs.Prelude.{◌*◌, ◌≤◌, ◌<◌, IfOk};
+ghost use Rattle.std.specs.Prelude.{◌≤◌, ◌<◌, IfOk};
 ghost use Rattle.std.specs.List.{sum};
 ghost use Rattle.grid_base.specs.Limits.{max_vertices};
 ghost use Rattle.fractions.specs.Limits.{numerator_limit};
@@ -16,12 +16,12 @@ use std::alloc::Global;
 use std::thread::Threads;
 
 /// The nets are divided in at most so many parts.
-const MAX_PARTS: u32 = 6;
+const MAX_PARTS: u32 = 8;
 
 /// In how many parts the nets are divided, each of which has labels for so many vertices.
 fn part_count(vertices: u32) -> usize
     requires some { 1 ≤ vertices }
-    requires most { vertices ≤ 2 * max_vertices }
+    requires most { vertices ≤ max_vertices }
     ensures some { 1 ≤ result }
     ensures most { result ≤ max_parts }
 {

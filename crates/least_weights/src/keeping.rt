@@ -44,7 +44,7 @@ pub fn kept_least<W: FlooredWeights>(
     match kept.get(&key) {
         Some(cost) => cost,
         None => {
-            let cost = least_by_landmarks(weights, landmarks, tiles, &mut kept.labels, labels);
+            let cost = least_by_landmarks(weights, landmarks, tiles, labels);
             kept.put(key, cost);
             cost
         }

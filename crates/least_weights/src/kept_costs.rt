@@ -2,8 +2,7 @@
 
 ghost use Rattle.std.specs.Prelude.{◌<◌, length};
 
-use dijkstra_steiner::MaskLabels;
-use grid_base::{NoMemory, Size, Vertex};
+use grid_base::{NoMemory, Vertex};
 use std::alloc::Global;
 
 /// So many costs are kept.
@@ -23,18 +22,16 @@ impl KeptCost {
     };
 }
 
-/// Least costs of a few tiles, each at a place that the tiles tell, and labels for searches that find them. A later cost takes the
-/// place of an earlier one.
+/// Least costs of a few tiles, each at a place that the tiles tell. A later one takes the place of an earlier one.
 #[derive(Drop)]
 pub struct KeptCosts {
     entries: Vec<KeptCost>,
     puts: u32,
-    pub(crate) labels: Option<MaskLabels>,
     ghost some: { 0 < length entries.items },
 }
 
 impl KeptCosts {
-    ghost use Rattle.std.specs.Prelude.{◌≡◌, ℕ, List, IfSome};
+    ghost use Rattle.std.specs.Prelude.{ℕ, List, IfOk, IfSome};
     ghost use Rattle.grid_base.specs.declared.piece.Piece.{Piece};
     ghost use Rattle.grid_base.specs.declared.size.Size.{Size};
     ghost use Rattle.grid_base.specs.Walks.{InVertices};
@@ -43,22 +40,8 @@ impl KeptCosts {
 
     /// Nothing is kept yet.
     pub fn new(alloc: Global) -> Result<KeptCosts, NoMemory> {
-        let entries = vec![in alloc; KeptCost::NONE; ENTRIES]?;
-        Ok(KeptCosts {
-            entries,
-            puts: 0,
-            labels: None,
-        })
-    }
-
-    /// Has labels from now on for searches over masks in a flat grid of this size, unless it has too many tiles or there is no memory
-    /// for them: tables serve as well.
-    pub fn label_masks(&mut self, alloc: Global, flat: Size)
-        ensures { self.new.entries ≡ self.old.entries }
-    {
-        if self.labels.is_none() {
-            self.labels = MaskLabels::new(alloc, flat).unwrap_or(None);
-        }
+        let mut entries = vec![in alloc; KeptCost::NONE; ENTRIES]?;
+        Ok(KeptCosts { entries, puts: 0 })
     }
 
     /// Keeps nothing any more.

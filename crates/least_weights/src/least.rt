@@ -9,7 +9,6 @@ ghost use Rattle.steiner_tables.specs.Masks.{rooted_masks, few_terminals};
 ghost use Rattle.label_search.specs.Sets.{IsLeastWeight};
 ghost use Rattle.landmarks.specs.Numbers.{AreLandmarks};
 
-use dijkstra_steiner::{MaskLabels, least_over_masks};
 use grid_base::Vertex;
 use grid_graph::{FlooredWeights, Weights};
 use landmarks::{LandmarkFamily, Landmarks};
@@ -40,13 +39,11 @@ pub fn least_weight<W: FlooredWeights>(
     least_by(weights, &family, terminals, labels)
 }
 
-/// The same of two to five terminals, led by landmarks. Of more than two it is found by one search over their masks where there are
-/// labels for that, of this size, and else by a table.
+/// The same of two to five terminals, led by landmarks.
 pub(crate) fn least_by_landmarks<W: FlooredWeights>(
     weights: &W,
     landmarks: &Landmarks,
     terminals: &[Vertex],
-    masks: &mut Option<MaskLabels>,
     labels: &mut Labels,
 ) -> u64
     requires labels { labels_size labels.old ≡ W.size weights.now }
@@ -61,12 +58,7 @@ pub(crate) fn least_by_landmarks<W: FlooredWeights>(
     ensures masks { masks_of labels.new ≡ masks_of labels.old }
 {
     let led = LandmarkFamily::new(weights, labels.size(), terminals, landmarks);
-    match masks {
-        Some(masks) if terminals.len() > 2 && masks.size() == labels.size() => {
-            least_over_masks(weights, &led, terminals, masks)
-        }
-        _ => least_by(weights, &led, terminals, labels),
-    }
+    least_by(weights, &led, terminals, labels)
 }
 
 /// The same, led by a family. Of two terminals it is their distance. Of more the search begins under the weight of a tree.

@@ -12,7 +12,7 @@
 //! little or much. Where many searches are made at the same weights, landmarks lead them and least weights are kept
 //! (`kept_least`).
 //!
-//! It stands on `dijkstra_steiner` for searches over masks, on `steiner_exact` for tables under bounds, on `landmarks` for bounds of these, and on `shortest_paths` for
+//! It stands on `steiner_exact` for tables under bounds, on `landmarks` for bounds of these, and on `shortest_paths` for
 //! searches.
 //!
 //! Promised: each number is exactly the least weight of a set of allowed pieces that joins the vertices, or the distance to the

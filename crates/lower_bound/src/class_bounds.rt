@@ -17,9 +17,6 @@ use steiner_tables::FEW_TERMINALS;
 /// For so many tiles a search is made before landmarks are taken.
 const TILES_PER_SEARCH: u32 = 32;
 
-/// For so many tiles a search is made before there are labels for searches over masks.
-const TILES_PER_LABELLED_SEARCH: u32 = 4096;
-
 impl ClassCosts<'_> {
     ghost use Rattle.std.specs.Prelude.{◌≡◌, ◌<◌, ◌≤◌, All, IfOk, length};
     ghost use Rattle.grid_base.specs.Numbers.{IsVertex};
@@ -61,7 +58,7 @@ impl ClassCosts<'_> {
         self.least_cost(alloc, terminals, labels)
     }
 
-    /// Takes labels for searches over masks, and the landmarks of the class, once so many searches were made for its nets that they pay.
+    /// Takes the landmarks of the class once so many searches were made for its nets that they pay.
     fn lead(&mut self, labels: &mut Labels)
         requires current { IsCurrentClass self.old }
         requires labels { labels_size labels.old ≡ tiles_size self.old }
@@ -71,11 +68,7 @@ impl ClassCosts<'_> {
         ensures size { labels_size labels.new ≡ labels_size labels.old }
         ensures masks { masks_of labels.new ≡ masks_of labels.old }
     {
-        let (searches, size) = (self.kept.puts(), self.costs.size());
-        if searches >= size.vertices() / TILES_PER_LABELLED_SEARCH {
-            self.kept.label_masks(labels.allocator(), size);
-        }
-        if !self.is_led && searches >= size.vertices() / TILES_PER_SEARCH {
+        if !self.is_led && self.kept.puts() >= self.costs.size().vertices() / TILES_PER_SEARCH {
             self.landmarks.renew(&self.costs, labels);
             self.is_led = true;
         }
