@@ -91,7 +91,7 @@ pub(crate) fn runs_of(
     ensures no_wall { IfOk result (λ runs. (p : Piece) → Contains (pieces_of (size_of design.now.grid) runs.items) p → Allows design.now.grid WithChoked p) }
 {
     let segments = block.segments;
-    let mut runs = Vec::new(alloc);
+    let mut runs = Vec::with_capacity(alloc, segments.len())?;
     for i in 0..segments.len() {
         add_segment(design, walls, number, i as u32, segments[i], &mut runs)?;
     }

@@ -32,7 +32,7 @@ fn join_neighbours(alloc: Global, size: Size, sorted: &[Run]) -> Result<Vec<Run>
     requires sorted { IsNonDecreasingBy (run_number size) sorted.now }
     ensures { IfOk result (λ kept. AreMerged size sorted.now kept.items) }
 {
-    let mut kept = Vec::new(alloc);
+    let mut kept = Vec::with_capacity(alloc, sorted.len())?;
     let Some(first) = sorted.first() else {
         return Ok(kept);
     };

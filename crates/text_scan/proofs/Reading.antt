@@ -7,8 +7,7 @@ use Rattle.std.proofs.lemmas.Bool.{cases_lt, cases_eq}
 use Rattle.std.proofs.lemmas.List.Sums.{prefix_len_stops, prefix_len-le-length}
 use Rattle.text_scan.specs.Parts.{or_refuse}
 use Rattle.text_scan.specs.Tokens.{is_blank, Token, tokens_from, after_first_token, first_end, is_word, StandsWithin}
-use Rattle.std.specs.Char.{is_ascii_digit}
-use Rattle.text_scan.specs.Numbers.{sign_len, unsigned, is_number, number_front}
+use Rattle.text_scan.specs.Numbers.{is_number, number_front}
 use Rattle.text_scan.specs.Reading.{Reading, left, tokens_left, first_token, past_blanks, past_token, next_byte, past_number}
 use Rattle.text_scan.proofs.Tokens.{tokens_after_blanks, tokens_of_run, run_is_nonempty, tokens_stand_within}
 
@@ -130,12 +129,6 @@ tokens_past_token r = ⊎_elim
     run in_text = record { starts = refl; ends = refl; in_text = in_text }
 
 -- where reading a number leads
-pub number_leads : (r : Reading) (start end : ℕ) → start ≡ (past_blanks r).place → end ≤ length r.text →
-    let rest = drop start r.text in
-    end ≡ start + (sign_len rest + prefix_len is_ascii_digit (unsigned rest)) → is_number (number_front rest) ≡ true →
-    past_number r ≡ record { text = r.text; place = end }
-number_leads r start end from within to number =
-    let rest = drop start r.text in
-    let n = sign_len rest + prefix_len is_ascii_digit (unsigned rest) in
-    let long : length (take n rest) ≡ n = length-take-le n rest (omega (arith, length-drop start r.text)) in
-    rw (← from) (rw number (ap (λ p. record { text = r.text; place = p }) (omega arith)))
+pub number_leads : (r : Reading) (start end : ℕ) → start ≡ (past_blanks r).place → is_number (number_front (drop start r.text)) ≡ true →
+    end ≡ start + length (number_front (drop start r.text)) → past_number r ≡ record { text = r.text; place = end }
+number_leads r start end from number to = rw (← from) (rw number (ap (λ p. record { text = r.text; place = p }) (sym to)))

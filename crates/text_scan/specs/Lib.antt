@@ -6,3 +6,4 @@ pub mod Within
 pub mod Reading
 pub mod Moves
 pub mod Until
+pub mod Fronts

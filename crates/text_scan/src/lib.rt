@@ -18,9 +18,11 @@ mod laws;
 mod magnitude;
 mod number;
 mod number_fault;
+mod number_front;
 mod numeral;
 mod runs;
 mod scanner;
+mod short_digits;
 mod span;
 
 pub use laws::{printed_numbers_read_back, tokens_are_longest_runs};

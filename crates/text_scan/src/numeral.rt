@@ -1,6 +1,6 @@
 //! A number as bytes spell it.
 
-ghost use Rattle.std.specs.Prelude.{◌≡◌, ◌+◌, ◌≤◌, pos, neg_ℤ, length, drop, SomeIff, FitsSigned, if◌then◌else◌, IsTrue};
+ghost use Rattle.std.specs.Prelude.{◌≡◌, ◌+◌, ◌≤◌, pos, neg_ℤ, length, drop, ℤ, SomeIff, FitsSigned, if◌then◌else◌, IsTrue};
 ghost use Rattle.std.specs.Int.{w128};
 ghost use Rattle.std.specs.Char.{is_ascii_digit};
 ghost use Rattle.std.specs.List.{prefix_len};
@@ -31,11 +31,19 @@ pub fn is_number(bytes: &[u8]) -> bool
 }
 
 /// The value of a number whose first byte stands at `at`, where it is from `lo` to `hi`.
-pub fn value_within(bytes: &[u8], at: usize, lo: i128, hi: i128) -> Result<i128, NumberFault>
+fn value_within(bytes: &[u8], at: usize, lo: i128, hi: i128) -> Result<i128, NumberFault>
     requires { IsTrue (is_number bytes.now) }
     ensures { result ≡ (if is_within lo hi (value_of bytes.now) then Ok (value_of bytes.now) else Err (NumberFault.OutOfRange at)) }
 {
-    match signed(is_negative(bytes), magnitude(unsigned(bytes))) {
+    let value = signed(is_negative(bytes), magnitude(unsigned(bytes)));
+    in_range(value, at, lo, hi)
+}
+
+/// A value that 128 bits may hold, where it is from `lo` to `hi`.
+pub fn in_range(value: Option<i128>, at: usize, lo: i128, hi: i128) -> Result<i128, NumberFault>
+    ensures { (v : ℤ) → SomeIff value (FitsSigned w128 v) v → result ≡ (if is_within lo hi v then Ok v else Err (NumberFault.OutOfRange at)) }
+{
+    match value {
         Some(value) if lo <= value && value <= hi => Ok(value),
         _ => Err(NumberFault::OutOfRange { at }),
     }
@@ -54,7 +62,7 @@ pub fn number_end(bytes: &[u8], at: usize) -> usize
     digits_end(bytes, at + sign)
 }
 
-fn unsigned(bytes: &[u8]) -> &[u8]
+pub fn unsigned(bytes: &[u8]) -> &[u8]
     ensures { result.now ≡ unsigned bytes.now }
 {
     match bytes {
@@ -63,14 +71,14 @@ fn unsigned(bytes: &[u8]) -> &[u8]
     }
 }
 
-fn is_negative(bytes: &[u8]) -> bool
+pub fn is_negative(bytes: &[u8]) -> bool
     ensures { result ≡ is_negative bytes.now }
 {
     bytes.first() == Some(&b'-')
 }
 
 /// The number with this sign and magnitude, where 128 bits hold it.
-fn signed(negative: bool, magnitude: u128) -> Option<i128>
+pub fn signed(negative: bool, magnitude: u128) -> Option<i128>
     ensures { let value = (if negative then neg_ℤ (pos magnitude) else pos magnitude) in SomeIff result (FitsSigned w128 value) value }
 {
     if negative {

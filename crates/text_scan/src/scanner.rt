@@ -6,7 +6,8 @@ ghost use Rattle.text_scan.specs.Reading.{Reading, whole, tokens_left, first_num
 
 use crate::number::Number;
 use crate::number_fault::NumberFault;
-use crate::numeral::{is_number, number_end, number_in, value_within};
+use crate::number_front::number_front;
+use crate::numeral::{in_range, number_in};
 use crate::runs::{blanks_end, token_end};
 use crate::span::Span;
 use std::marker::Model;
@@ -141,12 +142,10 @@ impl<'a> Scanner<'a> {
         if start == self.bytes.len() {
             return Err(NumberFault::End { at: start });
         }
-        let end = number_end(self.bytes, start);
-        let front = &self.bytes[start..end];
-        if !is_number(front) {
+        let Some(front) = number_front(self.bytes, start) else {
             return Err(NumberFault::NotNumber { at: start });
-        }
-        self.at = end;
-        value_within(front, start, lo, hi)
+        };
+        self.at = front.end;
+        in_range(front.value, start, lo, hi)
     }
 }
