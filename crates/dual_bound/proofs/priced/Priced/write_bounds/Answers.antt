@@ -13,7 +13,7 @@ loop-net-preserved c =
     let from = c.args.from in
     let nets = c.args.nets.now in
     let i = c.loop-net.net-index in
-    let d : ClassedNet = record { with_choked = false; width = 0; place = 0 } in
+    let d : ClassedNet = record { with_choked = false; width = 0; band = 0; col = 0; place = 0 } in
     let net = get_or nets i d in
     let before = c.loop-net.invariant in
     let bounds = c.loop-net.bounds in
