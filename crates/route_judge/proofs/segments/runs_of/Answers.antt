@@ -6,7 +6,7 @@ use Rattle.route_judge.proofs.OnSegments.{IsOnSome, none_on, one_more_segment, a
 use Rattle.route_judge.proofs.segments.runs_of.Goals as goal
 
 pub loop-i-init : goal.loop-i-init
-loop-i-init c = rw c.new-runs.ensures.items (record { clear = refl; put = none_on c.args.design.now.grid [] })
+loop-i-init c = rw c.in_ok-runs.ensures.items (record { clear = refl; put = none_on c.args.design.now.grid [] })
 
 pub returns-in_err-add_segment-clause-stops : goal.returns-in_err-add_segment-clause-stops
 returns-in_err-add_segment-clause-stops c =

@@ -12,7 +12,7 @@ no_run = record { direction = East; first = record { 0 = 0 }; count = 0 }
 
 pub loop-i-init : goal.loop-i-init
 loop-i-init c =
-    subst (λ kept. IsMerging c.args.size c.args.sorted.now 1 kept c.in-Some.first.now) (sym c.new-kept.ensures.items)
+    subst (λ kept. IsMerging c.args.size c.args.sorted.now 1 kept c.in-Some.first.now) (sym c.in_ok-kept.ensures.items)
     (first_alone c.args.size c.args.sorted.now c.in-Some.first.now c.requires.runs c.in-Some.ensures.item.3.0 c.in-Some.ensures.item.1)
 
 pub loop-i-preserved : goal.loop-i-preserved
