@@ -8,14 +8,14 @@ use Rattle.overflow_bounds.proofs.lows.write_lows.Goals as goal
 pub bounds-lows-place : goal.bounds-lows-place
 bounds-lows-place c =
     let d = c.args.design.now in
-    let its = c.requires.places c.loop-net.net-index (record { with_choked = false; width = 0; place = 0 }) c.loop-net-test.true in
+    let its = c.requires.places c.loop-net.net-index (record { with_choked = false; width = 0; band = 0; col = 0; place = 0 }) c.loop-net-test.true in
     omega (arith, its.1, AllZip-length (IsAtMostEachRoute d.grid c.args.reused.now.class.prices.now None) d.nets c.loop-net.lows c.loop-net.invariant.low)
 
 pub loop-net-preserved : goal.loop-net-preserved
 loop-net-preserved c =
     let d = c.args.design.now in
     let prices = c.args.reused.now.class.prices.now in
-    let net = get_or c.args.nets.now c.loop-net.net-index (record { with_choked = false; width = 0; place = 0 }) in
+    let net = get_or c.args.nets.now c.loop-net.net-index (record { with_choked = false; width = 0; band = 0; col = 0; place = 0 }) in
     let before = c.loop-net.invariant in
     let low = c.in_ok-lows.field-0 in
     record {
