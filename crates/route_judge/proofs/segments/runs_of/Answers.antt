@@ -10,7 +10,7 @@ loop-i-init c = rw c.in_ok-runs.ensures.items (record { clear = refl; put = none
 
 pub returns-in_err-add_segment-clause-stops : goal.returns-in_err-add_segment-clause-stops
 returns-in_err-add_segment-clause-stops c =
-    let exit = err_from_is_err_and c.from_residual.result c.from_residual.ensures.1 in
+    let exit = err_from_is_err_and c.from_residual-in_err-add_segment.result c.from_residual-in_err-add_segment.ensures.1 in
     let segments = c.args.block.now.segments.now in
     let below : c.loop-i.i < length segments = c.loop-i-test.true in
     rw (exit.1, exit.2) (stops_numbered c.args.design.now (segment_objections c.args.number) segments _ c.loop-i.i _ c.in_err-add_segment.field-0.0 refl below c.loop-i.invariant.clear c.in_err-add_segment.ensures.stops)
