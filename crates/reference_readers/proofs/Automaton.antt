@@ -1,7 +1,7 @@
 -- An automaton that takes the front of a text keeps what the text reads as.
 use Rattle.std.proofs.Common.{◌≡◌, ℕ, ◌+◌, ◌<◌, ◌≤◌, ◌==◌, Bool, true, false, List, [], ◌∷◌, ◌++◌, length, drop, take, get_or}
 use Rattle.std.proofs.Common.{slice_range, Some, None, Result, Ok, Err, ℤ, pos, neg_ℤ, nat_abs, refl, sym, ap, ◌∙◌, ⊎_elim}
-use Rattle.std.proofs.Common.{arith, add-zero, add-one}
+use Rattle.std.proofs.Common.{arith, add-zero, add-one, length-drop, length-take-le}
 use Rattle.std.specs.Char.{is_ascii_digit}
 use Rattle.std.specs.List.{prefix_len, position_or_len}
 use Rattle.std.specs.Prelude.{slice_get, is_none}
@@ -245,6 +245,12 @@ module _ (text : List ℕ) (place : ℕ) (inside : place < length text) (other :
     front : number_front (drop place text) ≡ slice_range text place end
     front = ap (λ (n : ℕ). take n (drop place text)) (omega (arith, ends))
 
+    front_ends : end ≡ place + length (number_front (drop place text))
+    front_ends =
+        let rest = drop place text in
+        let n = sign_len rest + prefix_len is_ascii_digit (unsigned rest) in
+        omega (arith, ends, length-take-le n rest (omega (arith, within, ends, length-drop place text)))
+
     next_read : (lo hi : ℤ) → next_number lo hi (at text place)
         ≡ token_number lo hi (record { place = place; bytes = slice_range text place end })
     next_read lo hi =
@@ -259,8 +265,8 @@ module _ (text : List ℕ) (place : ℕ) (inside : place < length text) (other :
         let word = word_is_number (neg_ℤ (pos max_number)) (pos max_number) z place (slice_range text place end) is in
         ap (λ read. refused_as fault_place read >>= λ (number : ℤ). Ok (number, past_number (at text place)))
         (next_read (neg_ℤ (pos max_number)) (pos max_number) ∙ word.0)
-        ∙ ap (λ (after : Reading). Ok (z, after)) (number_leads (at text place) place end (sym place_here) within ends
-        (ap is_number front ∙ word.1))
+        ∙ ap (λ (after : Reading). Ok (z, after)) (number_leads (at text place) place end (sym place_here)
+        (ap is_number front ∙ word.1) front_ends)
 
     pub coordinate_refused : word_as_number (neg_ℤ (pos max_number)) (pos max_number) (slice_range text place end) ≡ None
         → coordinate_at (at text place) ≡ Err place
