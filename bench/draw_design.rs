@@ -5,7 +5,8 @@
 //!
 //! Net degrees, net lengths, blockages and capacities are like those of the contest's designs: most nets have two or three pins,
 //! lengths and large degrees fall off by a power, pins lie in clusters, and macros block the lower layers. `--easy` leaves room for
-//! all nets. `--hard` draws more crowded clusters, longer nets, and tiles that more nets have to leave than wires can.
+//! all nets up to the size `large`; `giant` and `newblue7` have too little of it at some tiles. `--hard` draws more crowded clusters,
+//! longer nets, and tiles that more nets have to leave than wires can.
 //! Sizes are `tiny` to `giant` and the names of the contest's sixteen designs, whose grids, layers and numbers of nets they have.
 
 use std::env;
