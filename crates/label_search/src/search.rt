@@ -18,6 +18,7 @@ use grid_graph::Weights;
 
 /// Offers a vertex a number. It is refused where the vertex has no greater one, or where it and what is still to go are
 /// above the limit.
+#[inline(always)]
 pub fn offer<B: Bound>(row: &mut Row, bound: &B, limit: u64, to: Spot, offered: u64)
     requires size { B.size bound.now ≡ size_in row.old }
     requires search { IsSearch (B.rest bound.now) limit row.old }

@@ -4,8 +4,7 @@ ghost use Rattle.std.specs.Prelude.{◌≡◌, ◌<◌, ◌≤◌, length, drop,
 ghost use Rattle.text_scan.specs.Fronts.{IsFrontOf};
 ghost use Rattle.text_scan.specs.Numbers.{is_number, number_front};
 
-use crate::magnitude::magnitude;
-use crate::numeral::{is_negative, is_number, number_end, signed, unsigned};
+use crate::numeral::{is_number, number_end, value_of};
 use crate::short_digits::short_digits;
 
 /// A number that a text goes on with, whatever stands behind it.
@@ -44,6 +43,8 @@ fn any_front(bytes: &[u8], at: usize) -> Option<NumberFront>
     if !is_number(front) {
         return None;
     }
-    let value = signed(is_negative(front), magnitude(unsigned(front)));
-    Some(NumberFront { end, value })
+    Some(NumberFront {
+        end,
+        value: value_of(front),
+    })
 }

@@ -35,8 +35,15 @@ fn value_within(bytes: &[u8], at: usize, lo: i128, hi: i128) -> Result<i128, Num
     requires { IsTrue (is_number bytes.now) }
     ensures { result ≡ (if is_within lo hi (value_of bytes.now) then Ok (value_of bytes.now) else Err (NumberFault.OutOfRange at)) }
 {
-    let value = signed(is_negative(bytes), magnitude(unsigned(bytes)));
-    in_range(value, at, lo, hi)
+    in_range(value_of(bytes), at, lo, hi)
+}
+
+/// The value of a number, where 128 bits hold it.
+pub fn value_of(bytes: &[u8]) -> Option<i128>
+    requires { IsTrue (is_number bytes.now) }
+    ensures { SomeIff result (FitsSigned w128 (value_of bytes.now)) (value_of bytes.now) }
+{
+    signed(is_negative(bytes), magnitude(unsigned(bytes)))
 }
 
 /// A value that 128 bits may hold, where it is from `lo` to `hi`.
@@ -62,7 +69,7 @@ pub fn number_end(bytes: &[u8], at: usize) -> usize
     digits_end(bytes, at + sign)
 }
 
-pub fn unsigned(bytes: &[u8]) -> &[u8]
+fn unsigned(bytes: &[u8]) -> &[u8]
     ensures { result.now ≡ unsigned bytes.now }
 {
     match bytes {
@@ -71,14 +78,14 @@ pub fn unsigned(bytes: &[u8]) -> &[u8]
     }
 }
 
-pub fn is_negative(bytes: &[u8]) -> bool
+fn is_negative(bytes: &[u8]) -> bool
     ensures { result ≡ is_negative bytes.now }
 {
     bytes.first() == Some(&b'-')
 }
 
 /// The number with this sign and magnitude, where 128 bits hold it.
-pub fn signed(negative: bool, magnitude: u128) -> Option<i128>
+fn signed(negative: bool, magnitude: u128) -> Option<i128>
     ensures { let value = (if negative then neg_ℤ (pos magnitude) else pos magnitude) in SomeIff result (FitsSigned w128 value) value }
 {
     if negative {
