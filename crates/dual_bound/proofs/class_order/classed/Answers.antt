@@ -1,9 +1,7 @@
-use Rattle.std.proofs.Common.{All, sym, subst, arith}
-use Rattle.grid_base.specs.Numbers.{IsVertex}
+use Rattle.std.proofs.Common.{arith}
 use Rattle.grid_graph.specs.declared.net_spec.NetSpec.{NetSpec}
-use Rattle.grid_graph.specs.Grids.{size_of}
 use Rattle.grid_graph.specs.Grounds.{IsGround}
-use Rattle.dual_bound.proofs.NetsOf.{AllZip-length, net_stands, net_vertices}
+use Rattle.dual_bound.proofs.NetsOf.{AllZip-length}
 use Rattle.dual_bound.proofs.class_order.classed.Goals as goal
 
 pub bounds-grounds-place : goal.bounds-grounds-place
