@@ -1,6 +1,6 @@
 //! Shares of one table of `load_table`, in one thread and in two.
 
-ghost use Rattle.std.specs.Prelude.{◌≡◌, ◌<◌, IfOk, replicate};
+ghost use Rattle.std.specs.Prelude.{◌≡◌, ◌<◌, ◌≤◌, IfOk, replicate};
 
 use load_table::{LoadTable, Share};
 use std::alloc::{AllocError, Global};
@@ -30,47 +30,64 @@ fn put(share: &mut Share, table: &LoadTable, word: u32, amount: u64)
     }
 }
 
+/// Where a run of loads begins to tell of changes, and where it ends.
+fn run(share: &mut Share, table: &LoadTable, first: u32, end: u32) -> (u32, u32)
+    requires table { share.old.table ≡ table.now }
+    requires words { (first < end) × (end ≤ table.now.words) }
+    ensures table { share.new.table ≡ share.old.table }
+{
+    let found = share.reload(table, first, end);
+    (found.since, found.next)
+}
+
 #[test]
-fn a_run_of_loads_ends_behind_a_word_that_changed(rt: HostRuntime) -> Result<(), Fail> {
-    let (table, mut share) = LoadTable::open(rt.alloc(), 5)?;
+fn a_run_of_loads_ends_behind_a_block_with_a_word_that_changed(
+    rt: HostRuntime,
+) -> Result<(), Fail> {
+    let (table, mut share) = LoadTable::open(rt.alloc(), 30)?;
     put(&mut share, &table, 2, 4_294_967_294);
-    put(&mut share, &table, 3, 4_294_967_295);
+    put(&mut share, &table, 12, 4_294_967_295);
     let first = (
-        share.reload(&table, 1, 5),
-        share.reload(&table, 3, 5),
-        share.reload(&table, 4, 5),
+        run(&mut share, &table, 0, 30),
+        run(&mut share, &table, 8, 30),
+        run(&mut share, &table, 16, 30),
     );
-    let same = share.reload(&table, 0, 4);
-    put(&mut share, &table, 3, 1);
-    let then = (share.reload(&table, 1, 5), share.reload(&table, 1, 5));
+    let same = (
+        run(&mut share, &table, 0, 8),
+        run(&mut share, &table, 1, 12),
+    );
+    put(&mut share, &table, 12, 1);
+    let then = (run(&mut share, &table, 5, 30), share.last_of(12));
     let found = (share.last_of(1), share.last_of(2), share.last_of(3));
-    let has = (share.share_of(2), share.share_of(3));
-    assert!(rt; (first, same, then) == ((3, 4, 5), 4, (4, 5)));
-    assert!(rt;
-        (found, has)
-            == (
-                (0, 4_294_967_294, 4_294_967_296),
-                (4_294_967_294, 4_294_967_296)
-            )
-    );
+    assert!(rt; (first, same) == (((0, 8), (8, 16), (24, 30)), ((8, 8), (9, 12))));
+    assert!(rt; (then, found) == (((5, 13), 4_294_967_296), (0, 4_294_967_294, 0)));
     Ok(())
 }
 
 #[test]
 fn what_was_found_last_may_be_above_32_bits_and_below_again(rt: HostRuntime) -> Result<(), Fail> {
-    let (table, mut share) = LoadTable::open(rt.alloc(), 5)?;
-    put(&mut share, &table, 3, 1 << 40);
-    let above = share.load(&table, 3);
-    put(&mut share, &table, 1, 1 << 33);
-    let before = (share.reload(&table, 0, 5), share.reload(&table, 2, 5));
-    let both = (share.last_of(1), share.last_of(3));
-    if share.share_of(3) >= 1 << 40 {
-        share.sub(&table, 3, (1 << 40) - 5);
+    let (table, mut share) = LoadTable::open(rt.alloc(), 20)?;
+    put(&mut share, &table, 13, 1 << 40);
+    let above = share.load(&table, 13);
+    put(&mut share, &table, 11, 1 << 33);
+    let before = (
+        run(&mut share, &table, 0, 20),
+        run(&mut share, &table, 0, 20),
+    );
+    let both = (share.last_of(11), share.last_of(13));
+    if share.share_of(13) >= 1 << 40 {
+        share.sub(&table, 13, (1 << 40) - 5);
     }
-    let again = (share.reload(&table, 0, 5), share.reload(&table, 0, 5));
-    let last = (share.last_of(0), share.last_of(1), share.last_of(3));
-    assert!(rt; (above, before, both) == (1 << 40, (2, 5), (1 << 33, 1 << 40)));
-    assert!(rt; (again, last) == ((4, 5), (0, 1 << 33, 5)));
+    if share.share_of(11) >= 1 << 33 {
+        share.sub(&table, 11, 1 << 33);
+    }
+    let again = (
+        run(&mut share, &table, 0, 20),
+        run(&mut share, &table, 0, 20),
+    );
+    let last = (share.last_of(0), share.last_of(11), share.last_of(13));
+    assert!(rt; (above, before, both) == (1 << 40, ((8, 16), (8, 16)), (1 << 33, 1 << 40)));
+    assert!(rt; (again, last) == (((8, 16), (16, 20)), (0, 0, 5)));
     Ok(())
 }
 

@@ -1,3 +1,4 @@
+pub mod Blocks
 pub mod HeldAfter
 pub mod KeptRule
 pub mod RunSteps

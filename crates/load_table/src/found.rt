@@ -1,11 +1,16 @@
 //! What was found last.
 
-ghost use Rattle.std.specs.Prelude.{◌≡◌, ◌<◌, ◌≤◌, ℕ, length, replicate, slice_index, slice_set, vec_capacity, IfOk};
+ghost use Rattle.std.specs.Prelude.{◌≡◌, ◌<◌, ◌≤◌, ◌+◌, ℕ, length, replicate, slice_index, slice_set, vec_capacity, true, IfOk};
+ghost use Rattle.load_core.specs.Parties.{whole_allotment};
+ghost use Rattle.load_table.specs.Blocks.{ArePut, block_len};
 ghost use Rattle.load_table.specs.Shortened.{HavePlaces, found_values};
 
 use grid_base::NoMemory;
 use std::alloc::Global;
 use std::marker::Model;
+
+/// So many words are compared before a jump.
+pub(crate) const BLOCK: usize = 8;
 
 /// What the last load of each word found. Contracts see the list of these values.
 ///
@@ -40,34 +45,46 @@ impl Found {
     }
 
     /// What was found last in a word.
-    pub(crate) fn at(&self, word: u32) -> u64
+    pub(crate) fn at(&self, word: usize) -> u64
         requires word { word < length self.now }
         ensures value { result ≡ slice_index self.now word }
     {
-        let (short, wide) = self.lists();
-        value_at(short, wide, word)
+        value_at(self.short.as_slice(), self.wide.as_slice(), word)
     }
 
     /// What was found last in a word becomes this value.
-    pub(crate) fn put(&mut self, word: u32, value: u64)
+    pub(crate) fn put(&mut self, word: usize, value: u64)
         requires word { word < length self.old }
         ensures value { self.new ≡ slice_set self.old word value }
     {
         if value < u64::from(u32::MAX) {
-            self.short[word as usize] = value as u32 + 1;
+            self.short[word] = value as u32 + 1;
             return;
         }
-        widen(&mut self.wide, word as usize + 1);
-        self.wide[word as usize] = value;
-        self.short[word as usize] = 0;
+        widen(&mut self.wide, word + 1);
+        self.wide[word] = value;
+        self.short[word] = 0;
     }
 
-    /// The short values, and those that are not short.
-    pub(crate) fn lists(&self) -> (&[u32], &[u64])
-        ensures values { found_values result.0.now result.1.now ≡ self.now }
-        ensures places { HavePlaces result.0.now result.1.now }
+    /// Whether these values are what was found last in the words of a block that begins here. It may say no where one of them is
+    /// not short.
+    #[inline(always)]
+    pub(crate) fn has_block(&self, first: u32, values: &[u64; BLOCK]) -> bool
+        requires block { first + block_len ≤ length self.now }
+        requires values { (k : ℕ) → slice_index values.now k ≤ whole_allotment }
+        ensures same { result ≡ true → (k : ℕ) → k < block_len → slice_index self.now (first + k) ≡ slice_index values.now k }
     {
-        (self.short.as_slice(), self.wide.as_slice())
+        stand_for(self.short.as_slice(), first as usize, values)
+    }
+
+    /// What was found last in the words of a block that begins here becomes these values.
+    pub(crate) fn put_block(&mut self, first: u32, values: &[u64; BLOCK])
+        requires block { first + block_len ≤ length self.old }
+        ensures put { ArePut first block_len values.now self.old self.new }
+    {
+        for k in 0..BLOCK {
+            self.put(first as usize + k, values[k]);
+        }
     }
 }
 
@@ -88,15 +105,29 @@ fn widen(wide: &mut Vec<u64>, words: usize)
 }
 
 /// The value of a word, by the short values and by those that are not short.
-pub(crate) fn value_at(short: &[u32], wide: &[u64], word: u32) -> u64
+fn value_at(short: &[u32], wide: &[u64], word: usize) -> u64
     requires places { HavePlaces short.now wide.now }
     requires word { word < length short.now }
     ensures value { result ≡ slice_index (found_values short.now wide.now) word }
 {
-    let stood = short[word as usize];
+    let stood = short[word];
     if stood == 0 {
-        wide[word as usize]
+        wide[word]
     } else {
         u64::from(stood) - 1
     }
+}
+
+/// Whether what stands for the values of a block that begins here stands for these. No jump depends on any of them.
+#[inline(always)]
+fn stand_for(short: &[u32], first: usize, values: &[u64; BLOCK]) -> bool
+    requires block { first + block_len ≤ length short.now }
+    requires values { (k : ℕ) → slice_index values.now k ≤ whole_allotment }
+    ensures each { result ≡ true → (k : ℕ) → k < block_len → slice_index short.now (first + k) ≡ slice_index values.now k + 1 }
+{
+    let mut same = true;
+    for k in 0..BLOCK {
+        same &= u64::from(short[first + k]) == values[k] + 1;
+    }
+    same
 }

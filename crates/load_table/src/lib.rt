@@ -30,5 +30,5 @@ mod table;
 
 pub use laws::tables_are_sound_between_steps;
 pub use rule::Sums;
-pub use share::Share;
+pub use share::{Reloaded, Share};
 pub use table::LoadTable;

@@ -1,20 +1,31 @@
 //! A share of a table.
 
-ghost use Rattle.std.specs.Prelude.{◌≡◌, ◌≢◌, ◌<◌, ◌≤◌, ◌+◌, ◌-◌, ℕ, [], replicate, slice_index, true, IfOk, OnErr};
+ghost use Rattle.std.specs.Prelude.{◌≡◌, ◌<◌, ◌≤◌, ◌+◌, ◌⊎◌, ℕ, [], replicate, slice_index, true, IfOk, OnErr};
 ghost use Rattle.load_core.specs.Events.{MayAdd, MayLoad, MaySub};
 ghost use Rattle.load_core.specs.Parties.{IsPart, added, first_party, joined, kept_after_split, loaded, share_at, split_off, taken, whole_allotment};
 ghost use Rattle.load_core.specs.Soundness.{IsCloseTo};
+ghost use Rattle.load_table.specs.Blocks.{block_len};
 ghost use Rattle.load_table.specs.Holdings.{IsShare, held};
 ghost use Rattle.load_table.specs.Runs.{LoadsBetween};
 
-use crate::found::Found;
-use crate::reloading::load_while_same;
+use crate::found::{BLOCK, Found};
+use crate::reloading::load_block;
 use crate::table::LoadTable;
 use crate::{handing, steps};
 use atomic_table::Seat;
 use grid_base::NoMemory;
 use load_core::{Party, WHOLE_ALLOTMENT, lower, raise};
 use std::marker::Model;
+
+/// Which words a run of loads found. From `first` to `since` they are as they were found last, and from there to `next`, of which
+/// the last one loaded is the one before, they may be others.
+#[derive(Clone, Copy, Drop)]
+pub struct Reloaded {
+    /// The first word that may have been found other than it was last.
+    pub since: u32,
+    /// The word behind the last one loaded.
+    pub next: u32,
+}
 
 /// What one party has of the words of a table, what it may have of a word at most, and what it last found there. Contracts
 /// see the party of the core, with the history of all that it loaded; the history takes no memory. A share may be moved to
@@ -68,7 +79,7 @@ impl Share {
         ensures last { result ≡ slice_index self.now.party.last word }
         ensures share { IsShare self.now }
     {
-        self.last.at(word)
+        self.last.at(word as usize)
     }
 
     /// The most that this share may have of a word.
@@ -116,34 +127,79 @@ impl Share {
         ensures share { IsShare self.new }
     {
         let found = steps::load(&table.table.shared, &mut self.seat, word as usize);
-        self.last.put(word, found);
+        self.last.put(word as usize, found);
         found
     }
 
-    /// Loads words one after another, each as `load` does: from `first` on, until one is found other than it was last, which is
-    /// the last one loaded, or until `end`, which isn't loaded. Answers the number behind the last one loaded.
-    pub fn reload(&mut self, table: &LoadTable, first: u32, end: u32) -> u32
+    /// Loads words one after another, each as `load` does: from `first` on, through the first block of eight in which one is
+    /// found other than it was last, or up to `end`, which isn't loaded.
+    pub fn reload(&mut self, table: &LoadTable, first: u32, end: u32) -> Reloaded
         requires table { self.old.table ≡ table.now }
         requires some { first < end }
         requires words { end ≤ table.now.words }
-        ensures next { (first < result) × (result ≤ end) }
-        ensures lawful { (w : ℕ) → first ≤ w → w < result → MayLoad table.now.words self.old.party w }
-        ensures read { LoadsBetween first result self.old.party self.new.party }
-        ensures whole { (w : ℕ) → first ≤ w → w < result → slice_index self.new.party.last w ≤ whole_allotment }
-        ensures others { (w : ℕ) → w + 1 ≢ result → slice_index self.new.party.last w ≡ slice_index self.old.party.last w }
-        ensures changed { result < end → slice_index self.new.party.last (result - 1) ≢ slice_index self.old.party.last (result - 1) }
+        ensures next { (first < result.next) × (result.next ≤ end) }
+        ensures since { (first ≤ result.since) × (result.since ≤ result.next) }
+        ensures few { result.next ≤ result.since + block_len }
+        ensures far { (first + block_len ≤ result.next) ⊎ (result.next ≡ end) }
+        ensures lawful { (w : ℕ) → first ≤ w → w < result.next → MayLoad table.now.words self.old.party w }
+        ensures read { LoadsBetween first result.next self.old.party self.new.party }
+        ensures whole { (w : ℕ) → first ≤ w → w < result.next → slice_index self.new.party.last w ≤ whole_allotment }
+        ensures before { (w : ℕ) → w < result.since → slice_index self.new.party.last w ≡ slice_index self.old.party.last w }
+        ensures behind { (w : ℕ) → result.next ≤ w → slice_index self.new.party.last w ≡ slice_index self.old.party.last w }
         ensures table { self.new.table ≡ self.old.table }
         ensures share { IsShare self.new }
     {
-        let (next, found) = load_while_same(
-            &table.table.shared,
-            &mut self.seat,
-            &self.last,
-            first,
-            end,
-        );
-        self.last.put(next - 1, found);
-        next
+        let mut word = first;
+        while end - word >= BLOCK as u32 {
+            let next = word + BLOCK as u32;
+            if !self.reload_block(table, word) {
+                return Reloaded { since: word, next };
+            }
+            word = next;
+        }
+        if word < end {
+            self.load_each(table, word, end);
+        }
+        Reloaded {
+            since: word,
+            next: end,
+        }
+    }
+
+    /// Loads the words of a block that begins here, and answers whether all are known to be as they were found last.
+    #[inline(always)]
+    fn reload_block(&mut self, table: &LoadTable, first: u32) -> bool
+        requires table { self.old.table ≡ table.now }
+        requires words { first + block_len ≤ table.now.words }
+        ensures read { LoadsBetween first (first + block_len) self.old.party self.new.party }
+        ensures whole { (w : ℕ) → first ≤ w → w < first + block_len → slice_index self.new.party.last w ≤ whole_allotment }
+        ensures behind { (w : ℕ) → first + block_len ≤ w → slice_index self.new.party.last w ≡ slice_index self.old.party.last w }
+        ensures same { result ≡ true → self.new.party.last ≡ self.old.party.last }
+        ensures table { self.new.table ≡ self.old.table }
+        ensures share { IsShare self.new }
+    {
+        let found = load_block(&table.table.shared, &mut self.seat, first);
+        let same = self.last.has_block(first, &found);
+        if !same {
+            self.last.put_block(first, &found);
+        }
+        same
+    }
+
+    /// Loads words one after another.
+    fn load_each(&mut self, table: &LoadTable, first: u32, end: u32)
+        requires table { self.old.table ≡ table.now }
+        requires some { first < end }
+        requires words { end ≤ table.now.words }
+        ensures read { LoadsBetween first end self.old.party self.new.party }
+        ensures whole { (w : ℕ) → first ≤ w → w < end → slice_index self.new.party.last w ≤ whole_allotment }
+        ensures behind { (w : ℕ) → end ≤ w → slice_index self.new.party.last w ≡ slice_index self.old.party.last w }
+        ensures table { self.new.table ≡ self.old.table }
+        ensures share { IsShare self.new }
+    {
+        for word in first..end {
+            self.load(table, word);
+        }
     }
 
     /// Splits off a new share with this allotment and these amounts, one per word: the core's Split. Its cost is linear in

@@ -58,8 +58,8 @@ fn load_all(share: &mut Share, kept: &mut KeptPrices<'_>, table: &LoadTable, wor
     }
 }
 
-/// Loads words from this one on, through the first that isn't as it was found last, and answers the next one. The kept load of
-/// the last one loaded becomes what was found.
+/// Loads words from this one on, through the first few of which one isn't as it was found last, and answers the next one. The
+/// kept loads of these few become what was found.
 fn load_some(
     share: &mut Share,
     kept: &mut KeptPrices<'_>,
@@ -79,9 +79,9 @@ fn load_some(
     ensures valid { IsShare share.new }
     ensures setting { KeepsSetting kept.old kept.new }
 {
-    let next = share.reload(table, first, words);
-    settle(kept, next - 1, share.last_of(next - 1));
-    next
+    let found = share.reload(table, first, words);
+    settle_each(share, kept, found.since, found.next);
+    found.next
 }
 
 /// The kept loads of these words become what was found last: where nothing is marked they are.
@@ -121,7 +121,7 @@ fn settle_run(share: &Share, kept: &mut KeptPrices<'_>, changes: &Changes, first
 
 /// The kept loads of these words become what was found last.
 fn settle_each(share: &Share, kept: &mut KeptPrices<'_>, first: u32, end: u32)
-    requires some { first < end }
+    requires order { first ≤ end }
     requires words { end ≤ share.now.table.words }
     requires entries { end ≤ entries (grid_of kept.old) }
     requires limit { (e : ℕ) → first ≤ e → e < end → slice_index share.now.party.last e ≤ max_load }

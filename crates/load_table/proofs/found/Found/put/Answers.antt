@@ -2,6 +2,9 @@ use Rattle.std.proofs.Common.{◌<◌, ◌+◌, ℕ, List, length, slice_set, �
 use Rattle.load_table.proofs.ShortValues.{inside-short, put-short, put-wide}
 use Rattle.load_table.proofs.found.Found.put.Goals as goal
 
+pub overflow_add-word : goal.overflow_add-word
+overflow_add-word c = omega (arith, inside-short _ _ c.self.view_is c.requires.word, c.self.inside.short.ok.0, c.self.inside.short.ok.1)
+
 pub index_mut-requires : goal.index_mut-requires
 index_mut-requires c = omega (arith, inside-short _ _ c.self.view_is c.requires.word, c.self.inside.short.ok.0)
 
