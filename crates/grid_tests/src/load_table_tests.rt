@@ -70,6 +70,7 @@ fn what_was_found_last_may_be_above_32_bits_and_below_again(rt: HostRuntime) -> 
     put(&mut share, &table, 13, 1 << 40);
     let above = share.load(&table, 13);
     put(&mut share, &table, 11, 1 << 33);
+    // a long value counts as one that changed
     let before = (
         run(&mut share, &table, 0, 20),
         run(&mut share, &table, 0, 20),

@@ -9,7 +9,7 @@ use grid_base::NoMemory;
 use std::alloc::Global;
 use std::marker::Model;
 
-/// So many words are compared before a jump.
+/// So many words are loaded and compared at once.
 pub(crate) const BLOCK: usize = 8;
 
 /// What the last load of each word found. Contracts see the list of these values.
@@ -66,8 +66,8 @@ impl Found {
         self.short[word] = 0;
     }
 
-    /// Whether these values are what was found last in the words of a block that begins here. It may say no where one of them is
-    /// not short.
+    /// Whether these values are what was found last in the words of a block that begins here. A yes is sure. It says no wherever
+    /// a value, old or new, doesn't fit 32 bits.
     #[inline(always)]
     pub(crate) fn has_block(&self, first: u32, values: &[u64; BLOCK]) -> bool
         requires block { first + block_len ≤ length self.now }
@@ -118,7 +118,7 @@ fn value_at(short: &[u32], wide: &[u64], word: usize) -> u64
     }
 }
 
-/// Whether what stands for the values of a block that begins here stands for these. No jump depends on any of them.
+/// Whether the short values of a block that begins here stand for these, compared without a jump for each.
 #[inline(always)]
 fn stand_for(short: &[u32], first: usize, values: &[u64; BLOCK]) -> bool
     requires block { first + block_len ≤ length short.now }

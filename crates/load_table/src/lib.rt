@@ -22,6 +22,7 @@
 mod found;
 mod handing;
 mod laws;
+mod reloaded;
 mod reloading;
 mod rule;
 mod share;
@@ -29,6 +30,7 @@ mod steps;
 mod table;
 
 pub use laws::tables_are_sound_between_steps;
+pub use reloaded::Reloaded;
 pub use rule::Sums;
-pub use share::{Reloaded, Share};
+pub use share::Share;
 pub use table::LoadTable;

@@ -9,6 +9,7 @@ ghost use Rattle.load_table.specs.Holdings.{IsShare, held};
 ghost use Rattle.load_table.specs.Runs.{LoadsBetween};
 
 use crate::found::{BLOCK, Found};
+use crate::reloaded::Reloaded;
 use crate::reloading::load_block;
 use crate::table::LoadTable;
 use crate::{handing, steps};
@@ -16,16 +17,6 @@ use atomic_table::Seat;
 use grid_base::NoMemory;
 use load_core::{Party, WHOLE_ALLOTMENT, lower, raise};
 use std::marker::Model;
-
-/// Which words a run of loads found. From `first` to `since` they are as they were found last, and from there to `next`, of which
-/// the last one loaded is the one before, they may be others.
-#[derive(Clone, Copy, Drop)]
-pub struct Reloaded {
-    /// The first word that may have been found other than it was last.
-    pub since: u32,
-    /// The word behind the last one loaded.
-    pub next: u32,
-}
 
 /// What one party has of the words of a table, what it may have of a word at most, and what it last found there. Contracts
 /// see the party of the core, with the history of all that it loaded; the history takes no memory. A share may be moved to
@@ -131,8 +122,8 @@ impl Share {
         found
     }
 
-    /// Loads words one after another, each as `load` does: from `first` on, through the first block of eight in which one is
-    /// found other than it was last, or up to `end`, which isn't loaded.
+    /// Loads words one after another, each as `load` does: from `first` on, through the first block of eight that isn't known to
+    /// be as it was found last, or up to `end`, which isn't loaded.
     pub fn reload(&mut self, table: &LoadTable, first: u32, end: u32) -> Reloaded
         requires table { self.old.table ≡ table.now }
         requires some { first < end }
@@ -186,7 +177,7 @@ impl Share {
         same
     }
 
-    /// Loads words one after another.
+    /// Loads the words from `first` up to `end` one after another, each as `load` does.
     fn load_each(&mut self, table: &LoadTable, first: u32, end: u32)
         requires table { self.old.table ≡ table.now }
         requires some { first < end }

@@ -16,8 +16,8 @@ use load_table::{LoadTable, Share};
 
 /// Loads every word of the table, in rising order of its number, so that the kept loads are what was found.
 ///
-/// Where no mark is set, the kept loads are what was found last. So a word there that is as it was, as most are, costs no look at
-/// what is kept.
+/// Where no mark is set, the kept loads are what was found last. So a block of words there that are all as they were, as most are,
+/// costs no look at what is kept.
 pub(crate) fn read_all(
     share: &mut Share,
     kept: &mut KeptPrices<'_>,
@@ -58,8 +58,8 @@ fn load_all(share: &mut Share, kept: &mut KeptPrices<'_>, table: &LoadTable, wor
     }
 }
 
-/// Loads words from this one on, through the first few of which one isn't as it was found last, and answers the next one. The
-/// kept loads of these few become what was found.
+/// Loads words from this one on, as `reload` does, and answers the next one. The kept loads of those that may have changed become
+/// what was found.
 fn load_some(
     share: &mut Share,
     kept: &mut KeptPrices<'_>,
